@@ -1,13 +1,14 @@
-// A library with one function.
+//! Owned data that contracts see as plain values: a list, a value, a text.
+//!
+//! `Vec`, `Box` and `String` carry pointers and capacities into a contract, so two of them that hold the same are not
+//! equal there. The types of this crate are seen as what they hold alone: a tree made of them can be compared with what
+//! a definition computes, and a copy equals what it copies.
 #![tactic(auto)]
 
-ghost use Rattle.std.specs.Prelude.{◌≡◌};
-ghost use Rattle.plain_data.specs.Echo.{echo_of};
+mod boxed;
+mod items;
+mod text;
 
-// The `ensures` clause is the contract: what `echo` returns is `echo_of` of its argument, a definition
-// in `specs/Echo.antt`, which a caller's clause can cite too.
-pub fn echo(x: usize) -> usize
-    ensures { result ≡ echo_of x }
-{
-    x
-}
+pub use boxed::Boxed;
+pub use items::Items;
+pub use text::Text;
