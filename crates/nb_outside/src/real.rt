@@ -1,0 +1,77 @@
+ghost use Rattle.std.specs.Prelude.{None};
+
+use crate::sink::{Sink, WriteEnd};
+use crate::source::{ReadEnd, Source};
+use std::io::{Read, Write};
+
+/// A source over any reader, as standard input. It doesn't tell what it has left.
+#[derive(Drop)]
+pub struct StdSource<R: Read + Drop> {
+    reader: R,
+    reads: u64,
+    faults: u64,
+}
+
+impl<R: Read + Drop> StdSource<R> {
+    /// A source that reads from this reader.
+    pub fn new(reader: R) -> StdSource<R> {
+        StdSource {
+            reader,
+            reads: 0,
+            faults: 0,
+        }
+    }
+}
+
+impl<R: Read + Drop> Source for StdSource<R> {
+    ghost faults = { λ source. source.faults };
+
+    ghost reads = { λ source. source.reads };
+
+    ghost left = { λ _. None };
+
+    fn read(&mut self, into: &mut [u8]) -> ReadEnd {
+        match self.reader.read(into) {
+            Ok(count) => {
+                if 0 < count {
+                    self.reads = self.reads.saturating_add(1);
+                }
+                ReadEnd::Bytes(count)
+            }
+            Err(_) => {
+                self.faults = self.faults.saturating_add(1);
+                ReadEnd::Failed
+            }
+        }
+    }
+}
+
+/// A sink over any writer, as standard output. It doesn't tell what was written.
+#[derive(Drop)]
+pub struct StdSink<W: Write + Drop> {
+    writer: W,
+    faults: u64,
+}
+
+impl<W: Write + Drop> StdSink<W> {
+    /// A sink that writes to this writer, and doesn't flush it.
+    pub fn new(writer: W) -> StdSink<W> {
+        StdSink { writer, faults: 0 }
+    }
+}
+
+impl<W: Write + Drop> Sink for StdSink<W> {
+    ghost faults = { λ sink. sink.faults };
+
+    ghost written = { λ _. None };
+
+    fn write(&mut self, bytes: &[u8]) -> WriteEnd {
+        match self.writer.write(bytes) {
+            Ok(count) if 0 < count || bytes.is_empty() => WriteEnd::Wrote(count),
+            _ => {
+                self.faults = self.faults.saturating_add(1);
+                WriteEnd::Failed
+            }
+        }
+    }
+}
