@@ -8,7 +8,9 @@
 mod boxed;
 mod items;
 mod text;
+mod text_map;
 
 pub use boxed::Boxed;
 pub use items::Items;
 pub use text::Text;
+pub use text_map::TextMap;

@@ -1,4 +1,4 @@
-ghost use Rattle.std.specs.Prelude.{◌≡◌, refl, IfOk, Some, nat_eq, string_bytes, length};
+ghost use Rattle.std.specs.Prelude.{◌≡◌, refl, ◌++◌, IfOk, OnOk, OnErr, Some, nat_eq, string_bytes, length};
 ghost use Rattle.std.specs.Ordering.{nat_cmp};
 ghost use Rattle.std.specs.Cmp.{partial_equiv_from_equiv};
 ghost use Rattle.std.specs.Cmp.Lexicographic.{pointwise, slice_cmp, nat_list_eq_equiv, nat_list_cmp_total, texts_po, texts_ties};
@@ -61,6 +61,14 @@ impl Text {
         ensures { result ≡ length self.now }
     {
         self.inner.len()
+    }
+
+    /// Adds characters at the end. After an error the text is unchanged.
+    pub fn push_str(&mut self, text: &str) -> Result<(), AllocError>
+        ensures ok { OnOk result (self.new ≡ self.old ++ text.now) }
+        ensures err { OnErr result (self.new ≡ self.old) }
+    {
+        self.inner.push_str(text)
     }
 
     /// An equal text.
