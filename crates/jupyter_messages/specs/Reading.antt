@@ -1,6 +1,6 @@
 -- Which JSON texts are built messages, and what they say. (Jupyter messaging protocol 5.3, in its JSON form.)
-use Rattle.std.specs.Prelude.{◌≡◌, ℕ, Bool, true, false, ◌&&◌, cond, nat_le, nat_eq, List, [], length, codes, Option, Some, None, option_map, is_some}
-use Rattle.std.specs.Str.{IsUtf8}
+use Rattle.std.specs.Prelude.{ℕ, Bool, true, false, ◌&&◌, cond, nat_le, nat_eq, List, [], length, codes, Option, Some, None, option_map, is_some}
+use Rattle.std.specs.Str.{is_utf8}
 use Rattle.std.specs.Int.{w128, from_be_bytes}
 use Rattle.std.specs.Cmp.Lexicographic.{pointwise}
 use Rattle.serde_json.specs.Data.{Data}
@@ -117,9 +117,6 @@ message_of d = do
   kind ← kind_of header.msg_type channel content
   Some (record { header = header; channel = channel; kernel = kernel; kind = kind })
 
--- the bytes are the UTF-8 of a JSON text that is this built message
-pub record IsMessage (bytes : List ℕ) (message : Message) : Type 0 where
-  pub utf8 : IsUtf8 bytes
-  pub value : Data
-  pub reads : read bytes ≡ Some value
-  pub says : message_of value ≡ Some message
+-- the built message that the bytes are: UTF-8, JSON, and the members as above
+unfoldable pub message_in : List ℕ → Option Message
+message_in bytes = cond (is_utf8 bytes) (read bytes >>= message_of) None

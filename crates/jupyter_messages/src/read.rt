@@ -1,7 +1,6 @@
-ghost use Rattle.std.specs.Prelude.{◌≡◌, IfOk};
+ghost use Rattle.std.specs.Prelude.{◌≡◌};
 ghost use Rattle.serde_json.specs.View.{view};
 ghost use Rattle.serde_json.specs.Find.{get};
-ghost use Rattle.jupyter_messages.specs.declared.message.Message.{Message};
 ghost use Rattle.jupyter_messages.specs.Outcomes.{Gives, GivesAs};
 ghost use Rattle.jupyter_messages.specs.Reading as spec;
 
@@ -248,12 +247,16 @@ fn message_of(alloc: Global, message: &Value) -> Result<Message, MessageFault>
 
 /// Reads one message. `NotBuilt` says that the bytes are no built message; `OutOfMemory` says nothing about them.
 pub fn read_message(alloc: Global, bytes: &[u8]) -> Result<Message, MessageFault>
-    ensures ok { IfOk result (λ message. spec.IsMessage bytes.now message) }
-    ensures not_built { result ≡ Err MessageFault.NotBuilt → (message : Message) → ¬ spec.IsMessage bytes.now message }
+    ensures { Gives result (spec.message_in bytes.now) }
 {
     match Value::from_slice(alloc, bytes) {
         Ok(value) => message_of(alloc, &value),
-        Err(error) if error.is_memory() => Err(MessageFault::OutOfMemory),
-        Err(_) => Err(MessageFault::NotBuilt),
+        Err(error) => {
+            if error.is_memory() {
+                Err(MessageFault::OutOfMemory)
+            } else {
+                Err(MessageFault::NotBuilt)
+            }
+        }
     }
 }
