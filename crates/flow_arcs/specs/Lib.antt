@@ -1,0 +1,3 @@
+pub mod Networks
+pub mod Sides
+pub mod Faults
