@@ -4,10 +4,7 @@ use Rattle.std.proofs.lemmas.Bool.{eq-eqb, ne_eqb}
 use Rattle.std.proofs.lemmas.List.{drop_more, drop_all}
 use Rattle.flow_model.specs.declared.Arc.{Arc}
 use Rattle.flow_model.specs.Flows.{given, taken, IsWithin}
-
--- what is read behind the end of a list of arcs
-abbrev pub no_arc : Arc
-no_arc = record { from = 0; to = 0; capacity = 0 }
+use Rattle.flow_arcs.specs.Ends.{no_arc}
 
 -- one arc more, that leaves the node or doesn't
 pub given_hit : (arcs : List Arc) (flow : List ℕ) (i node : ℕ) → i < length arcs → length flow ≡ length arcs → (get_or arcs i no_arc).from ≡ node

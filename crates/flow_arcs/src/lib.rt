@@ -5,9 +5,12 @@
 //! greater. `check_flow` says whether a flow is legal, and else its first fault.
 #![tactic(auto)]
 
+mod chains;
 mod check;
+mod ends;
 mod flow;
 mod network;
+mod search;
 
 pub use check::{FlowFault, check_flow};
 pub use flow::{Cut, Flow};

@@ -1,6 +1,6 @@
 use Rattle.std.proofs.Common.{◌≡◌, ℕ, ◌<◌, ◌≤◌, length, get_or}
 use Rattle.flow_model.specs.Flows.{given, taken, IsWithin}
-use Rattle.flow_arcs.proofs.Sums.{no_arc}
+use Rattle.flow_arcs.specs.Ends.{no_arc}
 use Rattle.flow_arcs.proofs.check.check_flow.Given as goal
 
 abbrev pub invariant-loop-i : goal.invariant-loop-i
