@@ -1,4 +1,4 @@
-ghost use Rattle.std.specs.Prelude.{◌≡◌, ℕ, ◌+◌, ◌<◌, ◌≤◌, ◌^◌, Bool, length, IfOk, OnOk, slice_index};
+ghost use Rattle.std.specs.Prelude.{◌≡◌, ℕ, ◌+◌, ◌<◌, ◌≤◌, ◌^◌, true, false, length, IfOk, OnOk, slice_index};
 ghost use Rattle.flow_model.specs.Flows.{IsWithin};
 ghost use Rattle.flow_arcs.specs.Ends.{arc_at, near_end};
 ghost use Rattle.flow_arcs.specs.Chains.{IsChain};
@@ -87,4 +87,50 @@ fn spread_from(
         number = chain.next[number as usize - 1];
     }
     Ok(())
+}
+
+/// Searches from the source along arcs with room, nearest nodes first, until the sink is reached or nothing is left.
+pub fn search_room(
+    alloc: Global,
+    net: &Network,
+    on: &[u64],
+    leaving: &Chain,
+    entering: &Chain,
+) -> Result<Search, AllocError>
+    requires within { IsWithin net.now.arcs on.now }
+    requires leaving { IsChain true net.now.nodes net.now.arcs (length net.now.arcs) leaving.now.first.items leaving.now.next.items }
+    requires entering { IsChain false net.now.nodes net.now.arcs (length net.now.arcs) entering.now.first.items entering.now.next.items }
+    ensures search { IfOk result (λ search. IsSearch net.now.arcs on.now search.tree.items search.seen.items) }
+    ensures nodes { IfOk result (λ search. length search.seen.items ≡ net.now.nodes) }
+    ensures closed { IfOk result (λ search. slice_index search.seen.items 1 ≡ 0 → IsClosed net.now.arcs on.now search.seen.items) }
+{
+    let mut search = begin_search(alloc, net, on)?;
+    let arcs = net.arcs();
+    let mut done = 0usize;
+    while done < search.tree.len() && search.seen[1] == 0 {
+        spread_from(arcs, on, leaving, done, true, &mut search)?;
+        spread_from(arcs, on, entering, done, false, &mut search)?;
+        done += 1;
+    }
+    Ok(search)
+}
+
+/// The search that has reached the source alone.
+fn begin_search(alloc: Global, net: &Network, on: &[u64]) -> Result<Search, AllocError>
+    requires { IsWithin net.now.arcs on.now }
+    ensures search { IfOk result (λ search. IsSearch net.now.arcs on.now search.tree.items search.seen.items) }
+    ensures nodes { IfOk result (λ search. length search.seen.items ≡ net.now.nodes) }
+{
+    let _ = net.arcs();
+    let mut seen = vec![in alloc; 0usize; net.nodes() as usize]?;
+    seen[0] = 1;
+    let mut tree = Vec::new(alloc);
+    tree.push(Reached {
+        node: 0,
+        arc: 0,
+        back: 0,
+        leaving: true,
+        room: u64::MAX,
+    })?;
+    Ok(Search { tree, seen })
 }
