@@ -35,6 +35,7 @@ linked_more arcs on tree e k x l h =
       arrives = h.arrives;
       some = h.some;
       least = subst (λ (r : Reached). x.room ≤ r.room) (sym b) h.least;
+      capped = h.capped;
       fits = h.fits;
     }
 

@@ -1,5 +1,5 @@
 -- What a search from the source has reached along arcs with room.
-use Rattle.std.specs.Prelude.{◌≡◌, ℕ, zero, suc, ◌+◌, ◌<◌, ◌≤◌, Bool, false, cond, ◌==◌, List, [], ◌∷◌, length, slice_index, slice_index_or}
+use Rattle.std.specs.Prelude.{◌≡◌, ℕ, zero, suc, ◌+◌, ◌^◌, ◌<◌, ◌≤◌, Bool, false, cond, ◌==◌, List, [], ◌∷◌, length, slice_index, slice_index_or}
 use Rattle.flow_model.specs.declared.Arc.{Arc}
 use Rattle.flow_model.specs.Flows.{IsWithin}
 use Rattle.flow_arcs.specs.declared.search.Reached.{Reached}
@@ -17,6 +17,7 @@ pub record IsLinked (arcs : List Arc) (on : List ℕ) (tree : List Reached) (k :
   pub arrives : far_end entry.leaving (arc_at arcs entry.arc) ≡ entry.node
   pub some : 0 < entry.room
   pub least : entry.room ≤ (reached_at tree entry.back).room
+  pub capped : (arc_at arcs entry.arc).capacity < 2 ^ 64
   pub fits : entry.room ≤ spare_room entry.leaving (arc_at arcs entry.arc) (slice_index on entry.arc)
 
 -- how many entries are 0

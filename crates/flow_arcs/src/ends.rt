@@ -1,4 +1,4 @@
-ghost use Rattle.std.specs.Prelude.{◌≡◌, ◌≤◌};
+ghost use Rattle.std.specs.Prelude.{◌≡◌, ◌^◌, ◌<◌, ◌≤◌};
 ghost use Rattle.flow_arcs.specs.Ends.{near_end, far_end, spare_room};
 
 use flow_model::Arc;
@@ -20,11 +20,9 @@ pub fn far_end(arc: &Arc, leaving: bool) -> u32
 /// How much more may be pushed: what the capacity leaves, and back, what the arc carries.
 pub fn spare_room(arc: &Arc, carried: u64, leaving: bool) -> u64
     requires { carried ≤ arc.now.capacity }
-    ensures { result ≡ spare_room leaving arc.now carried }
+    ensures room { result ≡ spare_room leaving arc.now carried }
+    ensures capped { arc.now.capacity < 2 ^ 64 }
 {
-    if leaving {
-        arc.capacity - carried
-    } else {
-        carried
-    }
+    let left = arc.capacity - carried;
+    if leaving { left } else { carried }
 }

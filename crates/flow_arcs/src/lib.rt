@@ -10,8 +10,11 @@ mod check;
 mod ends;
 mod flow;
 mod network;
+mod push;
 mod search;
+mod solve;
 
 pub use check::{FlowFault, check_flow};
 pub use flow::{Cut, Flow};
 pub use network::Network;
+pub use solve::{max_flow, max_flow_with_cut};

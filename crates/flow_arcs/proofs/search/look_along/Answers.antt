@@ -36,6 +36,7 @@ returns-in_ok-push-clause-search c =
         arrives = sym c.far_end-node.ensures;
         some = omega arith;
         least = omega arith;
+        capped = c.spare_room-room.ensures.capped;
         fits = omega arith;
       })
       (let b : c.far_end-node.result < length seen = subst (λ n. n < length seen) (sym c.far_end-node.ensures) (c.requires.search.joined c.args.leaving c.args.number c.requires.number) in
