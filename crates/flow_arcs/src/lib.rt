@@ -18,3 +18,6 @@ pub use check::{FlowFault, check_flow};
 pub use flow::{Cut, Flow};
 pub use network::Network;
 pub use solve::{max_flow, max_flow_with_cut};
+
+#[cfg(test)]
+mod tests;

@@ -60,7 +60,7 @@ impl Network {
     /// How many nodes there are.
     pub fn nodes(&self) -> u32
         ensures value { result ≡ self.now.nodes }
-        ensures ends { 2 ≤ result }
+        ensures net { IsNet self.now }
     {
         self.nodes
     }

@@ -14,6 +14,7 @@ pub fn push_along(net: &Network, on: &mut [u64], search: &Search)
     ensures raised { value net.now on.old < value net.now on.new }
 {
     let arcs = net.arcs();
+    prove!(on.len() == arcs.len());
     let mut at = search.seen[1] - 1;
     let amount = search.tree[at].room;
     while at > 0 {

@@ -121,7 +121,6 @@ fn begin_search(alloc: Global, net: &Network, on: &[u64]) -> Result<Search, Allo
     ensures search { IfOk result (λ search. IsSearch net.now.arcs on.now search.tree.items search.seen.items) }
     ensures nodes { IfOk result (λ search. length search.seen.items ≡ net.now.nodes) }
 {
-    let _ = net.arcs();
     let mut seen = vec![in alloc; 0usize; net.nodes() as usize]?;
     seen[0] = 1;
     let mut tree = Vec::new(alloc);

@@ -16,7 +16,6 @@ pub fn max_flow(alloc: Global, net: &Network) -> Result<Flow, AllocError>
     ensures greatest { IfOk result (λ flow. IsGreatest net.now flow.on) }
 {
     let (flow, _) = max_flow_with_cut(alloc, net)?;
-    let _ = net.arcs();
     Ok(flow)
 }
 
@@ -24,6 +23,7 @@ pub fn max_flow(alloc: Global, net: &Network) -> Result<Flow, AllocError>
 pub fn max_flow_with_cut(alloc: Global, net: &Network) -> Result<(Flow, Cut), AllocError>
     ensures legal { IfOk result (λ both. IsLegal net.now both.0.on) }
     ensures cut { IfOk result (λ both. IsCut (side both.1.inside)) }
+    ensures greatest { IfOk result (λ both. IsGreatest net.now both.0.on) }
     ensures least { IfOk result (λ both. cut_capacity (side both.1.inside) net.now.arcs ≡ value net.now both.0.on) }
 {
     let arcs = net.arcs();

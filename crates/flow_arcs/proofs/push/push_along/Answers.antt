@@ -46,6 +46,9 @@ some_amount arcs old tree seen h r mark m last l =
     let w : mark - 1 < length tree = omega arith in
     subst (λ (x : Reached). 0 < x.room) (sym (get_or_read tree (mark - 1) last w l _)) (some_room arcs old tree seen (mark - 1) h w)
 
+pub prove-unreachable-requires : goal.prove-unreachable-requires
+prove-unreachable-requires c = let a = ap length c.arcs-arcs.ensures.value in let e = within_length c.args.net.now.arcs c.args.on.now c.requires.legal.within in omega arith
+
 pub bounds-on-number : goal.bounds-on-number
 bounds-on-number c =
     numbered c.args.net.now.arcs c.args.on.now c.loop-at.on c.args.search.now.tree.items c.args.search.now.seen.items c.loop-at.at c.index-2.result.now.room
