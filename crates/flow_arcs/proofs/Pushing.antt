@@ -1,12 +1,12 @@
 -- A push along a path, step by step from the sink back to the source.
-use Rattle.std.proofs.Common.{◌≡◌, ◌≢◌, ℕ, zero, suc, ◌+◌, ◌<◌, ◌≤◌, Bool, true, false, cond, ◌==◌, List, [], ◌∷◌, length, get_or, set, refl, sym, ap, ◌∙◌, subst, inl, inr, arith}
-use Rattle.std.proofs.lemmas.Bool.{ne_eqb, eq-eqb}
-use Rattle.std.proofs.lemmas.List.{get_or-set_same, get_or-set_other, length-set}
+use Rattle.std.proofs.Common.{◌≡◌, ◌≢◌, ℕ, zero, suc, ◌+◌, ◌<◌, ◌≤◌, Bool, true, false, cond, ◌==◌, List, [], ◌∷◌, length, get_or, set, refl, sym, ap, ◌∙◌, subst, arith}
+use Rattle.std.proofs.lemmas.Bool.{ne_eqb}
+use Rattle.std.proofs.lemmas.List.{get_or-set_other}
 use Rattle.flow_model.specs.declared.Arc.{Arc}
 use Rattle.flow_model.specs.Flows.{Net, IsNet, given, taken, IsWithin, IsLegal, value}
 use Rattle.flow_model.proofs.Cuts.{taken-source}
 use Rattle.flow_arcs.specs.declared.search.Reached.{Reached}
-use Rattle.flow_arcs.specs.Ends.{arc_at, no_arc, near_end, far_end, spare_room}
+use Rattle.flow_arcs.specs.Ends.{arc_at, near_end, far_end, spare_room}
 use Rattle.flow_arcs.specs.Searches.{reached_at, IsLinked, IsSearch}
 use Rattle.flow_arcs.proofs.Sums.{within_length, within_at}
 
@@ -58,14 +58,19 @@ apart arcs on tree seen j k h l m x y p q lj lk e = at x.leaving y.leaving lj.be
   where
     node_x : x.node ≡ (reached_at tree j).node
     node_x = ap (λ (r : Reached). r.node) p
+
     node_y : y.node ≡ (reached_at tree k).node
     node_y = ap (λ (r : Reached). r.node) q
+
     same_end : (f : Arc → ℕ) → f (arc_at arcs x.arc) ≡ f (arc_at arcs y.arc)
     same_end f = ap (λ n. f (arc_at arcs n)) e
+
     twice : x.node ≡ y.node → ⊥
     twice s = let o = one_place arcs on tree seen j k h (omega arith) m (sym node_x ∙ (s ∙ node_y)) in omega arith
+
     round : (reached_at tree x.back).node ≡ y.node → ⊥
     round s = let b = lj.earlier in let o = one_place arcs on tree seen x.back k h (omega arith) m (s ∙ node_y) in omega arith
+
     at : (v w : Bool) → near_end v (arc_at arcs x.arc) ≡ (reached_at tree x.back).node → far_end v (arc_at arcs x.arc) ≡ x.node → far_end w (arc_at arcs y.arc) ≡ y.node → ⊥
     at true true b a c = twice (sym a ∙ (same_end (λ r. r.to) ∙ c))
     at false false b a c = twice (sym a ∙ (same_end (λ r. r.from) ∙ c))
@@ -110,7 +115,7 @@ module _ (arcs : List Arc) (old on : List ℕ) (tree : List Reached) (seen : Lis
   pub room_up : (reached_at tree at).leaving ≡ true → get_or on (reached_at tree at).arc 0 + amount ≤ (arc_at arcs (reached_at tree at).arc).capacity
   room_up e =
       let f : (reached_at tree at).room ≤ spare_room true (arc_at arcs (reached_at tree at).arc) (get_or old (reached_at tree at).arc 0) =
-          subst (λ w. (reached_at tree at).room ≤ spare_room w (arc_at arcs (reached_at tree at).arc) (get_or old (reached_at tree at).arc 0)) e link.fits in
+      subst (λ w. (reached_at tree at).room ≤ spare_room w (arc_at arcs (reached_at tree at).arc) (get_or old (reached_at tree at).arc 0)) e link.fits in
       let s = same in
       let a = p.fits in
       let w = within_at arcs on (reached_at tree at).arc p.within link.numbered in
@@ -119,7 +124,7 @@ module _ (arcs : List Arc) (old on : List ℕ) (tree : List Reached) (seen : Lis
   pub room_down : (reached_at tree at).leaving ≡ false → amount ≤ get_or on (reached_at tree at).arc 0
   room_down e =
       let f : (reached_at tree at).room ≤ spare_room false (arc_at arcs (reached_at tree at).arc) (get_or old (reached_at tree at).arc 0) =
-          subst (λ w. (reached_at tree at).room ≤ spare_room w (arc_at arcs (reached_at tree at).arc) (get_or old (reached_at tree at).arc 0)) e link.fits in
+      subst (λ w. (reached_at tree at).room ≤ spare_room w (arc_at arcs (reached_at tree at).arc) (get_or old (reached_at tree at).arc 0)) e link.fits in
       let s = same in
       let a = p.fits in
       omega arith
@@ -137,7 +142,7 @@ module _ (arcs : List Arc) (old on : List ℕ) (tree : List Reached) (seen : Lis
         within = within_set arcs on i (x + amount) p.within link.numbered (room_up e);
         kept = kept_on (x + amount);
         moved = λ node ne. subst (λ n. given arcs (set on i (x + amount)) node + taken arcs old node ≡ (taken arcs (set on i (x + amount)) node + given arcs old node) + cond (n == node) amount 0) near
-          (step_up ((arc_at arcs i).from == node) ((arc_at arcs i).to == node) _ _ _ _ _ _ x amount
+            (step_up ((arc_at arcs i).from == node) ((arc_at arcs i).to == node) _ _ _ _ _ _ x amount
             (given_set arcs on i (x + amount) node link.numbered long)
             (taken_set arcs on i (x + amount) node link.numbered long)
             (subst (λ n. given arcs on node + taken arcs old node ≡ (taken arcs on node + given arcs old node) + cond (n == node) amount 0) (sym far) (p.moved node ne)));
@@ -156,7 +161,7 @@ module _ (arcs : List Arc) (old on : List ℕ) (tree : List Reached) (seen : Lis
         within = within_set arcs on i y p.within link.numbered (let w = within_at arcs on i p.within link.numbered in omega arith);
         kept = kept_on y;
         moved = λ node ne. subst (λ n. given arcs (set on i y) node + taken arcs old node ≡ (taken arcs (set on i y) node + given arcs old node) + cond (n == node) amount 0) near
-          (step_down ((arc_at arcs i).to == node) ((arc_at arcs i).from == node) _ _ _ _ _ _ x y amount z
+            (step_down ((arc_at arcs i).to == node) ((arc_at arcs i).from == node) _ _ _ _ _ _ x y amount z
             (given_set arcs on i y node link.numbered long)
             (taken_set arcs on i y node link.numbered long)
             (subst (λ n. given arcs on node + taken arcs old node ≡ (taken arcs on node + given arcs old node) + cond (n == node) amount 0) (sym far) (p.moved node ne)));
@@ -179,17 +184,18 @@ push_begins arcs on tree seen at amount h s a =
 -- the walk ends at the source
 pub push_ends : (net : Net) (old on : List ℕ) (tree : List Reached) (seen : List ℕ) (amount : ℕ) → IsNet net → IsLegal net old → IsSearch net.arcs old tree seen → 0 < amount → IsPushed net.arcs old on tree 0 amount
     → IsLegal net on × (value net old < value net on)
-push_ends net old on tree seen amount n l h a p =
-    ( record {
-        within = p.within;
-        balanced = λ node low high.
-          let m = p.moved node (λ e. omega arith) in
-          let b = l.balanced node low high in
-          let z : cond ((reached_at tree 0).node == node) amount 0 ≡ 0 = rw (h.root, ne_eqb 0 node (λ e. omega arith)) in
-          omega arith;
-      }
-    , (let m = p.moved 0 (λ e. omega arith) in
+push_ends net old on tree seen amount n l h a p = (
+  record {
+    within = p.within;
+    balanced = λ node low high.
+        let m = p.moved node (λ e. omega arith) in
+        let b = l.balanced node low high in
+        let z : cond ((reached_at tree 0).node == node) amount 0 ≡ 0 = rw (h.root, ne_eqb 0 node (λ e. omega arith)) in
+        omega arith;
+  },
+  (let m = p.moved 0 (λ e. omega arith) in
       let z : cond ((reached_at tree 0).node == 0) amount 0 ≡ amount = rw h.root in
       let s = taken-source net.nodes net.arcs old n.joined in
       let t = taken-source net.nodes net.arcs on n.joined in
-      omega arith) )
+      omega arith),
+)

@@ -1,13 +1,13 @@
 -- A search keeps its facts as it reaches one node more.
-use Rattle.std.proofs.Common.{◌≡◌, ◌≢◌, ℕ, zero, suc, pred, replicate, ◌+◌, ◌<◌, ◌≤◌, Bool, true, false, cond, ◌==◌, List, [], ◌∷◌, ◌++◌, length, get_or, set, refl, sym, ap, ◌∙◌, subst, ◌⊎◌, inl, inr, arith, zero-add}
+use Rattle.std.proofs.Common.{◌≡◌, ◌≢◌, ℕ, zero, suc, pred, replicate, ◌+◌, ◌<◌, ◌≤◌, Bool, true, false, List, [], ◌∷◌, ◌++◌, length, get_or, set, refl, sym, ap, ◌∙◌, subst, inl, inr, arith}
 use Rattle.std.proofs.lemmas.Bool.{cases_eq, cases_lt, eq-eqb, ne_eqb}
 use Rattle.std.proofs.lemmas.List.{get_or_append_left, get_or_push, get_or-set_same, get_or-set_other, get_or_past, length-set, length_push, length-replicate, get_or-replicate}
 use Rattle.std.specs.List.{AllByRecursion}
 use Rattle.flow_model.specs.declared.Arc.{Arc}
 use Rattle.flow_model.specs.Flows.{Net, Joins, IsNet, IsWithin}
 use Rattle.flow_arcs.specs.declared.search.Reached.{Reached}
-use Rattle.flow_arcs.specs.Ends.{arc_at, near_end, far_end, spare_room}
-use Rattle.flow_arcs.specs.Searches.{reached_at, IsLinked, zeros, IsSearch, Grows, IsShut, IsDone, IsClosed}
+use Rattle.flow_arcs.specs.Ends.{arc_at, near_end, far_end}
+use Rattle.flow_arcs.specs.Searches.{reached_at, IsLinked, zeros, IsSearch, Grows, IsDone, IsClosed}
 
 -- a place with a number that isn't 0 is within the list
 pub below_length : (xs : List ℕ) (i : ℕ) → 0 < get_or xs i 0 → i < length xs
@@ -56,27 +56,31 @@ module _ (arcs : List Arc) (on : List ℕ) (tree : List Reached) (seen : List �
 
   new_marked : (k : ℕ) → k < length tree + 1 → get_or (set seen e.node (length tree + 1)) (reached_at (tree ++ e ∷ []) k).node 0 ≡ k + 1
   new_marked k b = elim (cases_eq k (length tree)) [
-      inl q ↦ rw (at_new tree e k (sym q)) (new_mark ∙ ap (λ n. n + 1) (sym q))
+    | inl q ↦ rw (at_new tree e k (sym q)) (new_mark ∙ ap (λ n. n + 1) (sym q))
     | inr q ↦ (let s : k < length tree = omega arith in
-      let m = h.marked k s in
-      rw (at_old tree e k s) (old_mark (reached_at tree k).node (λ r. let z = ap (λ n. get_or seen n 0) r in omega arith) ∙ m)) ]
+        let m = h.marked k s in
+        rw (at_old tree e k s) (old_mark (reached_at tree k).node (λ r. let z = ap (λ n. get_or seen n 0) r in omega arith) ∙ m))
+  ]
 
   new_low : (node : ℕ) → get_or (set seen e.node (length tree + 1)) node 0 ≤ length tree + 1
   new_low node = elim (cases_eq node e.node) [
-      inl q ↦ rw (q, new_mark) (omega arith)
-    | inr q ↦ (let m = h.found_low node in rw (old_mark node q) (omega arith)) ]
+    | inl q ↦ rw (q, new_mark) (omega arith)
+    | inr q ↦ (let m = h.found_low node in rw (old_mark node q) (omega arith))
+  ]
 
   new_found : (node k : ℕ) → get_or (set seen e.node (length tree + 1)) node 0 ≡ k + 1 → (reached_at (tree ++ e ∷ []) k).node ≡ node
   new_found node k f = elim (cases_eq node e.node) [
-      inl q ↦ (let m = new_mark in let g = rw q at f in rw (at_new tree e k (omega arith)) (sym q))
+    | inl q ↦ (let m = new_mark in let g = rw q at f in rw (at_new tree e k (omega arith)) (sym q))
     | inr q ↦ (let g = old_mark node q in
-      let m = h.found_low node in
-      rw (at_old tree e k (omega arith)) (h.found node k (omega arith))) ]
+        let m = h.found_low node in
+        rw (at_old tree e k (omega arith)) (h.found node k (omega arith)))
+  ]
 
   new_linked : (k : ℕ) → 0 < k → k < length tree + 1 → IsLinked arcs on (tree ++ e ∷ []) k (reached_at (tree ++ e ∷ []) k)
   new_linked k p b = elim (cases_eq k (length tree)) [
-      inl q ↦ rw (at_new tree e k (sym q), q) (linked_more arcs on tree e (length tree) e (omega arith) l)
-    | inr q ↦ rw (at_old tree e k (omega arith)) (linked_more arcs on tree e k (reached_at tree k) (omega arith) (h.linked k p (omega arith))) ]
+    | inl q ↦ rw (at_new tree e k (sym q), q) (linked_more arcs on tree e (length tree) e (omega arith) l)
+    | inr q ↦ rw (at_old tree e k (omega arith)) (linked_more arcs on tree e k (reached_at tree k) (omega arith) (h.linked k p (omega arith)))
+  ]
 
   pub search_push : IsSearch arcs on (tree ++ e ∷ []) (set seen e.node (length tree + 1))
   search_push =
@@ -159,8 +163,9 @@ module _ (net : Net) (on : List ℕ) (r : Reached) (n : IsNet net) (w : IsWithin
         marked = λ k b. let z : k ≡ 0 = omega arith in rw (z, node) first_mark;
         found_low = λ v. elim (cases_eq v 0) [ inl q ↦ rw (q, first_mark) (omega arith) | inr q ↦ rw (other_mark v q) (omega arith) ];
         found = λ v k f. elim (cases_eq v 0) [
-            inl q ↦ (let g = rw (q, first_mark) at f in let z : k ≡ 0 = omega arith in rw (z, q) node)
-          | inr q ↦ absurd (let g = other_mark v q in omega arith) ];
+          | inl q ↦ (let g = rw (q, first_mark) at f in let z : k ≡ 0 = omega arith in rw (z, q) node)
+          | inr q ↦ absurd (let g = other_mark v q in omega arith)
+        ];
         linked = λ k p b. absurd (omega arith);
       }
 

@@ -1,13 +1,12 @@
 -- The flow that carries nothing, the bound on every value, and a closed search as a cut.
-use Rattle.std.proofs.Common.{◌≡◌, ◌≢◌, ℕ, zero, suc, ◌+◌, ◌-◌, ◌<◌, ◌≤◌, Bool, true, false, not, ◌&&◌, cond, ◌==◌, ltb, List, [], ◌∷◌, length, get_or, replicate, map, refl, sym, ap, ◌∙◌, subst, inl, inr, zero-add, arith}
+use Rattle.std.proofs.Common.{◌≡◌, ℕ, zero, suc, ◌+◌, ◌-◌, ◌<◌, ◌≤◌, Bool, true, false, not, ◌&&◌, cond, ◌==◌, ltb, List, [], ◌∷◌, length, get_or, replicate, map, refl, sym, ap, ◌∙◌, inl, inr, arith}
 use Rattle.std.proofs.lemmas.Bool.{cases_lt, lt-ltb, le-ltb, ltb-true, ltb-false}
-use Rattle.std.proofs.lemmas.Bool.Decides.{nat_tests}
 use Rattle.flow_model.specs.declared.Arc.{Arc}
 use Rattle.flow_model.specs.Flows.{Net, IsNet, given, taken, IsWithin, IsLegal, value, IsCut, cut_capacity, IsGreatest}
 use Rattle.flow_model.proofs.Cuts.{leaving, entering, leaving-entering, a_cut_bounds}
 use Rattle.flow_arcs.specs.declared.search.Reached.{Reached}
-use Rattle.flow_arcs.specs.Ends.{arc_at, no_arc, near_end, far_end, spare_room}
-use Rattle.flow_arcs.specs.Searches.{reached_at, IsSearch, IsShut, IsDone, IsClosed}
+use Rattle.flow_arcs.specs.Ends.{arc_at}
+use Rattle.flow_arcs.specs.Searches.{IsSearch, IsClosed}
 use Rattle.flow_arcs.specs.Sides.{side}
 use Rattle.flow_arcs.proofs.Sums.{within_length, within_at}
 
@@ -64,7 +63,7 @@ tight side [] flow l f g = refl
 tight side (arc ∷ arcs) [] l f g = absurd (omega arith)
 tight side (arc ∷ arcs) (x ∷ flow) l f g =
     tight_arc (side arc.from) (side arc.to) x arc.capacity _ _ _ (f 0 (omega arith)) (g 0 (omega arith))
-      (tight side arcs flow (omega arith) (λ a k. f (suc a) (omega arith)) (λ a k. g (suc a) (omega arith)))
+    (tight side arcs flow (omega arith) (λ a k. f (suc a) (omega arith)) (λ a k. g (suc a) (omega arith)))
 
 -- the nodes that were reached, as a list
 abbrev pub reached : List ℕ → List Bool
@@ -91,8 +90,10 @@ capacity_reached net on tree seen n l h s c =
   where
     inside : (node : ℕ) → side (reached seen) node ≡ true → 0 < get_or seen node 0
     inside node e = ltb-true 0 (get_or seen node 0) (sym (side_reached seen node) ∙ e)
+
     outside : (node : ℕ) → side (reached seen) node ≡ false → get_or seen node 0 ≡ 0
     outside node e = let z = ltb-false 0 (get_or seen node 0) (sym (side_reached seen node) ∙ e) in omega arith
+
     full : (a : ℕ) → a < length net.arcs → side (reached seen) (arc_at net.arcs a).from ≡ true → side (reached seen) (arc_at net.arcs a).to ≡ false → get_or on a 0 ≡ (arc_at net.arcs a).capacity
     full a k p q =
         let w = within_at net.arcs on a l.within k in
@@ -100,6 +101,7 @@ capacity_reached net on tree seen n l h s c =
         let o = outside (arc_at net.arcs a).to q in
         let d : 0 < (arc_at net.arcs a).capacity - get_or on a 0 → 0 < get_or seen (arc_at net.arcs a).to 0 = c true (arc_at net.arcs a).from i a k refl in
         elim (cases_lt (get_or on a 0) (arc_at net.arcs a).capacity) [ inl b ↦ absurd (let r = d (omega arith) in omega arith) | inr b ↦ omega arith ]
+
     empty : (a : ℕ) → a < length net.arcs → side (reached seen) (arc_at net.arcs a).from ≡ false → side (reached seen) (arc_at net.arcs a).to ≡ true → get_or on a 0 ≡ 0
     empty a k p q =
         let i = inside (arc_at net.arcs a).to q in

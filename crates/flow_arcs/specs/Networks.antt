@@ -1,5 +1,5 @@
 -- What is true of each network.
-use Rattle.std.specs.Prelude.{ℕ, ◌<◌, ◌^◌, length}
+use Rattle.std.specs.Prelude.{◌<◌, ◌^◌, length}
 use Rattle.flow_model.specs.Flows.{Net, IsNet}
 
 -- a network whose arcs' numbers fit 32 bits

@@ -37,8 +37,8 @@ impl Network {
         }
     }
 
-    /// Adds an arc, and gives its number: how many there were before. After an error, which also comes where the number
-    /// would not fit, nothing has changed.
+    /// Adds an arc, and gives its number: how many there were before. After an error, which also comes where there would
+    /// be 2^32 arcs, nothing has changed.
     pub fn add(&mut self, from: u32, to: u32, capacity: u64) -> Result<u32, AllocError>
         requires from_within { from < self.old.nodes }
         requires to_within { to < self.old.nodes }

@@ -2,6 +2,7 @@ ghost use Rattle.std.specs.Prelude.{◌≡◌, ℕ, ◌+◌, ◌<◌, ◌≤◌,
 ghost use Rattle.flow_model.specs.Flows.{IsWithin};
 ghost use Rattle.flow_arcs.specs.Ends.{arc_at, near_end};
 ghost use Rattle.flow_arcs.specs.Chains.{IsChain};
+ghost use Rattle.flow_arcs.specs.Searches.{reached_at, IsSearch, Grows, IsShut, IsDone, IsClosed};
 
 use crate::chains::Chain;
 use crate::ends::{far_end, spare_room};
@@ -26,8 +27,6 @@ pub struct Search {
     pub tree: Vec<Reached>,
     pub seen: Vec<usize>,
 }
-
-ghost use Rattle.flow_arcs.specs.Searches.{reached_at, IsSearch, Grows, IsShut, IsDone, IsClosed};
 
 /// Reaches the far end of an arc that has room, where it wasn't reached before.
 fn look_along(

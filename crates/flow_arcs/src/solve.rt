@@ -1,4 +1,4 @@
-ghost use Rattle.std.specs.Prelude.{◌≡◌, IfOk, map, nat_lt};
+ghost use Rattle.std.specs.Prelude.{◌≡◌, IfOk, length, map, nat_lt};
 ghost use Rattle.flow_model.specs.Flows.{IsLegal, IsGreatest, IsCut, value, cut_capacity};
 ghost use Rattle.flow_arcs.specs.Sides.{side};
 
@@ -19,10 +19,11 @@ pub fn max_flow(alloc: Global, net: &Network) -> Result<Flow, AllocError>
     Ok(flow)
 }
 
-/// A greatest flow, and a cut of that capacity.
+/// A greatest flow, and a cut of that capacity, which says of each node whether it is in.
 pub fn max_flow_with_cut(alloc: Global, net: &Network) -> Result<(Flow, Cut), AllocError>
     ensures legal { IfOk result (λ both. IsLegal net.now both.0.on) }
     ensures cut { IfOk result (λ both. IsCut (side both.1.inside)) }
+    ensures nodes { IfOk result (λ both. length both.1.inside ≡ net.now.nodes) }
     ensures greatest { IfOk result (λ both. IsGreatest net.now both.0.on) }
     ensures least { IfOk result (λ both. cut_capacity (side both.1.inside) net.now.arcs ≡ value net.now both.0.on) }
 {

@@ -107,8 +107,17 @@ fn first_faults(rt: HostRuntime) -> Result<(), Fail> {
     let alloc = rt.alloc();
     let arcs = [arc(0, 2, 4), arc(2, 3, 4), arc(3, 1, 4)];
     assert_eq!(rt; fault_of(&rt, alloc, &arcs, &[3, 3, 3])?, None);
-    assert_eq!(rt; fault_of(&rt, alloc, &arcs, &[3, 3])?, Some(FlowFault::Length));
-    assert_eq!(rt; fault_of(&rt, alloc, &arcs, &[3, 5, 5])?, Some(FlowFault::Over(1)));
-    assert_eq!(rt; fault_of(&rt, alloc, &arcs, &[3, 2, 1])?, Some(FlowFault::Unbalanced(2)));
+    assert_eq!(rt;
+        fault_of(&rt, alloc, &arcs, &[3, 3])?,
+        Some(FlowFault::Length)
+    );
+    assert_eq!(rt;
+        fault_of(&rt, alloc, &arcs, &[3, 5, 5])?,
+        Some(FlowFault::Over(1))
+    );
+    assert_eq!(rt;
+        fault_of(&rt, alloc, &arcs, &[3, 2, 1])?,
+        Some(FlowFault::Unbalanced(2))
+    );
     Ok(())
 }

@@ -1,4 +1,3 @@
-use Rattle.std.proofs.Common.{◌≡◌}
 use Rattle.flow_arcs.specs.Chains.{IsChain}
 use Rattle.flow_arcs.proofs.chains.chain_arcs.Given as goal
 

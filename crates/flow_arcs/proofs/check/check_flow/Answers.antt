@@ -16,10 +16,13 @@ returns-then-taken_by-given_by c =
     let o = c.as_slice-on.ensures in
     let t = rw (a, o) at c.taken_by.ensures in
     let g = rw (a, o) at c.given_by.ensures in
-    let w = c.if-taken_by-given_by.true in
-    ( within_seen _ _ _ _ c.loop-i.i a o (omega arith) (omega arith) c.loop-i.invariant
-    , ( (omega arith, omega arith, λ e. w (t ∙ (e ∙ sym g)))
-      , λ m h p. p.2 (c.loop-node.invariant m p.0 h) ) )
+    let w = c.if-taken_by-given_by.true in (
+      within_seen _ _ _ _ c.loop-i.i a o (omega arith) (omega arith) c.loop-i.invariant,
+      (
+        (omega arith, omega arith, λ e. w (t ∙ (e ∙ sym g))),
+        λ m h p. p.2 (c.loop-node.invariant m p.0 h),
+      ),
+    )
 
 pub returns : goal.returns
 returns c =

@@ -1,5 +1,5 @@
-use Rattle.std.proofs.Common.{◌≡◌, ℕ, ◌<◌, ◌≤◌, length, get_or}
-use Rattle.flow_model.specs.Flows.{given, taken, IsWithin}
+use Rattle.std.proofs.Common.{◌≡◌, ℕ, ◌<◌, ◌≤◌, get_or}
+use Rattle.flow_model.specs.Flows.{given, taken}
 use Rattle.flow_arcs.specs.Ends.{no_arc}
 use Rattle.flow_arcs.proofs.check.check_flow.Given as goal
 

@@ -1,10 +1,8 @@
-use Rattle.std.proofs.Common.{◌≡◌, ℕ, ◌+◌, ◌-◌, ◌<◌, ◌≤◌, ◌^◌, Bool, true, false, List, length, get_or, set, subst, ap, sym, ◌∙◌, arith}
+use Rattle.std.proofs.Common.{◌≡◌, ℕ, ◌+◌, ◌-◌, ◌<◌, ◌^◌, true, false, List, length, get_or, set, subst, ap, sym, arith}
 use Rattle.std.proofs.lemmas.List.{get_or_read}
 use Rattle.flow_model.specs.declared.Arc.{Arc}
-use Rattle.flow_model.specs.Flows.{value}
 use Rattle.flow_arcs.specs.declared.search.Reached.{Reached}
-use Rattle.flow_arcs.specs.Ends.{arc_at}
-use Rattle.flow_arcs.specs.Searches.{reached_at, IsSearch, IsLinked}
+use Rattle.flow_arcs.specs.Searches.{reached_at, IsSearch}
 use Rattle.flow_arcs.proofs.Sums.{within_length}
 use Rattle.flow_arcs.proofs.Searching.{some_room, below_length}
 use Rattle.flow_arcs.proofs.Pushing.{IsPushed, push_up, push_down, room_up, room_down, push_ends}
@@ -25,17 +23,17 @@ module _ (arcs : List Arc) (old on : List ℕ) (tree : List Reached) (seen : Lis
   fits_up : step.leaving ≡ true → get_or on step.arc 0 + amount < 2 ^ 64
   fits_up e =
       subst (λ (r : Reached). r.leaving ≡ true → get_or on r.arc 0 + amount < 2 ^ 64) is_entry
-        (λ e. let u = room_up arcs old on tree seen at amount h p inner e in let l = (h.linked at inner p.low).capped in omega arith) e
+      (λ e. let u = room_up arcs old on tree seen at amount h p inner e in let l = (h.linked at inner p.low).capped in omega arith) e
 
   next_up : step.leaving ≡ true → IsPushed arcs old (set on step.arc (get_or on step.arc 0 + amount)) tree step.back amount
   next_up e =
       subst (λ (r : Reached). r.leaving ≡ true → IsPushed arcs old (set on r.arc (get_or on r.arc 0 + amount)) tree r.back amount) is_entry
-        (push_up arcs old on tree seen at amount h p inner) e
+      (push_up arcs old on tree seen at amount h p inner) e
 
   next_down : step.leaving ≡ false → IsPushed arcs old (set on step.arc (get_or on step.arc 0 - amount)) tree step.back amount
   next_down e =
       subst (λ (r : Reached). r.leaving ≡ false → IsPushed arcs old (set on r.arc (get_or on r.arc 0 - amount)) tree r.back amount) is_entry
-        (λ e. let d = room_down arcs old on tree seen at amount h p inner e in push_down arcs old on tree seen at amount h p inner _ (omega arith) e) e
+      (λ e. let d = room_down arcs old on tree seen at amount h p inner e in push_down arcs old on tree seen at amount h p inner _ (omega arith) e) e
 
 -- the entry of the sink has room
 some_amount : (arcs : List Arc) (old : List ℕ) (tree : List Reached) (seen : List ℕ) → IsSearch arcs old tree seen → 0 < get_or seen 1 0 → (mark : ℕ) → mark ≡ get_or seen 1 mark
@@ -52,34 +50,34 @@ prove-unreachable-requires c = let a = ap length c.arcs-arcs.ensures.value in le
 pub bounds-on-number : goal.bounds-on-number
 bounds-on-number c =
     numbered c.args.net.now.arcs c.args.on.now c.loop-at.on c.args.search.now.tree.items c.args.search.now.seen.items c.loop-at.at c.index-2.result.now.room
-      c.requires.search c.loop-at.invariant c.loop-at-test.true c.index-step.result.now c.index-step.ensures
+    c.requires.search c.loop-at.invariant c.loop-at-test.true c.index-step.result.now c.index-step.ensures
 
 pub overflow_add-on : goal.overflow_add-on
 overflow_add-on c =
     let f = fits_up c.args.net.now.arcs c.args.on.now c.loop-at.on c.args.search.now.tree.items c.args.search.now.seen.items c.loop-at.at c.index-2.result.now.room
-      c.requires.search c.loop-at.invariant c.loop-at-test.true c.index-step.result.now c.index-step.ensures c.if-step.true in
+    c.requires.search c.loop-at.invariant c.loop-at-test.true c.index-step.result.now c.index-step.ensures c.if-step.true in
     omega arith
 
 pub bounds-on-number-then-step : goal.bounds-on-number-then-step
 bounds-on-number-then-step c =
     numbered c.args.net.now.arcs c.args.on.now c.loop-at.on c.args.search.now.tree.items c.args.search.now.seen.items c.loop-at.at c.index-2.result.now.room
-      c.requires.search c.loop-at.invariant c.loop-at-test.true c.index-step.result.now c.index-step.ensures
+    c.requires.search c.loop-at.invariant c.loop-at-test.true c.index-step.result.now c.index-step.ensures
 
 pub loop-at-preserved-then-step : goal.loop-at-preserved-then-step
 loop-at-preserved-then-step c =
     next_up c.args.net.now.arcs c.args.on.now c.loop-at.on c.args.search.now.tree.items c.args.search.now.seen.items c.loop-at.at c.index-2.result.now.room
-      c.requires.search c.loop-at.invariant c.loop-at-test.true c.index-step.result.now c.index-step.ensures c.if-step.true
+    c.requires.search c.loop-at.invariant c.loop-at-test.true c.index-step.result.now c.index-step.ensures c.if-step.true
 
 pub loop-at-preserved : goal.loop-at-preserved
 loop-at-preserved c =
     next_down c.args.net.now.arcs c.args.on.now c.loop-at.on c.args.search.now.tree.items c.args.search.now.seen.items c.loop-at.at c.index-2.result.now.room
-      c.requires.search c.loop-at.invariant c.loop-at-test.true c.index-step.result.now c.index-step.ensures c.if-step.false
+    c.requires.search c.loop-at.invariant c.loop-at-test.true c.index-step.result.now c.index-step.ensures c.if-step.false
 
 pub returns-clause-raised : goal.returns-clause-raised
 returns-clause-raised c =
     let z : c.loop-at.at ≡ 0 = omega arith in
     let p = rw z at c.loop-at.invariant in
     (push_ends c.args.net.now c.args.on.now c.loop-at.on c.args.search.now.tree.items c.args.search.now.seen.items c.index-2.result.now.room c.arcs-arcs.ensures.net
-      c.requires.legal c.requires.search
-      (some_amount c.args.net.now.arcs c.args.on.now c.args.search.now.tree.items c.args.search.now.seen.items c.requires.search c.requires.reached _ c.index.ensures _ c.index-2.ensures)
-      p).1
+    c.requires.legal c.requires.search
+    (some_amount c.args.net.now.arcs c.args.on.now c.args.search.now.tree.items c.args.search.now.seen.items c.requires.search c.requires.reached _ c.index.ensures _ c.index-2.ensures)
+    p).1

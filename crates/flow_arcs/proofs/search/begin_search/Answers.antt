@@ -12,4 +12,4 @@ begun net on r tree tree' seen n w o m e f s = rw (f, e, s) (search_begins net o
 pub returns-clause-search : goal.returns-clause-search
 returns-clause-search c =
     begun c.args.net.now c.args.on.now _ _ _ _ c.nodes.ensures.net c.requires refl (omega arith) c.new-tree.ensures.items c.in_ok-push.ensures.items
-      (c.in_ok-seen.ensures.items_if_clones_equal (λ y h. h) ∙ ap blank c.nodes.ensures.value)
+    (c.in_ok-seen.ensures.items_if_clones_equal (λ y h. h) ∙ ap blank c.nodes.ensures.value)

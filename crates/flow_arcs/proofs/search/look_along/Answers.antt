@@ -1,11 +1,10 @@
-use Rattle.std.proofs.Common.{◌≡◌, ℕ, ◌+◌, ◌<◌, ◌≤◌, List, ◌∷◌, [], ◌++◌, length, get_or, set, subst, ap, sym, ◌∙◌, arith}
+use Rattle.std.proofs.Common.{◌≡◌, ℕ, ◌+◌, ◌<◌, List, ◌∷◌, [], ◌++◌, length, get_or, set, subst, ap, sym, ◌∙◌, arith}
 use Rattle.std.proofs.lemmas.List.{get_or_read}
 use Rattle.flow_model.specs.declared.Arc.{Arc}
 use Rattle.flow_arcs.specs.declared.search.Reached.{Reached}
-use Rattle.flow_arcs.specs.Ends.{arc_at, near_end, far_end, spare_room}
 use Rattle.flow_arcs.specs.Searches.{reached_at, IsSearch, IsLinked}
 use Rattle.flow_arcs.proofs.Sums.{within_length, within_at}
-use Rattle.flow_arcs.proofs.Searching.{search_push, some_room, node_seen, below_length}
+use Rattle.flow_arcs.proofs.Searching.{search_push, some_room}
 use Rattle.flow_arcs.proofs.search.look_along.Goals as goal
 
 pub bounds-on-number : goal.bounds-on-number
@@ -28,18 +27,18 @@ returns-in_ok-push-clause-search c =
     let s = some_room c.args.arcs.now c.args.on.now tree seen c.args.at c.requires.search c.requires.at in
     let t : c.index-then-index-eq0.result.now.room ≡ (reached_at tree c.args.at).room = ap (λ (x : Reached). x.room) r in
     pushed c.args.arcs.now c.args.on.now tree _ seen (record { node = c.far_end-node.result; arc = c.args.number; back = c.args.at; leaving = c.args.leaving; room = c.min.result }) _
-      c.requires.search
-      (record {
-        earlier = c.requires.at;
-        numbered = c.requires.number;
-        begins = c.requires.begins;
-        arrives = sym c.far_end-node.ensures;
-        some = omega arith;
-        least = omega arith;
-        capped = c.spare_room-room.ensures.capped;
-        fits = omega arith;
-      })
-      (let b : c.far_end-node.result < length seen = subst (λ n. n < length seen) (sym c.far_end-node.ensures) (c.requires.search.joined c.args.leaving c.args.number c.requires.number) in
-      sym (get_or_read seen c.far_end-node.result _ b c.index.ensures 0) ∙ c.if-index-eq0.true)
-      c.in_ok-push.ensures.items
-      (omega (arith, c.push.new.self.ok.0, c.args.search.now.tree.ok.0, c.in_ok-push.ensures.len))
+    c.requires.search
+    (record {
+      earlier = c.requires.at;
+      numbered = c.requires.number;
+      begins = c.requires.begins;
+      arrives = sym c.far_end-node.ensures;
+      some = omega arith;
+      least = omega arith;
+      capped = c.spare_room-room.ensures.capped;
+      fits = omega arith;
+    })
+    (let b : c.far_end-node.result < length seen = subst (λ n. n < length seen) (sym c.far_end-node.ensures) (c.requires.search.joined c.args.leaving c.args.number c.requires.number) in
+    sym (get_or_read seen c.far_end-node.result _ b c.index.ensures 0) ∙ c.if-index-eq0.true)
+    c.in_ok-push.ensures.items
+    (omega (arith, c.push.new.self.ok.0, c.args.search.now.tree.ok.0, c.in_ok-push.ensures.len))

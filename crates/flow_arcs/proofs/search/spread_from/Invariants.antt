@@ -1,6 +1,6 @@
 use Rattle.std.proofs.Common.{◌≡◌, ℕ, ◌+◌, ◌<◌, ◌≤◌, length}
 use Rattle.flow_arcs.specs.Ends.{arc_at, near_end}
-use Rattle.flow_arcs.specs.Searches.{reached_at, IsSearch, Grows, IsShut}
+use Rattle.flow_arcs.specs.Searches.{IsSearch, Grows, IsShut}
 use Rattle.flow_arcs.proofs.search.spread_from.Given as goal
 
 abbrev pub invariant-loop-number : goal.invariant-loop-number

@@ -1,11 +1,10 @@
-use Rattle.std.proofs.Common.{◌≡◌, ℕ, ◌+◌, ◌-◌, ◌<◌, ◌≤◌, Bool, List, length, get_or, replicate, subst, sym, ◌∙◌, arith}
+use Rattle.std.proofs.Common.{◌≡◌, ℕ, ◌-◌, ◌<◌, Bool, List, length, get_or, replicate, subst, sym, ◌∙◌, arith}
 use Rattle.std.proofs.lemmas.List.{get_or_read, with_items_is}
 use Rattle.flow_model.specs.declared.Arc.{Arc}
 use Rattle.flow_model.specs.Flows.{Net, IsNet, IsLegal, IsGreatest, value, cut_capacity}
 use Rattle.flow_arcs.specs.declared.search.Reached.{Reached}
 use Rattle.flow_arcs.specs.Sides.{side}
 use Rattle.flow_arcs.specs.Searches.{IsSearch, IsClosed}
-use Rattle.flow_arcs.proofs.Searching.{below_length}
 use Rattle.flow_arcs.proofs.Solving.{idle_legal, total_capacity, given_bound, reached, cut_reached, capacity_reached, greatest_from_cut}
 use Rattle.flow_arcs.proofs.solve.max_flow_with_cut.Goals as goal
 
@@ -35,20 +34,20 @@ loop-on-init c = idle_from c.args.net.now c.arcs-arcs.result.now _ c.arcs-arcs.e
 pub returns-then-index-eq0-clause-least : goal.returns-then-index-eq0-clause-least
 returns-then-index-eq0-clause-least c =
     least_from c.args.net.now c.loop-on.on.items c.deref.result.now c.from_vec.result c.in_ok-search.search.tree.items c.in_ok-search.search.seen.items c.deref-then-index-eq0.result.now
-      c.in_ok-reached_nodes.field-0.items c.from_vec-then-index-eq0.result c.index.result.now c.arcs-arcs.ensures.net c.loop-on.invariant c.deref.ensures.value
-      c.in_ok-search.ensures.search c.in_ok-search.ensures.closed (let n = c.in_ok-search.ensures.nodes in let e = c.arcs-arcs.ensures.net.ends in omega arith)
-      c.index.ensures c.if-index-eq0.true c.deref-then-index-eq0.ensures.value c.in_ok-reached_nodes.ensures c.from_vec-then-index-eq0.ensures c.from_vec.ensures
+    c.in_ok-reached_nodes.field-0.items c.from_vec-then-index-eq0.result c.index.result.now c.arcs-arcs.ensures.net c.loop-on.invariant c.deref.ensures.value
+    c.in_ok-search.ensures.search c.in_ok-search.ensures.closed (let n = c.in_ok-search.ensures.nodes in let e = c.arcs-arcs.ensures.net.ends in omega arith)
+    c.index.ensures c.if-index-eq0.true c.deref-then-index-eq0.ensures.value c.in_ok-reached_nodes.ensures c.from_vec-then-index-eq0.ensures c.from_vec.ensures
 
 pub returns-then-index-eq0-clause-greatest : goal.returns-then-index-eq0-clause-greatest
 returns-then-index-eq0-clause-greatest c =
     greatest_from c.args.net.now c.loop-on.on.items c.deref.result.now c.from_vec.result c.in_ok-search.search.tree.items c.in_ok-search.search.seen.items c.deref-then-index-eq0.result.now
-      c.in_ok-reached_nodes.field-0.items c.from_vec-then-index-eq0.result c.index.result.now c.arcs-arcs.ensures.net c.loop-on.invariant c.deref.ensures.value
-      c.in_ok-search.ensures.search c.in_ok-search.ensures.closed (let n = c.in_ok-search.ensures.nodes in let e = c.arcs-arcs.ensures.net.ends in omega arith)
-      c.index.ensures c.if-index-eq0.true c.deref-then-index-eq0.ensures.value c.in_ok-reached_nodes.ensures c.from_vec-then-index-eq0.ensures c.from_vec.ensures
+    c.in_ok-reached_nodes.field-0.items c.from_vec-then-index-eq0.result c.index.result.now c.arcs-arcs.ensures.net c.loop-on.invariant c.deref.ensures.value
+    c.in_ok-search.ensures.search c.in_ok-search.ensures.closed (let n = c.in_ok-search.ensures.nodes in let e = c.arcs-arcs.ensures.net.ends in omega arith)
+    c.index.ensures c.if-index-eq0.true c.deref-then-index-eq0.ensures.value c.in_ok-reached_nodes.ensures c.from_vec-then-index-eq0.ensures c.from_vec.ensures
 
 pub loop-on-smaller : goal.loop-on-smaller
 loop-on-smaller c =
     let s = smaller_from c.args.net.now c.loop-on.on.items c.deref_mut.result.now c.push_along.new.on c.deref_mut.ensures.value c.push_along.ensures.legal c.push_along.ensures.raised in
     let l : length c.push_along.new.on ≡ c.loop-on.on.len = omega (arith, c.push_along.auto.on, c.deref_mut.ensures.len) in
     subst (λ (xs : List ℕ). total_capacity c.args.net.now.arcs - value c.args.net.now xs < total_capacity c.args.net.now.arcs - value c.args.net.now c.loop-on.on.items)
-      (sym (with_items_is c.loop-on.on c.push_along.new.on l)) s
+    (sym (with_items_is c.loop-on.on c.push_along.new.on l)) s
