@@ -50,28 +50,28 @@ prove-unreachable-requires c = let a = ap length c.arcs-arcs.ensures.value in le
 pub bounds-on-number : goal.bounds-on-number
 bounds-on-number c =
     numbered c.args.net.now.arcs c.args.on.now c.loop-at.on c.args.search.now.tree.items c.args.search.now.seen.items c.loop-at.at c.index-2.result.now.room
-    c.requires.search c.loop-at.invariant c.loop-at-test.true c.index-step.result.now c.index-step.ensures
+    c.requires.search c.loop-at.invariant (omega arith) c.index-step.result.now c.index-step.ensures
 
 pub overflow_add-on : goal.overflow_add-on
 overflow_add-on c =
     let f = fits_up c.args.net.now.arcs c.args.on.now c.loop-at.on c.args.search.now.tree.items c.args.search.now.seen.items c.loop-at.at c.index-2.result.now.room
-    c.requires.search c.loop-at.invariant c.loop-at-test.true c.index-step.result.now c.index-step.ensures c.if-step.true in
+    c.requires.search c.loop-at.invariant (omega arith) c.index-step.result.now c.index-step.ensures c.if-step.true in
     omega arith
 
 pub bounds-on-number-then-step : goal.bounds-on-number-then-step
 bounds-on-number-then-step c =
     numbered c.args.net.now.arcs c.args.on.now c.loop-at.on c.args.search.now.tree.items c.args.search.now.seen.items c.loop-at.at c.index-2.result.now.room
-    c.requires.search c.loop-at.invariant c.loop-at-test.true c.index-step.result.now c.index-step.ensures
+    c.requires.search c.loop-at.invariant (omega arith) c.index-step.result.now c.index-step.ensures
 
 pub loop-at-preserved-then-step : goal.loop-at-preserved-then-step
 loop-at-preserved-then-step c =
     next_up c.args.net.now.arcs c.args.on.now c.loop-at.on c.args.search.now.tree.items c.args.search.now.seen.items c.loop-at.at c.index-2.result.now.room
-    c.requires.search c.loop-at.invariant c.loop-at-test.true c.index-step.result.now c.index-step.ensures c.if-step.true
+    c.requires.search c.loop-at.invariant (omega arith) c.index-step.result.now c.index-step.ensures c.if-step.true
 
 pub loop-at-preserved : goal.loop-at-preserved
 loop-at-preserved c =
     next_down c.args.net.now.arcs c.args.on.now c.loop-at.on c.args.search.now.tree.items c.args.search.now.seen.items c.loop-at.at c.index-2.result.now.room
-    c.requires.search c.loop-at.invariant c.loop-at-test.true c.index-step.result.now c.index-step.ensures c.if-step.false
+    c.requires.search c.loop-at.invariant (omega arith) c.index-step.result.now c.index-step.ensures c.if-step.false
 
 pub returns-clause-raised : goal.returns-clause-raised
 returns-clause-raised c =
