@@ -91,6 +91,14 @@ impl<T: Copy> Items<T> {
         let items = Vec::from_slice(alloc, items)?;
         Ok(Items { items })
     }
+
+    /// Puts the elements of the slice at the end. After an error the list is unchanged.
+    pub fn extend_from_slice(&mut self, more: &[T]) -> Result<(), AllocError>
+        ensures ok { OnOk result (self.new ≡ self.old ++ more.now) }
+        ensures err { OnErr result (self.new ≡ self.old) }
+    {
+        self.items.extend_from_slice(more)
+    }
 }
 
 impl<T: Drop> Items<T> {

@@ -1,0 +1,56 @@
+-- The frames of messages: their envelopes and their bytes.
+use Rattle.std.specs.Prelude.{ℕ, ◌+◌, List, [], ◌∷◌, ◌++◌, codes, decimal, length}
+use Rattle.std.specs.Int.{w32, w128, to_be_bytes}
+use Rattle.serde_json.specs.Data.{Data, string}
+use Rattle.serde_json.specs.Written.{compact_text}
+use Rattle.uuid.specs.Text.{hyphenated_text, lower}
+use Rattle.jupyter_messages.specs.declared.message.Header.{Header}
+use Rattle.reply_frames.specs.declared.outbox.Outbox.{Outbox}
+use Rattle.reply_frames.specs.Messages.{Said, json}
+
+-- a kernel in its hyphenated lower-case text
+unfoldable pub kernel_name : ℕ → List ℕ
+kernel_name kernel = hyphenated_text lower (to_be_bytes w128 kernel)
+
+-- the six texts of a header
+abbrev pub header_json : Header → Data
+header_json h = json ((codes "date", string h.date) ∷ (codes "msg_id", string h.msg_id) ∷ (codes "msg_type", string h.msg_type)
+    ∷ (codes "session", string h.session) ∷ (codes "username", string h.username) ∷ (codes "version", string h.version) ∷ [])
+
+-- the header of the session's message with this running number, which answers the request
+abbrev pub own_header : List ℕ → Header → ℕ → List ℕ → Header
+own_header kernel request running kind = record {
+  msg_id = (kernel ++ codes "_") ++ decimal running;
+  username = codes "kernel";
+  session = kernel;
+  date = request.date;
+  msg_type = kind;
+  version = codes "5.3";
+}
+
+unfoldable pub message : List ℕ → Header → ℕ → Said → Data
+message kernel request running said = json ((codes "channel", string said.channel) ∷ (codes "content", said.content)
+    ∷ (codes "header", header_json (own_header kernel request running said.kind)) ∷ (codes "kernel", string kernel)
+    ∷ (codes "metadata", json []) ∷ (codes "parent_header", header_json request) ∷ [])
+
+-- a frame is the length of its body, as four bytes with the high byte first, and the body
+unfoldable pub frame : List ℕ → List ℕ
+frame body = to_be_bytes w32 (length body) ++ body
+
+unfoldable pub framed : List ℕ → Header → ℕ → Said → List ℕ
+framed kernel request running said = frame (compact_text (message kernel request running said))
+
+-- the frames of messages that answer a request, with running numbers from the first on
+unfoldable pub frames : List ℕ → Header → ℕ → List Said → List ℕ
+frames kernel request first [] = []
+frames kernel request first (said ∷ more) = framed kernel request first said ++ frames kernel request (first + 1) more
+
+-- ---- an outbox: a kernel's name, its next running number, and the frames so far
+
+-- one message more
+abbrev pub say : Header → Said → Outbox → Outbox
+say request said o = record { kernel = o.kernel; running = o.running + 1; bytes = o.bytes ++ framed o.kernel request o.running said }
+
+abbrev pub say_all : Header → List Said → Outbox → Outbox
+say_all request [] o = o
+say_all request (said ∷ more) o = say_all request more (say request said o)

@@ -1,0 +1,94 @@
+-- The messages that answer a request. (Jupyter messaging 5.3; `docs/PROTOCOL.md` lists them.)
+use Rattle.std.specs.Prelude.{ℕ, List, [], ◌∷◌, ◌++◌, codes, length, map, Option, Some, None}
+use Rattle.serde_json.specs.Data.{Data, number, unsigned, string, array, object, no_items, item, Members, no_members, member}
+use Rattle.jupyter_messages.specs.declared.message.Channel.{Channel}
+use Rattle.jupyter_messages.specs.declared.message.Channel.TheVariants.{Shell, Control}
+use Rattle.py_kernel.specs.declared.session.Failure.{Failure}
+use Rattle.py_kernel.specs.declared.session.Reply.{Reply}
+use Rattle.reply_frames.specs.Cuts.{prefix_within, pieces}
+
+-- ---- JSON
+
+abbrev pub members : List (List ℕ × Data) → Members
+members [] = no_members
+members (m ∷ more) = member m.0 m.1 (members more)
+
+abbrev pub json : List (List ℕ × Data) → Data
+json ms = object (members ms)
+
+abbrev pub whole : ℕ → Data
+whole n = number (unsigned n)
+
+-- ---- a message without its envelope
+
+pub record Said : Type 0 where
+  pub channel : List ℕ
+  pub kind : List ℕ
+  pub content : Data
+
+abbrev pub on_iopub : List ℕ → Data → Said
+on_iopub kind content = record { channel = codes "iopub"; kind = kind; content = content }
+
+abbrev pub channel_name : Channel → List ℕ
+channel_name Shell = codes "shell"
+channel_name Control = codes "control"
+
+abbrev pub status : List ℕ → Said
+status state = on_iopub (codes "status") (json ((codes "execution_state", string state) ∷ []))
+
+abbrev pub busy : Said
+busy = status (codes "busy")
+
+abbrev pub idle : Said
+idle = status (codes "idle")
+
+-- ---- opening a kernel on host 0
+
+abbrev pub open_reply : Channel → Said
+open_reply channel = record {
+  channel = channel_name channel;
+  kind = codes "kernel_open_reply";
+  content = json ((codes "host", whole 0) ∷ (codes "status", string (codes "ok")) ∷ []);
+}
+
+abbrev pub opened : Channel → List Said
+opened channel = busy ∷ open_reply channel ∷ idle ∷ []
+
+-- ---- a cell
+
+-- the code within 262,144 bytes
+abbrev pub input : List ℕ → ℕ → Said
+input code count = on_iopub (codes "execute_input") (json ((codes "code", string (prefix_within 262144 code)) ∷ (codes "execution_count", whole count) ∷ []))
+
+abbrev pub stream : List ℕ → Said
+stream piece = on_iopub (codes "stream") (json ((codes "name", string (codes "stdout")) ∷ (codes "text", string piece) ∷ []))
+
+-- the printed text in pieces of at most 65,536 bytes
+abbrev pub streams : List ℕ → List Said
+streams printed = map stream (pieces (length printed) 65536 printed)
+
+-- the text of an error within 4,096 bytes, and its one line
+abbrev pub evalue : Failure → List ℕ
+evalue f = prefix_within 4096 f.text
+
+abbrev pub traceback : Failure → Data
+traceback f = array (item (string ((f.name ++ codes ": ") ++ evalue f)) no_items)
+
+abbrev pub error : Failure → Said
+error f = on_iopub (codes "error") (json ((codes "ename", string f.name) ∷ (codes "evalue", string (evalue f)) ∷ (codes "traceback", traceback f) ∷ []))
+
+abbrev pub errors : Option Failure → List Said
+errors None = []
+errors (Some f) = error f ∷ []
+
+abbrev pub reply_content : ℕ → Option Failure → Data
+reply_content count None = json ((codes "execution_count", whole count) ∷ (codes "status", string (codes "ok")) ∷ (codes "user_expressions", json []) ∷ [])
+reply_content count (Some f) = json ((codes "ename", string f.name) ∷ (codes "evalue", string (evalue f)) ∷ (codes "execution_count", whole count)
+    ∷ (codes "status", string (codes "error")) ∷ (codes "traceback", traceback f) ∷ [])
+
+abbrev pub reply : Reply → Said
+reply r = record { channel = codes "shell"; kind = codes "execute_reply"; content = reply_content r.count r.error }
+
+-- what answers a cell with this code
+abbrev pub ran : List ℕ → Reply → List Said
+ran code r = busy ∷ input code r.count ∷ (streams r.printed ++ (errors r.error ++ reply r ∷ idle ∷ []))

@@ -1,0 +1,106 @@
+ghost use Rattle.std.specs.Prelude.{◌≡◌, ◌∷◌, ◌++◌, [], codes, IfOk};
+ghost use Rattle.serde_json.specs.View.{view};
+ghost use Rattle.serde_json.specs.Data.{array, item, no_items, string};
+ghost use Rattle.reply_frames.specs.Messages as said;
+ghost use Rattle.reply_frames.specs.Messages.{json, whole};
+
+use crate::cut::cut_at;
+use plain_data::Text;
+use py_kernel::Failure;
+use serde_json::{Value, json};
+use std::alloc::{AllocError, Global};
+
+pub fn status_content(alloc: Global, state: &str) -> Result<Value, AllocError>
+    ensures { IfOk result (λ v. view v ≡ json ((codes "execution_state", string state.now) ∷ [])) }
+{
+    json!(in alloc; {"execution_state": state})
+}
+
+pub fn open_content(alloc: Global) -> Result<Value, AllocError>
+    ensures { IfOk result (λ v. view v ≡ json ((codes "host", whole 0) ∷ (codes "status", string (codes "ok")) ∷ [])) }
+{
+    json!(in alloc; {"host": 0u64, "status": "ok"})
+}
+
+fn input_members(alloc: Global, code: &str, count: u32) -> Result<Value, AllocError>
+    ensures { IfOk result (λ v. view v ≡ json ((codes "code", string code.now) ∷ (codes "execution_count", whole count) ∷ [])) }
+{
+    json!(in alloc; {"code": code, "execution_count": u64::from(count)})
+}
+
+pub fn input_content(alloc: Global, code: &str, count: u32) -> Result<Value, AllocError>
+    ensures { IfOk result (λ v. view v ≡ (said.input code.now count).content) }
+{
+    let (code, _) = cut_at(code, 262_144);
+    input_members(alloc, code, count)
+}
+
+pub fn stream_content(alloc: Global, piece: &str) -> Result<Value, AllocError>
+    ensures { IfOk result (λ v. view v ≡ json ((codes "name", string (codes "stdout")) ∷ (codes "text", string piece.now) ∷ [])) }
+{
+    json!(in alloc; {"name": "stdout", "text": piece})
+}
+
+/// The one line of an error.
+fn error_line(alloc: Global, name: &str, text: &str) -> Result<Text, AllocError>
+    ensures { IfOk result (λ line. line ≡ (name.now ++ codes ": ") ++ text.now) }
+{
+    Ok(Text::from_string(format!(in alloc; "{name}: {text}")?))
+}
+
+fn error_members(alloc: Global, name: &str, text: &str, line: &str) -> Result<Value, AllocError>
+    ensures { IfOk result (λ v. view v ≡ json ((codes "ename", string name.now) ∷ (codes "evalue", string text.now)
+        ∷ (codes "traceback", array (item (string line.now) no_items)) ∷ [])) }
+{
+    json!(in alloc; {"ename": name, "evalue": text, "traceback": [line]})
+}
+
+fn failed_members(
+    alloc: Global,
+    count: u32,
+    name: &str,
+    text: &str,
+    line: &str,
+) -> Result<Value, AllocError>
+    ensures { IfOk result (λ v. view v ≡ json ((codes "ename", string name.now) ∷ (codes "evalue", string text.now)
+        ∷ (codes "execution_count", whole count) ∷ (codes "status", string (codes "error"))
+        ∷ (codes "traceback", array (item (string line.now) no_items)) ∷ [])) }
+{
+    json!(in alloc; {
+        "ename": name,
+        "evalue": text,
+        "execution_count": u64::from(count),
+        "status": "error",
+        "traceback": [line]
+    })
+}
+
+fn ok_members(alloc: Global, count: u32) -> Result<Value, AllocError>
+    ensures { IfOk result (λ v. view v ≡ json ((codes "execution_count", whole count) ∷ (codes "status", string (codes "ok"))
+        ∷ (codes "user_expressions", json []) ∷ [])) }
+{
+    json!(in alloc; {"execution_count": u64::from(count), "status": "ok", "user_expressions": {}})
+}
+
+pub fn error_content(alloc: Global, failure: &Failure) -> Result<Value, AllocError>
+    ensures { IfOk result (λ v. view v ≡ (said.error failure.now).content) }
+{
+    let (text, _) = cut_at(failure.text.as_str(), 4096);
+    let line = error_line(alloc, failure.name.as_str(), text)?;
+    error_members(alloc, failure.name.as_str(), text, line.as_str())
+}
+
+pub fn reply_content(
+    alloc: Global,
+    count: u32,
+    error: &Option<Failure>,
+) -> Result<Value, AllocError>
+    ensures { IfOk result (λ v. view v ≡ said.reply_content count error.now) }
+{
+    let Some(failure) = error else {
+        return ok_members(alloc, count);
+    };
+    let (text, _) = cut_at(failure.text.as_str(), 4096);
+    let line = error_line(alloc, failure.name.as_str(), text)?;
+    failed_members(alloc, count, failure.name.as_str(), text, line.as_str())
+}

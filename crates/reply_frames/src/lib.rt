@@ -1,0 +1,14 @@
+//! The frames that answer a request.
+//!
+//! Each message is a JSON object with its members in ascending order and no white space, behind its length. Members that
+//! hold a text of the session are cut between characters: a code at 262,144 bytes, a piece of printed text at 65,536, the
+//! text of an error at 4,096. `docs/PROTOCOL.md` lists the messages. (Jupyter messaging protocol 5.3.)
+#![tactic(auto)]
+
+mod content;
+mod cut;
+mod entry;
+mod message;
+mod outbox;
+
+pub use outbox::Outbox;
