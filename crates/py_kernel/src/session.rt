@@ -1,4 +1,4 @@
-ghost use Rattle.std.specs.Prelude.{◌≡◌, ◌<◌, IfOk, OnOk, codes, string_bytes};
+ghost use Rattle.std.specs.Prelude.{◌≡◌, ◌+◌, ◌<◌, IfOk, OnOk, codes, string_bytes};
 ghost use Rattle.py_kernel.specs.Session as spec;
 
 use crate::error::{ErrorKind, PyError};
@@ -65,6 +65,7 @@ impl Kernel {
         requires { self.old.state.count < 4294967295 }
         ensures reply { IfOk result (λ reply. reply ≡ spec.answer code.now self.old.state) }
         ensures state { OnOk result (self.new.state ≡ spec.next_state code.now self.old.state) }
+        ensures counted { OnOk result (self.new.state.count ≡ self.old.state.count + 1) }
     {
         self.state.count += 1;
         let count = self.state.count;

@@ -1,0 +1,3 @@
+pub mod Streaming
+pub mod Serving
+pub mod Words

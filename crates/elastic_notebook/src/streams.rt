@@ -1,0 +1,101 @@
+ghost use Rattle.std.specs.Prelude.{◌≡◌, ◌≢◌, ℕ, ◌<◌, ◌≤◌, List, ◌++◌, length, vec_len, Some, None, IfOk, OnOk, OnErr};
+ghost use Rattle.nb_outside.specs.Counts.{HasRisen, HasRisenBy};
+ghost use Rattle.nb_outside.specs.Streams.{Adds, Takes, IsAtEnd};
+ghost use Rattle.elastic_notebook.specs.Reading.{MayGoOn, KeepsAll};
+ghost use Rattle.elastic_notebook.specs.Served.{AddsFront};
+
+use nb_outside::{ReadEnd, Sink, Source, WriteEnd};
+use std::alloc::{AllocError, Global};
+
+/// The sink met a fault.
+#[derive(Clone, Copy, Debug, PartialEq, Eq)]
+pub struct SinkFault;
+
+/// Writes all the bytes. After an error the first of them are written.
+pub fn write_all<K: Sink>(sink: &mut K, bytes: &[u8]) -> Result<(), SinkFault>
+    ensures ok { OnOk result (Adds (K.written sink.old) (K.written sink.new) bytes.now) }
+    ensures err { OnErr result (AddsFront (K.written sink.old) (K.written sink.new) bytes.now) }
+    ensures fault { OnErr result (HasRisen (K.faults sink.old) (K.faults sink.new)) }
+    ensures faults_stay { K.faults sink.old ≤ K.faults sink.new }
+{
+    let mut rest = bytes;
+    while !rest.is_empty() {
+        match sink.write(rest) {
+            WriteEnd::Wrote(count) => {
+                let (_, more) = rest.split_at(count);
+                rest = more;
+            }
+            WriteEnd::Failed => return Err(SinkFault),
+        }
+    }
+    Ok(())
+}
+
+/// How reading a source to its end ended.
+#[derive(Clone, Copy, Debug, PartialEq, Eq)]
+pub enum ReadingEnd {
+    /// At the end of the input.
+    End,
+    /// The source met a fault.
+    Failed,
+    /// After 4,294,967,295 reads that each took a byte.
+    TooMany,
+    /// Memory ran out.
+    OutOfMemory,
+}
+
+/// How many bytes each read asks for.
+const PIECE: usize = 65_536;
+
+/// Reads one piece and adds it to the bytes. `None` where there may be more.
+fn read_piece<S: Source>(
+    source: &mut S,
+    piece: &mut [u8],
+    bytes: &mut Vec<u8>,
+) -> Option<ReadingEnd>
+    requires { 0 < length piece.old }
+    ensures taken { (taken : List ℕ) × Takes (S.left source.old) (S.left source.new) taken
+        × (MayGoOn result → (bytes.new.items ≡ bytes.old.items ++ taken)) }
+    ensures end { result ≡ Some ReadingEnd.End → IsAtEnd (S.left source.new) }
+    ensures more { result ≡ None → HasRisenBy 1 (S.reads source.old) (S.reads source.new) }
+    ensures failed { result ≡ Some ReadingEnd.Failed → HasRisen (S.faults source.old) (S.faults source.new) }
+    ensures faults_stay { S.faults source.old ≤ S.faults source.new }
+    ensures none_more { result ≢ Some ReadingEnd.TooMany }
+{
+    match source.read(piece) {
+        ReadEnd::Failed => Some(ReadingEnd::Failed),
+        ReadEnd::Bytes(0) => Some(ReadingEnd::End),
+        ReadEnd::Bytes(count) => match bytes.extend_from_slice(&piece[..count]) {
+            Ok(()) => None,
+            Err(_) => Some(ReadingEnd::OutOfMemory),
+        },
+    }
+}
+
+/// Room for a piece of so many bytes.
+fn room(alloc: Global, count: usize) -> Result<Vec<u8>, AllocError>
+    ensures { IfOk result (λ piece. vec_len piece ≡ count) }
+{
+    vec![in alloc; 0u8; count]
+}
+
+/// Reads a source to its end, and adds what it gives to the bytes.
+pub fn read_all<S: Source>(alloc: Global, source: &mut S, bytes: &mut Vec<u8>) -> ReadingEnd
+    ensures taken { (taken : List ℕ) × Takes (S.left source.old) (S.left source.new) taken
+        × (KeepsAll result → (bytes.new.items ≡ bytes.old.items ++ taken)) }
+    ensures end { result ≡ ReadingEnd.End → IsAtEnd (S.left source.new) }
+    ensures failed { result ≡ ReadingEnd.Failed → HasRisen (S.faults source.old) (S.faults source.new) }
+    ensures too_many { result ≡ ReadingEnd.TooMany → HasRisenBy 4294967295 (S.reads source.old) (S.reads source.new) }
+    ensures faults_stay { S.faults source.old ≤ S.faults source.new }
+{
+    let Ok(mut piece) = room(alloc, PIECE) else {
+        return ReadingEnd::OutOfMemory;
+    };
+    for turn in 0..u32::MAX {
+        match read_piece(source, piece.as_mut_slice(), bytes) {
+            Some(end) => return end,
+            None => {}
+        }
+    }
+    ReadingEnd::TooMany
+}
