@@ -1,4 +1,5 @@
 pub mod Graphs
 pub mod Faults
+pub mod Walks
 pub mod Plans
 pub mod Networks

@@ -5,7 +5,10 @@
 //! cells again. (Li et al., ElasticNotebook, PVLDB 17(2).)
 #![tactic(auto)]
 
+mod check;
 mod graph;
+mod lookup;
+mod order;
 mod plan;
 
 pub use graph::{CellRecord, Graph, GraphFault, Version};

@@ -1,0 +1,4 @@
+pub mod Ascending
+pub mod Lookups
+pub mod Walking
+pub mod Faulty
