@@ -3,3 +3,4 @@ pub mod Faults
 pub mod Walks
 pub mod Plans
 pub mod Networks
+pub mod Marks

@@ -8,6 +8,7 @@
 mod check;
 mod graph;
 mod lookup;
+mod need;
 mod order;
 mod plan;
 
