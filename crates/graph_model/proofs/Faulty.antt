@@ -1,11 +1,11 @@
 -- The faults of a graph by their parts.
-use Rattle.std.proofs.Common.{◌≡◌, ℕ, ◌+◌, ◌-◌, ◌<◌, ◌≤◌, ◌⊎◌, List, inl, inr, subst}
+use Rattle.std.proofs.Common.{ℕ, inl, inr}
 use Rattle.graph_model.specs.declared.graph.CellRecord.{CellRecord}
 use Rattle.graph_model.specs.declared.graph.Version.{Version}
 use Rattle.graph_model.specs.declared.graph.Graph.{Graph}
 use Rattle.graph_model.specs.Graphs.{CellAt, VersionAt}
 use Rattle.graph_model.specs.Faults.{IsTwoActive, HasBadRead}
-use Rattle.graph_model.specs.Walks.{ClashesBy, SomeClashes, RecordIsBad}
+use Rattle.graph_model.specs.Walks.{SomeClashes, RecordIsBad}
 use Rattle.graph_model.proofs.Lookups.{of_version, of_cell}
 
 pub some_clashes_are_two : (g : Graph) (v : ℕ) (x : Version) → VersionAt g v x → SomeClashes g v x → IsTwoActive g v
@@ -27,22 +27,26 @@ two_have_some_clash g v x at t = of_version (SomeClashes g v) g v x t.0 at t.1 (
 ])
 
 pub bad_record_is_read : (g : Graph) (c : ℕ) (x : CellRecord) → CellAt g c x → RecordIsBad g c x → HasBadRead g c
-bad_record_is_read g c x at r = (x, at, elim r [
-  | inl a ↦ elim a [
-    | inl n ↦ inl n
-    | inr b ↦ elim b.2 [
-      | inl none ↦ inr (inl (b.0, b.1, none))
-      | inr y ↦ inr (inr (inl (b.0, y.0, b.1, y.1, y.2)))
+bad_record_is_read g c x at r = (
+  x,
+  at,
+  elim r [
+    | inl a ↦ elim a [
+      | inl n ↦ inl n
+      | inr b ↦ elim b.2 [
+        | inl none ↦ inr (inl (b.0, b.1, none))
+        | inr y ↦ inr (inr (inl (b.0, y.0, b.1, y.1, y.2)))
+      ]
     ]
-  ]
-  | inr m ↦ elim m [
-    | inl n ↦ inr (inr (inr (inl n)))
-    | inr k ↦ elim k [
-      | inl i ↦ inr (inr (inr (inr (inl i))))
-      | inr w ↦ inr (inr (inr (inr (inr (w.0, w.2.0, w.2.1, w.1, w.2.2, w.2.3, w.2.4)))))
+    | inr m ↦ elim m [
+      | inl n ↦ inr (inr (inr (inl n)))
+      | inr k ↦ elim k [
+        | inl i ↦ inr (inr (inr (inr (inl i))))
+        | inr w ↦ inr (inr (inr (inr (inr (w.0, w.2.0, w.2.1, w.1, w.2.2, w.2.3, w.2.4)))))
+      ]
     ]
-  ]
-])
+  ],
+)
 
 pub read_has_bad_record : (g : Graph) (c : ℕ) (x : CellRecord) → CellAt g c x → HasBadRead g c → RecordIsBad g c x
 read_has_bad_record g c x at h = of_cell (RecordIsBad g c) g c x h.0 at h.1 (elim h.2 [

@@ -1,17 +1,16 @@
 -- Marks, and the cells that a version needs.
-use Rattle.std.proofs.Common.{◌≡◌, ◌≢◌, ℕ, zero, suc, ◌+◌, ◌-◌, ◌<◌, ◌≤◌, ◌⊎◌, ◌↔◌, Bool, true, false, List, [], ◌∷◌, ◌++◌, length, get_or, set, replicate, Some, refl, sym, ap, ◌∙◌, subst, inl, inr, arith}
+use Rattle.std.proofs.Common.{◌≡◌, ℕ, ◌+◌, ◌-◌, ◌<◌, ◌≤◌, ◌⊎◌, ◌↔◌, Bool, true, false, List, [], ◌∷◌, ◌++◌, length, get_or, set, replicate, refl, sym, ap, ◌∙◌, subst, inl, inr, arith}
 use Rattle.std.specs.Prelude.{Contains}
 use Rattle.std.proofs.lemmas.Bool.{false≢true, cases_eq, cases_lt}
 use Rattle.std.proofs.lemmas.List.{get_or-set_same, get_or-set_other, get_or_past, get_or_default, get_or_read, get_or-replicate, length-replicate}
 use Rattle.std.proofs.lemmas.List.Elements.{Contains-push, Contains-push_cases, Contains-append_left, Contains-get_or}
-use Rattle.graph_model.specs.declared.graph.CellRecord.{CellRecord}
 use Rattle.graph_model.specs.declared.graph.Version.{Version}
 use Rattle.graph_model.specs.declared.graph.Graph.{Graph}
-use Rattle.graph_model.specs.Graphs.{CellAt, VersionAt, ReadsOldOf, Needs}
+use Rattle.graph_model.specs.Graphs.{VersionAt, ReadsOldOf, Needs}
 use Rattle.graph_model.specs.Graphs.{writer, before}
-use Rattle.graph_model.specs.Faults.{Ascends, IsGraph, HasBadRead, HasBadWriter}
+use Rattle.graph_model.specs.Faults.{Ascends, IsGraph}
 use Rattle.graph_model.specs.Marks.{IsMarked, WroteOld, WroteOldOf}
-use Rattle.graph_model.proofs.Lookups.{same_version, version_within, cell_within}
+use Rattle.graph_model.proofs.Lookups.{same_version, cell_within}
 use Rattle.graph_model.proofs.Ascending.{ascends-push}
 
 pub marked_within : (marks : List Bool) (w : ℕ) → IsMarked marks w → w < length marks
@@ -26,9 +25,9 @@ marked_here marks i l = get_or-set_same marks i true false l
 pub marked_still : (marks : List Bool) (i w : ℕ) → IsMarked marks w → IsMarked (set marks i true) w
 marked_still marks i w h = elim (cases_eq w i) [
   | inl e ↦
-    let l : w < length marks = marked_within marks w h in
-    let P : ℕ → Type 0 = λ k. IsMarked (set marks i true) k in
-    subst P (sym e) (marked_here marks i (omega arith))
+      let l : w < length marks = marked_within marks w h in
+      let P : ℕ → Type 0 = λ k. IsMarked (set marks i true) k in
+      subst P (sym e) (marked_here marks i (omega arith))
   | inr n ↦ get_or-set_other marks i w true false n ∙ h
 ]
 
@@ -42,9 +41,10 @@ marked_cases marks i w h = elim (cases_eq w i) [
 pub writer_within : (g : Graph) → IsGraph g → (v : ℕ) (x : Version) → VersionAt g v x → (0 < x.writer) × (x.writer ≤ length g.cells)
 writer_within g is v x at =
     let zero_not : x.writer ≡ 0 → ⊥ = λ e. is.writers v (x, at, inl e) in
-    let over_not : length g.cells < x.writer → ⊥ = λ l. is.writers v (x, at, inr (inl l)) in
-    (elim (cases_lt 0 x.writer) [ inl l ↦ l | inr l ↦ absurd (zero_not (omega arith)) ],
-    elim (cases_lt (length g.cells) x.writer) [ inl l ↦ absurd (over_not l) | inr l ↦ l ])
+    let over_not : length g.cells < x.writer → ⊥ = λ l. is.writers v (x, at, inr (inl l)) in (
+      elim (cases_lt 0 x.writer) [ inl l ↦ l | inr l ↦ absurd (zero_not (omega arith)) ],
+      elim (cases_lt (length g.cells) x.writer) [ inl l ↦ absurd (over_not l) | inr l ↦ l ],
+    )
 
 pub old_writer_within : (g : Graph) → IsGraph g → (v w : ℕ) → WroteOld g v w → (0 < w) × (w ≤ length g.cells)
 old_writer_within g is v w o =
@@ -59,8 +59,8 @@ pub reads_old_before : (g : Graph) → IsGraph g → (c w : ℕ) → ReadsOldOf 
 reads_old_before g is c w r = elim (cases_lt w c) [
   | inl l ↦ l
   | inr l ↦
-    let P : ℕ → Type 0 = λ n. c ≤ n in
-    absurd (is.reads c (r.0, r.3, inr (inr (inl (r.1, r.2, r.4, r.5, inl (subst P (sym r.7) l))))))
+      let P : ℕ → Type 0 = λ n. c ≤ n in
+      absurd (is.reads c (r.0, r.3, inr (inr (inl (r.1, r.2, r.4, r.5, inl (subst P (sym r.7) l))))))
 ]
 
 -- `marks` are `old` and the writers of the replaced versions among the first i of `reads`
@@ -86,10 +86,10 @@ marks_some g reads old marks i u m l o = record {
   whole = λ k w b p. elim (cases_lt k i) [
     | inl s ↦ marked_still marks u w (m.whole k w s p)
     | inr s ↦
-      let same : k ≡ i = omega arith in
-      let P : ℕ → Type 0 = λ n. WroteOld g (get_or reads n 0) w in
-      let Q : ℕ → Type 0 = λ n. IsMarked (set marks u true) n in
-      subst Q (same_old_writer g (get_or reads i 0) u w o (subst P same p)) (marked_here marks u l)
+        let same : k ≡ i = omega arith in
+        let P : ℕ → Type 0 = λ n. WroteOld g (get_or reads n 0) w in
+        let Q : ℕ → Type 0 = λ n. IsMarked (set marks u true) n in
+        subst Q (same_old_writer g (get_or reads i 0) u w o (subst P same p)) (marked_here marks u l)
   ];
 }
 
@@ -104,28 +104,28 @@ marks_same g reads old marks i m n = record {
   whole = λ k w b p. elim (cases_lt k i) [
     | inl s ↦ m.whole k w s p
     | inr s ↦
-      let same : k ≡ i = omega arith in
-      let P : ℕ → Type 0 = λ j. WroteOld g (get_or reads j 0) w in
-      absurd (n w (subst P same p))
+        let same : k ≡ i = omega arith in
+        let P : ℕ → Type 0 = λ j. WroteOld g (get_or reads j 0) w in
+        absurd (n w (subst P same p))
   ];
 }
 
 pub marks_all : (g : Graph) (reads : List ℕ) (old marks : List Bool) (i : ℕ) → length reads ≤ i → i ≤ length reads → MarksSo g reads old marks i
     → (w : ℕ) → IsMarked marks w ↔ (IsMarked old w ⊎ WroteOldOf g reads w)
 marks_all g reads old marks i low high m w = (
-    (λ h. elim (m.sound w h) [
-      | inl p ↦ inl p
-      | inr p ↦ let below : p.0 < i = p.1 in inr (get_or reads p.0 0, Contains-get_or reads p.0 0 (omega arith), p.2)
-    ]),
-    (λ h. elim h [
-      | inl p ↦ m.kept w p
-      | inr p ↦
+  (λ h. elim (m.sound w h) [
+    | inl p ↦ inl p
+    | inr p ↦ let below : p.0 < i = p.1 in inr (get_or reads p.0 0, Contains-get_or reads p.0 0 (omega arith), p.2)
+  ]),
+  (λ h. elim h [
+    | inl p ↦ m.kept w p
+    | inr p ↦
         let c = p.1 in
         let l : c.0 < length reads = c.1 in
         let e = get_or_default reads c.0 0 p.0 l ∙ c.2 in
         let P : ℕ → Type 0 = λ n. WroteOld g n w in
         m.whole c.0 w (omega arith) (subst P (sym e) p.2)
-    ])
+  ]),
 )
 
 -- among the first i places, `numbers` are those with a mark
@@ -147,9 +147,9 @@ numbers_more marks numbers i n h = record {
   whole = λ k l m. elim (cases_lt k i) [
     | inl s ↦ Contains-append_left numbers (i ∷ []) k (n.whole k s m)
     | inr s ↦
-      let same : i ≡ k = omega arith in
-      let P : ℕ → Type 0 = λ j. Contains (numbers ++ i ∷ []) j in
-      subst P same (Contains-push numbers i)
+        let same : i ≡ k = omega arith in
+        let P : ℕ → Type 0 = λ j. Contains (numbers ++ i ∷ []) j in
+        subst P same (Contains-push numbers i)
   ];
 }
 
@@ -237,7 +237,7 @@ none_marked n marks e w h =
 pub one_marked : (g : Graph) (v u : ℕ) (x : Version) → VersionAt g v x → x.writer ≡ u → (marks : List Bool) → u < length marks → ((w : ℕ) → IsMarked marks w → ⊥)
     → (w : ℕ) → IsMarked (set marks u true) w ↔ ((x : Version) × VersionAt g v x × (x.writer ≡ w))
 one_marked g v u x at e marks l n w = (
-    (λ h. elim (marked_cases marks u w h) [ inl p ↦ absurd (n w p) | inr q ↦ (x, at, e ∙ q) ]),
-    (λ h. let P : ℕ → Type 0 = λ j. IsMarked (set marks u true) j in
-      subst P (sym e ∙ (ap (λ (y : Version). y.writer) (same_version g v x h.0 at h.1) ∙ h.2)) (marked_here marks u l))
+  (λ h. elim (marked_cases marks u w h) [ inl p ↦ absurd (n w p) | inr q ↦ (x, at, e ∙ q) ]),
+  (λ h. let P : ℕ → Type 0 = λ j. IsMarked (set marks u true) j in
+      subst P (sym e ∙ (ap (λ (y : Version). y.writer) (same_version g v x h.0 at h.1) ∙ h.2)) (marked_here marks u l)),
 )

@@ -1,5 +1,5 @@
 -- What walks over lists and numbers have seen.
-use Rattle.std.proofs.Common.{◌≡◌, ℕ, zero, suc, ◌+◌, ◌-◌, ◌<◌, ◌≤◌, List, length, get_or, sym, ap, subst, inl, inr, arith}
+use Rattle.std.proofs.Common.{◌≡◌, ℕ, ◌+◌, ◌<◌, List, length, get_or, sym, subst, inl, inr, arith}
 use Rattle.std.specs.Prelude.{Contains}
 use Rattle.std.proofs.lemmas.List.{get_or_read}
 use Rattle.std.proofs.lemmas.Bool.{cases_lt, cases_order}
@@ -14,9 +14,9 @@ pub none_more : {X : Type 0} (P : X → Type 0) (xs : List X) (i : ℕ) (x : X) 
 none_more {X} P xs i x l e h n k d m p = elim (cases_lt k i) [
   | inl s ↦ h k d s p
   | inr s ↦
-    let same : k ≡ i = omega arith in
-    let Q : ℕ → Type 0 = λ j. P (get_or xs j d) in
-    n (subst P (sym (get_or_read xs i x l e d)) (subst Q same p))
+      let same : k ≡ i = omega arith in
+      let Q : ℕ → Type 0 = λ j. P (get_or xs j d) in
+      n (subst P (sym (get_or_read xs i x l e d)) (subst Q same p))
 ]
 
 -- a walk over numbers: what fails below i + 1 and at i + 1 fails below i + 2

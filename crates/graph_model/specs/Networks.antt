@@ -1,10 +1,8 @@
 -- The plan network, and plans with a flow that shows that none costs less.
-use Rattle.std.specs.Prelude.{◌≡◌, ℕ, zero, suc, ◌+◌, ◌-◌, ◌++◌, Bool, false, true, not, ◌&&◌, cond, ◌==◌, nat_lt, List, [], ◌∷◌, map, filter, count_by, length, slice_get, Some, None}
+use Rattle.std.specs.Prelude.{◌≡◌, ℕ, zero, suc, ◌+◌, ◌-◌, ◌++◌, Bool, false, not, ◌&&◌, cond, ◌==◌, nat_lt, List, [], ◌∷◌, map, filter, count_by, length, slice_get, Some, None}
 use Rattle.std.specs.List.{flat_map, list_any}
 use Rattle.flow_model.specs.declared.Arc.{Arc}
 use Rattle.flow_model.specs.Flows.{Net, IsLegal, value}
-use Rattle.graph_model.specs.declared.graph.CellRecord.{CellRecord}
-use Rattle.graph_model.specs.declared.graph.Version.{Version}
 use Rattle.graph_model.specs.declared.graph.Graph.{Graph}
 use Rattle.graph_model.specs.declared.plan.Plan.{Plan}
 use Rattle.graph_model.specs.declared.plan.Weights.{Weights}
@@ -78,7 +76,7 @@ rerun_arc g w c = record { from = node.Cell c; to = Sink; capacity = rerun_capac
 -- cell to the writers of the replaced versions that it read, and from each cell to the sink
 abbrev pub network : Graph → Weights → List PlanArc
 network g w = ((map (copy_arc g w) (actives g) ++ map (writer_arc g) (actives g)) ++ flat_map (λ c. map (read_arc c) (old_writers g c)) (cell_numbers g))
-  ++ map (rerun_arc g w) (cell_numbers g)
+    ++ map (rerun_arc g w) (cell_numbers g)
 
 -- the number of a node: source and sink, then the active versions in order, then the cells
 abbrev pub number_of : Graph → Node → ℕ

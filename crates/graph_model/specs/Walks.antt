@@ -27,8 +27,8 @@ IsReplacedOtherwise g v replaced name = (u : ℕ) × (y : Version) × IsNextWith
 -- version of its own writer
 abbrev pub ClashesBy : Graph → ℕ → Version → List ℕ → Type 0
 ClashesBy g v x name = IsReplacedOtherwise g v x.replaced name
-  ⊎ ((x.replaced ≢ 0) × ((u : ℕ) (y : Version) → VersionAt g u y → y.writer ≡ x.replaced → ¬ Contains y.names name))
-  ⊎ WritesElsewhere g v x.writer name
+    ⊎ ((x.replaced ≢ 0) × ((u : ℕ) (y : Version) → VersionAt g u y → y.writer ≡ x.replaced → ¬ Contains y.names name))
+    ⊎ WritesElsewhere g v x.writer name
 
 abbrev pub SomeClashes : Graph → ℕ → Version → Type 0
 SomeClashes g v x = (name : List ℕ) × Contains x.names name × ClashesBy g v x name

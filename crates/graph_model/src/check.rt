@@ -5,11 +5,10 @@ ghost use Rattle.graph_model.specs.Graphs.{VersionAt};
 ghost use Rattle.graph_model.specs.Faults.{ComesBefore, HasBadNames, HasBadWriter, IsTwoActive, HasBadRead, IsNextWith, Never, IsFault, IsGraph};
 ghost use Rattle.graph_model.specs.Walks.{HasName, WritesElsewhere, WrittenBefore, ClashesBy, CannotRead, HasNoVariable, HasNoIdentifier, NamesAreBad, CellsAreBad, StandsOutOfOrder, ReadsAreBad, MissesAreBad, IsReplacedOtherwise, SomeClashes, HasWrongReads, HasWrongMisses, RecordIsBad};
 
-use plain_data::Text;
-use py_names::{is_identifier, is_variable};
-
 use crate::graph::{CellRecord, Graph, GraphFault, Version};
 use crate::order::{has_name, is_below, least_name, numbers_ascend, texts_ascend};
+use plain_data::Text;
+use py_names::{is_identifier, is_variable};
 
 fn has_no_variable(names: &[Text]) -> bool
     ensures { IsTrue result ↔ HasNoVariable names.now }
@@ -47,8 +46,7 @@ fn comes_before(x: &Version, y: &Version) -> bool
     ensures { IsTrue result ↔ ComesBefore x.now y.now }
 {
     let least = least_name(x.names.as_slice());
-    x.writer < y.writer
-        || (x.writer == y.writer && is_below(least, least_name(y.names.as_slice())))
+    x.writer < y.writer || (x.writer == y.writer && is_below(least, least_name(y.names.as_slice())))
 }
 
 fn cells_are_bad(cells: usize, version: &Version) -> bool

@@ -14,3 +14,6 @@ mod plan;
 
 pub use graph::{CellRecord, Graph, GraphFault, Version};
 pub use plan::{Certified, FlowArc, Node, Plan, Tally, Weights};
+
+#[cfg(test)]
+mod tests;

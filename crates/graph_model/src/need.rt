@@ -4,9 +4,8 @@ ghost use Rattle.graph_model.specs.Graphs.{VersionAt, Needs, ReadsOldOf};
 ghost use Rattle.graph_model.specs.Faults.{Ascends, IsGraph};
 ghost use Rattle.graph_model.specs.Marks.{IsMarked, WroteOld, WroteOldOf};
 
-use std::alloc::{AllocError, Global};
-
 use crate::graph::Graph;
+use std::alloc::{AllocError, Global};
 
 /// The numbers at which there is a mark, ascending.
 fn marked_numbers(alloc: Global, marks: &[bool]) -> Result<Vec<u32>, AllocError>

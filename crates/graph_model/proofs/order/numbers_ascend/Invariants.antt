@@ -1,5 +1,5 @@
-use Rattle.std.proofs.Common.{◌≡◌, ◌<◌, ◌∷◌, drop}
-use Rattle.graph_model.specs.Faults.{TextBelow, Ascends}
+use Rattle.std.proofs.Common.{◌<◌, ◌∷◌, drop}
+use Rattle.graph_model.specs.Faults.{Ascends}
 use Rattle.graph_model.proofs.order.numbers_ascend.Given as goal
 
 abbrev pub invariant-loop-number : goal.invariant-loop-number

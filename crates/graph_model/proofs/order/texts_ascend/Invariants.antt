@@ -1,4 +1,4 @@
-use Rattle.std.proofs.Common.{◌≡◌, ◌<◌, ◌∷◌, drop}
+use Rattle.std.proofs.Common.{◌∷◌, drop}
 use Rattle.graph_model.specs.Faults.{TextBelow, Ascends}
 use Rattle.graph_model.proofs.order.texts_ascend.Given as goal
 

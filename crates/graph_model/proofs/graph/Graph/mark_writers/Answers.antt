@@ -1,4 +1,4 @@
-use Rattle.std.proofs.Common.{◌≡◌, ◌<◌, ◌≤◌, ◌+◌, List, Bool, length, sym, subst, arith}
+use Rattle.std.proofs.Common.{◌+◌, List, Bool, sym, subst, arith}
 use Rattle.graph_model.proofs.Needing.{MarksSo, marks_none, marks_some, marks_same, marks_all, old_writer_within}
 use Rattle.graph_model.proofs.graph.Graph.mark_writers.Goals as goal
 use Rattle.graph_model.proofs.graph.Graph.mark_writers.Goals.{in-Some, in_default}
@@ -14,8 +14,8 @@ loop-v-preserved c =
     let P : List Bool → Type 0 = λ marks. MarksSo c.args.self.now c.args.reads.now c.args.marks.now marks (c.loop-v.v-index + 1) in
     elim c.match-old_writer.branch [
       | in-Some w ↦
-        let b = old_writer_within c.args.self.now c.requires.graph _ _ w.in-Some.ensures in
-        subst P (sym w.marks-is) (marks_some _ _ _ _ _ w.in-Some.writer c.loop-v.invariant (omega arith) w.in-Some.ensures)
+          let b = old_writer_within c.args.self.now c.requires.graph _ _ w.in-Some.ensures in
+          subst P (sym w.marks-is) (marks_some _ _ _ _ _ w.in-Some.writer c.loop-v.invariant (omega arith) w.in-Some.ensures)
       | in_default w ↦ subst P (sym w.marks-is) (marks_same _ _ _ _ _ c.loop-v.invariant w.in_default.ensures)
     ]
 

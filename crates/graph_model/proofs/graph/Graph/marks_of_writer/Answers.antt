@@ -1,4 +1,4 @@
-use Rattle.std.proofs.Common.{◌≡◌, ◌<◌, ◌≤◌, ◌+◌, List, Bool, length, sym, subst, arith}
+use Rattle.std.proofs.Common.{◌+◌, arith}
 use Rattle.graph_model.proofs.Needing.{writer_within, one_marked, none_marked}
 use Rattle.graph_model.proofs.graph.Graph.marks_of_writer.Goals as goal
 
@@ -18,4 +18,4 @@ returns-clause-writer c =
     let l = c.in_ok-marks.ensures.len in
     let n = c.len.ensures in
     one_marked c.args.self.now c.args.v _ c.writer-writer.ensures.0 c.writer-writer.ensures.1 c.writer-writer.ensures.2 c.in_ok-marks.marks.items (omega arith)
-        (none_marked (c.len.result + 1) _ (c.in_ok-marks.ensures.items_if_clones_equal (λ y e. e)))
+    (none_marked (c.len.result + 1) _ (c.in_ok-marks.ensures.items_if_clones_equal (λ y e. e)))

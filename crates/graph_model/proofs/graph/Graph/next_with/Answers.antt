@@ -1,4 +1,4 @@
-use Rattle.std.proofs.Common.{◌≡◌, ℕ, ◌+◌, ◌<◌, ◌≤◌, length, arith}
+use Rattle.std.proofs.Common.{◌<◌, arith}
 use Rattle.std.proofs.lemmas.Bool.{false≢true}
 use Rattle.graph_model.specs.Walks.{HasName}
 use Rattle.graph_model.proofs.Walking.{never_more}
@@ -13,7 +13,7 @@ returns-then-has_name c =
 pub loop-before-preserved : goal.loop-before-preserved
 loop-before-preserved c = λ m b l h.
     never_more (λ n. (c.args.v < n) × (HasName c.args.self.now c.args.name.now n)) c.loop-before.before
-        (λ n k p. c.loop-before.invariant n p.0 k p.1) (λ p. false≢true (c.if-has_name.ensures.1 p.1)) m l (b, h)
+    (λ n k p. c.loop-before.invariant n p.0 k p.1) (λ p. false≢true (c.if-has_name.ensures.1 p.1)) m l (b, h)
 
 pub returns : goal.returns
 returns c = λ u b h.

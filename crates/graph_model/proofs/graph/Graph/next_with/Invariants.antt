@@ -1,4 +1,4 @@
-use Rattle.std.proofs.Common.{ℕ, ◌+◌, ◌<◌, ◌≤◌}
+use Rattle.std.proofs.Common.{ℕ, ◌+◌, ◌<◌}
 use Rattle.graph_model.specs.Walks.{HasName}
 use Rattle.graph_model.proofs.graph.Graph.next_with.Given as goal
 

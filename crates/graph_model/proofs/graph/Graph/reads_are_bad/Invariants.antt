@@ -1,4 +1,4 @@
-use Rattle.std.proofs.Common.{ℕ, ◌<◌, List, get_or}
+use Rattle.std.proofs.Common.{ℕ, ◌<◌, get_or}
 use Rattle.graph_model.specs.Walks.{CannotRead}
 use Rattle.graph_model.proofs.graph.Graph.reads_are_bad.Given as goal
 
