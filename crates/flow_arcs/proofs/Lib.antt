@@ -1,0 +1,4 @@
+pub mod Sums
+pub mod Searching
+pub mod Pushing
+pub mod Solving

@@ -1,0 +1,53 @@
+use Rattle.std.proofs.Common.{◌≡◌, ℕ, ◌-◌, ◌<◌, Bool, List, length, get_or, replicate, subst, sym, ◌∙◌, arith}
+use Rattle.std.proofs.lemmas.List.{get_or_read, with_items_is}
+use Rattle.flow_model.specs.declared.Arc.{Arc}
+use Rattle.flow_model.specs.Flows.{Net, IsNet, IsLegal, IsGreatest, value, cut_capacity}
+use Rattle.flow_arcs.specs.declared.search.Reached.{Reached}
+use Rattle.flow_arcs.specs.Sides.{side}
+use Rattle.flow_arcs.specs.Searches.{IsSearch, IsClosed}
+use Rattle.flow_arcs.proofs.Solving.{idle_legal, total_capacity, given_bound, reached, cut_reached, capacity_reached, greatest_from_cut}
+use Rattle.flow_arcs.proofs.solve.max_flow_with_cut.Goals as goal
+
+idle_from : (net : Net) (arcs : List Arc) (on : List ℕ) → arcs ≡ net.arcs → on ≡ replicate (length arcs) 0 → IsLegal net on
+idle_from net arcs on a o = rw (o, a) (idle_legal net)
+
+least_from : (net : Net) (on on' on'' : List ℕ) (tree : List Reached) (seen seen' : List ℕ) (inside inside' : List Bool) (mark : ℕ) → IsNet net → IsLegal net on → on' ≡ on → IsSearch net.arcs on' tree seen
+    → (get_or seen 1 0 ≡ 0 → IsClosed net.arcs on' seen) → 1 < length seen → mark ≡ get_or seen 1 mark → mark ≡ 0 → seen' ≡ seen → inside ≡ reached seen' → inside' ≡ inside → on'' ≡ on
+    → cut_capacity (side inside') net.arcs ≡ value net on''
+least_from net on on' on'' tree seen seen' inside inside' mark n l o h c b r z s i j p =
+    let m = sym (get_or_read seen 1 mark b r 0) ∙ z in
+    rw (j, i, s, p) (capacity_reached net on tree seen n l (rw o at h) m (rw o at (c m)))
+
+greatest_from : (net : Net) (on on' on'' : List ℕ) (tree : List Reached) (seen seen' : List ℕ) (inside inside' : List Bool) (mark : ℕ) → IsNet net → IsLegal net on → on' ≡ on → IsSearch net.arcs on' tree seen
+    → (get_or seen 1 0 ≡ 0 → IsClosed net.arcs on' seen) → 1 < length seen → mark ≡ get_or seen 1 mark → mark ≡ 0 → seen' ≡ seen → inside ≡ reached seen' → inside' ≡ inside → on'' ≡ on
+    → IsGreatest net on''
+greatest_from net on on' on'' tree seen seen' inside inside' mark n l o h c b r z s i j p =
+    let m = sym (get_or_read seen 1 mark b r 0) ∙ z in
+    rw p (greatest_from_cut net on (side (reached seen)) n (cut_reached net.arcs on' tree seen h m) (capacity_reached net on tree seen n l (rw o at h) m (rw o at (c m))))
+
+smaller_from : (net : Net) (on on' on'' : List ℕ) → on' ≡ on → IsLegal net on'' → value net on' < value net on'' → total_capacity net.arcs - value net on'' < total_capacity net.arcs - value net on
+smaller_from net on on' on'' e l h = let k = rw e at h in let b = given_bound net.arcs on'' 0 l.within in omega arith
+
+pub loop-on-init : goal.loop-on-init
+loop-on-init c = idle_from c.args.net.now c.arcs-arcs.result.now _ c.arcs-arcs.ensures.value (c.in_ok-on.ensures.items_if_clones_equal (λ y h. h))
+
+pub returns-then-index-eq0-clause-least : goal.returns-then-index-eq0-clause-least
+returns-then-index-eq0-clause-least c =
+    least_from c.args.net.now c.loop-on.on.items c.deref.result.now c.from_vec.result c.in_ok-search.search.tree.items c.in_ok-search.search.seen.items c.deref-then-index-eq0.result.now
+    c.in_ok-reached_nodes.field-0.items c.from_vec-then-index-eq0.result c.index.result.now c.arcs-arcs.ensures.net c.loop-on.invariant c.deref.ensures.value
+    c.in_ok-search.ensures.search c.in_ok-search.ensures.closed (let n = c.in_ok-search.ensures.nodes in let e = c.arcs-arcs.ensures.net.ends in omega arith)
+    c.index.ensures c.if-index-eq0.true c.deref-then-index-eq0.ensures.value c.in_ok-reached_nodes.ensures c.from_vec-then-index-eq0.ensures c.from_vec.ensures
+
+pub returns-then-index-eq0-clause-greatest : goal.returns-then-index-eq0-clause-greatest
+returns-then-index-eq0-clause-greatest c =
+    greatest_from c.args.net.now c.loop-on.on.items c.deref.result.now c.from_vec.result c.in_ok-search.search.tree.items c.in_ok-search.search.seen.items c.deref-then-index-eq0.result.now
+    c.in_ok-reached_nodes.field-0.items c.from_vec-then-index-eq0.result c.index.result.now c.arcs-arcs.ensures.net c.loop-on.invariant c.deref.ensures.value
+    c.in_ok-search.ensures.search c.in_ok-search.ensures.closed (let n = c.in_ok-search.ensures.nodes in let e = c.arcs-arcs.ensures.net.ends in omega arith)
+    c.index.ensures c.if-index-eq0.true c.deref-then-index-eq0.ensures.value c.in_ok-reached_nodes.ensures c.from_vec-then-index-eq0.ensures c.from_vec.ensures
+
+pub loop-on-smaller : goal.loop-on-smaller
+loop-on-smaller c =
+    let s = smaller_from c.args.net.now c.loop-on.on.items c.deref_mut.result.now c.push_along.new.on c.deref_mut.ensures.value c.push_along.ensures.legal c.push_along.ensures.raised in
+    let l : length c.push_along.new.on ≡ c.loop-on.on.len = omega (arith, c.push_along.auto.on, c.deref_mut.ensures.len) in
+    subst (λ (xs : List ℕ). total_capacity c.args.net.now.arcs - value c.args.net.now xs < total_capacity c.args.net.now.arcs - value c.args.net.now c.loop-on.on.items)
+    (sym (with_items_is c.loop-on.on c.push_along.new.on l)) s

@@ -1,0 +1,8 @@
+-- What is true of each network.
+use Rattle.std.specs.Prelude.{◌<◌, ◌^◌, length}
+use Rattle.flow_model.specs.Flows.{Net, IsNet}
+
+-- a network whose arcs' numbers fit 32 bits
+pub record IsNumbered (net : Net) : Type 0 where
+  pub legal : IsNet net
+  pub few : length net.arcs < 2 ^ 32

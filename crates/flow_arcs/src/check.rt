@@ -1,0 +1,39 @@
+ghost use Rattle.std.specs.Prelude.{◌≡◌, MatchResult};
+ghost use Rattle.flow_model.specs.Flows.{IsLegal};
+ghost use Rattle.flow_arcs.specs.Faults.{IsFirstFault};
+
+use crate::flow::{Flow, given_by, taken_by};
+use crate::network::Network;
+
+/// What is wrong with a flow.
+#[derive(Clone, Copy, Debug, PartialEq, Eq)]
+pub enum FlowFault {
+    /// It doesn't have one number for each arc.
+    Length,
+    /// That arc carries more than its capacity, and it is the first.
+    Over(u32),
+    /// That inner node doesn't give what it takes, and it is the first.
+    Unbalanced(u32),
+}
+
+/// Whether a flow is legal, and else its first fault: its length, then the arcs, then the nodes. Takes no memory.
+pub fn check_flow(net: &Network, flow: &Flow) -> Result<(), FlowFault>
+    ensures { MatchResult result (λ _. IsLegal net.now flow.now.on) (IsFirstFault net.now flow.now.on) }
+{
+    let arcs = net.arcs();
+    let on = flow.on.as_slice();
+    if on.len() != arcs.len() {
+        return Err(FlowFault::Length);
+    }
+    for (i, arc) in arcs.iter().enumerate() {
+        if on[i] > arc.capacity {
+            return Err(FlowFault::Over(i as u32));
+        }
+    }
+    for node in 2..net.nodes() {
+        if taken_by(arcs, on, node) != given_by(arcs, on, node) {
+            return Err(FlowFault::Unbalanced(node));
+        }
+    }
+    Ok(())
+}

@@ -1,0 +1,54 @@
+ghost use Rattle.std.specs.Prelude.{◌≡◌, IfOk, length, map, nat_lt};
+ghost use Rattle.flow_model.specs.Flows.{IsLegal, IsGreatest, IsCut, value, cut_capacity};
+ghost use Rattle.flow_arcs.specs.Sides.{side};
+
+use crate::chains::chain_arcs;
+use crate::flow::{Cut, Flow};
+use crate::network::Network;
+use crate::push::push_along;
+use crate::search::search_room;
+use plain_data::Items;
+use std::alloc::{AllocError, Global};
+
+/// A greatest flow.
+pub fn max_flow(alloc: Global, net: &Network) -> Result<Flow, AllocError>
+    ensures legal { IfOk result (λ flow. IsLegal net.now flow.on) }
+    ensures greatest { IfOk result (λ flow. IsGreatest net.now flow.on) }
+{
+    let (flow, _) = max_flow_with_cut(alloc, net)?;
+    Ok(flow)
+}
+
+/// A greatest flow, and a cut of that capacity, which says of each node whether it is in.
+pub fn max_flow_with_cut(alloc: Global, net: &Network) -> Result<(Flow, Cut), AllocError>
+    ensures legal { IfOk result (λ both. IsLegal net.now both.0.on) }
+    ensures cut { IfOk result (λ both. IsCut (side both.1.inside)) }
+    ensures nodes { IfOk result (λ both. length both.1.inside ≡ net.now.nodes) }
+    ensures greatest { IfOk result (λ both. IsGreatest net.now both.0.on) }
+    ensures least { IfOk result (λ both. cut_capacity (side both.1.inside) net.now.arcs ≡ value net.now both.0.on) }
+{
+    let arcs = net.arcs();
+    let leaving = chain_arcs(alloc, net.nodes(), arcs, true)?;
+    let entering = chain_arcs(alloc, net.nodes(), arcs, false)?;
+    let mut on = vec![in alloc; 0u64; arcs.len()]?;
+    loop {
+        let search = search_room(alloc, net, &on, &leaving, &entering)?;
+        if search.seen[1] == 0 {
+            let flow = Flow {
+                on: Items::from_vec(on),
+            };
+            let cut = Cut {
+                inside: Items::from_vec(reached_nodes(alloc, &search.seen)?),
+            };
+            return Ok((flow, cut));
+        }
+        push_along(net, &mut on, &search);
+    }
+}
+
+/// For each node whether it was reached.
+fn reached_nodes(alloc: Global, seen: &[usize]) -> Result<Vec<bool>, AllocError>
+    ensures { IfOk result (λ inside. inside.items ≡ map (λ mark. nat_lt 0 mark) seen.now) }
+{
+    seen.iter().map(|mark| *mark > 0).collect(alloc)
+}

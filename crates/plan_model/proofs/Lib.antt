@@ -1,0 +1,3 @@
+pub mod Ascents
+pub mod Deciding
+pub mod Failures

@@ -1,0 +1,8 @@
+//! Plans judged: weights, feasibility, cost, and the laws that tie plans to cuts of the plan network.
+#![tactic(auto)]
+
+mod feasibility;
+mod weights;
+
+pub use feasibility::{Item, feasible};
+pub use weights::{Weight, WeightFault, check_weights};
