@@ -3,6 +3,7 @@
 
 mod costs;
 mod feasibility;
+pub mod laws;
 mod weights;
 
 pub use costs::cost;
