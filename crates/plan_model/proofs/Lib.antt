@@ -7,3 +7,4 @@ pub mod Reading
 pub mod Cutting
 pub mod Duality
 pub mod Uncut
+pub mod Flowing
