@@ -13,6 +13,7 @@ mod order;
 mod plan;
 
 pub use graph::{CellRecord, Graph, GraphFault, Version};
+pub use order::numbers_ascend;
 pub use plan::{Certified, FlowArc, Node, Plan, Tally, Weights};
 
 #[cfg(test)]

@@ -34,7 +34,7 @@ pub(crate) fn texts_ascend(texts: &[Text]) -> bool
 }
 
 /// Whether each number but the last is below the next.
-pub(crate) fn numbers_ascend(numbers: &[u32]) -> bool
+pub fn numbers_ascend(numbers: &[u32]) -> bool
     ensures { IsTrue result ↔ Ascends (λ m n. m < n) numbers.now }
 {
     let Some((mut last, rest)) = numbers.split_first() else {
