@@ -1,0 +1,13 @@
+//! The plan network of a history graph, and a least-cost plan by a least cut of it.
+//!
+//! The network has the source, the active versions, the cells and the sink. What a cut separates from the source costs
+//! its copy, and what it leaves with the source costs its run: so a least cut is a least-cost plan. (Li et al.,
+//! ElasticNotebook, PVLDB 17(2).)
+#![tactic(auto)]
+
+mod active;
+mod capacity;
+mod network;
+mod writers;
+
+pub use network::network_of;
