@@ -1,6 +1,6 @@
 -- Numbers that ascend.
-use Rattle.std.proofs.Common.{◌≡◌, ℕ, zero, suc, ◌+◌, ◌-◌, ◌<◌, ◌≤◌, ◌⊎◌, ◌↔◌, Bool, true, false, cond, List, [], ◌∷◌, length, get_or, Ok, Err, Result, refl, sym, ap, ◌∙◌, subst, inl, inr, arith}
-use Rattle.std.specs.Prelude.{Contains, nat_lt, IsTrue}
+use Rattle.std.proofs.Common.{◌≡◌, ℕ, zero, suc, ◌<◌, ◌≤◌, ◌↔◌, Bool, List, [], ◌∷◌, length, get_or, Ok, Err, Result, refl, sym, ◌∙◌, subst, inl, inr, arith}
+use Rattle.std.specs.Prelude.{Contains, IsTrue}
 use Rattle.std.specs.Result.{is_ok}
 use Rattle.std.specs.Ordering.{nat_cmp}
 use Rattle.std.specs.List.Sorted.{IsBinarySearchResult}
@@ -39,14 +39,15 @@ found xs x (Ok i) h b =
     let s = searched xs x (Ok i) b (rises-upto xs h) in
     (λ t. (i, s.0, get_or_default xs i x 0 s.0 ∙ s.1), λ c. refl)
 found xs x (Err i) h b =
-    let s = searched xs x (Err i) b (rises-upto xs h) in
-    (λ t. absurd (false≢true t),
-    λ c. let l : c.0 < length xs = c.1 in
-      let e = get_or_default xs c.0 0 x l ∙ c.2 in
-      absurd (elim (cases_lt c.0 i) [
-        | inl a ↦ let k = s.1 c.0 a in omega arith
-        | inr a ↦ let k = s.2 c.0 a l in omega arith
-      ]))
+    let s = searched xs x (Err i) b (rises-upto xs h) in (
+      λ t. absurd (false≢true t),
+      λ c. let l : c.0 < length xs = c.1 in
+          let e = get_or_default xs c.0 0 x l ∙ c.2 in
+          absurd (elim (cases_lt c.0 i) [
+            | inl a ↦ let k = s.1 c.0 a in omega arith
+            | inr a ↦ let k = s.2 c.0 a l in omega arith
+          ]),
+    )
 
 -- a binary search tells whether a number is among numbers that ascend
 pub found_contained : (xs : List ℕ) (x : ℕ) (r : Result ℕ ℕ) → Rises xs → IsBinarySearchResult (λ y. nat_cmp y x) xs r → (b : Bool) → b ≡ is_ok r → IsTrue b ↔ Contains xs x

@@ -1,6 +1,6 @@
 -- A feasible plan costs no more than all finite weights.
-use Rattle.std.proofs.Common.{◌≡◌, ℕ, zero, suc, ◌+◌, ◌-◌, ◌<◌, ◌≤◌, Bool, true, false, cond, List, length, get_or, Option, Some, None, refl, sym, ap, ◌∙◌, subst, inl, inr, arith}
-use Rattle.std.specs.Prelude.{Contains, sum_by, slice_get, ◌==◌, filter}
+use Rattle.std.proofs.Common.{◌≡◌, ℕ, ◌+◌, ◌-◌, ◌<◌, ◌≤◌, false, cond, length, Option, Some, None, ap, ◌∙◌, inl, inr, arith}
+use Rattle.std.specs.Prelude.{sum_by, slice_get, ◌==◌, filter}
 use Rattle.std.proofs.lemmas.Bool.{cases_Bool, cond-true, cond-false, eq-eqb}
 use Rattle.std.proofs.lemmas.Option.{slice_get-get_or}
 use Rattle.graph_model.specs.declared.graph.CellRecord.{CellRecord}
@@ -8,11 +8,11 @@ use Rattle.graph_model.specs.declared.graph.Version.{Version}
 use Rattle.graph_model.specs.declared.graph.Graph.{Graph}
 use Rattle.graph_model.specs.declared.plan.Plan.{Plan}
 use Rattle.graph_model.specs.declared.plan.Weights.{Weights}
-use Rattle.graph_model.specs.Graphs.{CellAt, VersionAt, IsActive}
-use Rattle.graph_model.specs.Plans.{NamesOf, IsFeasible, AreAdmitted, copy_cost, rerun_cost, copy_weight, rerun_weight, finite_copy, finite_rerun, total_weight, cost}
+use Rattle.graph_model.specs.Graphs.{CellAt, VersionAt}
+use Rattle.graph_model.specs.Plans.{NamesOf, IsFeasible, copy_cost, rerun_cost, copy_weight, rerun_weight, finite_copy, finite_rerun, total_weight, cost}
 use Rattle.graph_model.specs.Networks.{count_up}
 use Rattle.graph_model.proofs.Lookups.{version_within, cell_within}
-use Rattle.plan_model.proofs.Listing.{is_in, is_in-has, has-is_in, rising_filter, sum-filter, sum-same, sum-le, sum-places}
+use Rattle.plan_model.proofs.Listing.{is_in, is_in-has, rising_filter, sum-filter, sum-le, sum-places}
 
 -- the finite weight at a number
 abbrev pub finite_copy_at : Graph → Weights → ℕ → ℕ
@@ -55,17 +55,17 @@ copies_within g w p n f =
     let b = sum-filter (copy_cost g w) (is_in p.copied) V in
     let c = sum-le (λ v. cond (is_in p.copied v) (copy_cost g w v) 0) (finite_copy_at g w) V (λ v m. elim (cases_Bool (is_in p.copied v)) [
       | inl t ↦
-        let h = is_in-has p.copied v t in
-        let x = n.copied v h in
-        let u = cond-true (is_in p.copied v) (copy_cost g w v) 0 t in
-        let q = copy_cost_at g w v x.0 x.1.0 in
-        let r = finite_copy_is g w v x.0 x.1.0 x.1.1 (f.no_handle v x.0 h x.1.0) in
-        omega (arith, u, q, r)
+          let h = is_in-has p.copied v t in
+          let x = n.copied v h in
+          let u = cond-true (is_in p.copied v) (copy_cost g w v) 0 t in
+          let q = copy_cost_at g w v x.0 x.1.0 in
+          let r = finite_copy_is g w v x.0 x.1.0 x.1.1 (f.no_handle v x.0 h x.1.0) in
+          omega (arith, u, q, r)
       | inr t ↦ let u = cond-false (is_in p.copied v) (copy_cost g w v) 0 t in omega (arith, u)
     ]) in
     let d = sum-places (finite_copy w) (finite_copy_at g w) g.versions 1 (λ k d l.
-        let e : 1 + k - 1 ≡ k = omega arith in
-        ap (at_option (finite_copy w)) (ap (λ (j : ℕ). slice_get g.versions j) e ∙ slice_get-get_or g.versions k d l)) in
+    let e : 1 + k - 1 ≡ k = omega arith in
+    ap (at_option (finite_copy w)) (ap (λ (j : ℕ). slice_get g.versions j) e ∙ slice_get-get_or g.versions k d l)) in
     omega (arith, a, b, c, d)
 
 pub reruns_within : (g : Graph) (w : Weights) (p : Plan) → NamesOf g p → IsFeasible g p → sum_by (rerun_cost g w) p.rerun ≤ sum_by (finite_rerun w) g.cells
@@ -75,17 +75,17 @@ reruns_within g w p n f =
     let b = sum-filter (rerun_cost g w) (is_in p.rerun) C in
     let c = sum-le (λ v. cond (is_in p.rerun v) (rerun_cost g w v) 0) (finite_rerun_at g w) C (λ v m. elim (cases_Bool (is_in p.rerun v)) [
       | inl t ↦
-        let h = is_in-has p.rerun v t in
-        let x = n.rerun v h in
-        let u = cond-true (is_in p.rerun v) (rerun_cost g w v) 0 t in
-        let q = rerun_cost_at g w v x.0 x.1 in
-        let r = finite_rerun_is g w v x.0 x.1 (f.no_draw v x.0 h x.1) in
-        omega (arith, u, q, r)
+          let h = is_in-has p.rerun v t in
+          let x = n.rerun v h in
+          let u = cond-true (is_in p.rerun v) (rerun_cost g w v) 0 t in
+          let q = rerun_cost_at g w v x.0 x.1 in
+          let r = finite_rerun_is g w v x.0 x.1 (f.no_draw v x.0 h x.1) in
+          omega (arith, u, q, r)
       | inr t ↦ let u = cond-false (is_in p.rerun v) (rerun_cost g w v) 0 t in omega (arith, u)
     ]) in
     let d = sum-places (finite_rerun w) (finite_rerun_at g w) g.cells 1 (λ k d l.
-        let e : 1 + k - 1 ≡ k = omega arith in
-        ap (at_option (finite_rerun w)) (ap (λ (j : ℕ). slice_get g.cells j) e ∙ slice_get-get_or g.cells k d l)) in
+    let e : 1 + k - 1 ≡ k = omega arith in
+    ap (at_option (finite_rerun w)) (ap (λ (j : ℕ). slice_get g.cells j) e ∙ slice_get-get_or g.cells k d l)) in
     omega (arith, a, b, c, d)
 
 pub cost_within : (g : Graph) (w : Weights) (p : Plan) → NamesOf g p → IsFeasible g p → cost g w p ≤ total_weight g w

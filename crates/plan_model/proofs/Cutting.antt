@@ -1,16 +1,15 @@
 -- The plan network is a network, and what a cut of it may carry is a sum over versions and cells.
-use Rattle.std.proofs.Common.{◌≡◌, ◌≢◌, ℕ, zero, suc, ◌+◌, ◌-◌, ◌<◌, ◌≤◌, ◌⊎◌, Bool, true, false, not, cond, ◌&&◌, List, [], ◌∷◌, ◌++◌, map, length, get_or, refl, sym, ap, ◌∙◌, subst, inl, inr, arith}
-use Rattle.std.specs.Prelude.{Contains, sum_by, nat_lt, count_by}
+use Rattle.std.proofs.Common.{◌≡◌, ℕ, ◌+◌, ◌<◌, ◌≤◌, Bool, true, false, not, cond, ◌&&◌, List, [], ◌∷◌, ◌++◌, map, length, refl, sym, ap, ◌∙◌, subst, arith}
+use Rattle.std.specs.Prelude.{Contains, sum_by}
 use Rattle.std.specs.List.{flat_map, AllByRecursion}
 use Rattle.std.proofs.lemmas.Bool.{false≢true}
 use Rattle.std.proofs.lemmas.List.Sums.{sum_by-cons, sum_by-append}
-use Rattle.flow_model.specs.declared.Arc.{Arc}
-use Rattle.flow_model.specs.Flows.{Net, Joins, IsNet, cut_capacity}
+use Rattle.flow_model.specs.Flows.{Joins, IsNet, cut_capacity}
 use Rattle.graph_model.specs.declared.graph.Graph.{Graph}
 use Rattle.graph_model.specs.declared.plan.Weights.{Weights}
 use Rattle.graph_model.specs.declared.plan.Node.TheVariants as node
 use Rattle.graph_model.specs.Faults.{IsGraph}
-use Rattle.graph_model.specs.Networks.{PlanArc, count_up, cell_numbers, actives, old_writers, writer_of, copy_arc, writer_arc, read_arc, rerun_arc, network, number_of, numbered, net_of}
+use Rattle.graph_model.specs.Networks.{PlanArc, cell_numbers, actives, old_writers, writer_of, copy_arc, writer_arc, read_arc, rerun_arc, network, number_of, numbered, net_of}
 use Rattle.graph_model.proofs.Needing.{writer_within}
 use Rattle.plan_model.proofs.Listing.{count_up-from, count_up-to, every-append, every-map, every-flat_map, sum-map, sum-flat_map, sum-same}
 use Rattle.plan_model.proofs.Reading.{actives-at, actives-rise, writer_of-at, cell_numbers-at, cell_numbers-has, old_writers-from, rank-below}
@@ -81,15 +80,15 @@ pub plan_network_is_net : (g : Graph) (w : Weights) → IsGraph g → IsNet (net
 plan_network_is_net g w is = record {
   ends = omega arith;
   joined = joined-map g (network g w)
-    (every-append (IsJoined g) ((map (copy_arc g w) (actives g) ++ map (writer_arc g) (actives g)) ++ flat_map (λ c. map (read_arc c) (old_writers g c)) (cell_numbers g)) (map (rerun_arc g w) (cell_numbers g))
-        (every-append (IsJoined g) (map (copy_arc g w) (actives g) ++ map (writer_arc g) (actives g)) (flat_map (λ c. map (read_arc c) (old_writers g c)) (cell_numbers g))
-            (every-append (IsJoined g) (map (copy_arc g w) (actives g)) (map (writer_arc g) (actives g))
-                (every-map (IsJoined g) (copy_arc g w) (actives g) (joined-copy g w))
-                (every-map (IsJoined g) (writer_arc g) (actives g) (joined-writer g is)))
-            (every-flat_map (IsJoined g) (λ c. map (read_arc c) (old_writers g c)) (cell_numbers g) (λ c i.
-                every-map (IsJoined g) (read_arc c) (old_writers g c) (λ d j.
-                    let x = cell_numbers-at g c i in joined-read g c d i (old_writers-from g is c d x.0 x.1 j).0))))
-        (every-map (IsJoined g) (rerun_arc g w) (cell_numbers g) (joined-rerun g w)));
+      (every-append (IsJoined g) ((map (copy_arc g w) (actives g) ++ map (writer_arc g) (actives g)) ++ flat_map (λ c. map (read_arc c) (old_writers g c)) (cell_numbers g)) (map (rerun_arc g w) (cell_numbers g))
+      (every-append (IsJoined g) (map (copy_arc g w) (actives g) ++ map (writer_arc g) (actives g)) (flat_map (λ c. map (read_arc c) (old_writers g c)) (cell_numbers g))
+      (every-append (IsJoined g) (map (copy_arc g w) (actives g)) (map (writer_arc g) (actives g))
+      (every-map (IsJoined g) (copy_arc g w) (actives g) (joined-copy g w))
+      (every-map (IsJoined g) (writer_arc g) (actives g) (joined-writer g is)))
+      (every-flat_map (IsJoined g) (λ c. map (read_arc c) (old_writers g c)) (cell_numbers g) (λ c i.
+      every-map (IsJoined g) (read_arc c) (old_writers g c) (λ d j.
+      let x = cell_numbers-at g c i in joined-read g c d i (old_writers-from g is c d x.0 x.1 j).0))))
+      (every-map (IsJoined g) (rerun_arc g w) (cell_numbers g) (joined-rerun g w)));
 }
 
 -- what an arc adds to what the arcs that leave the set may carry
@@ -127,7 +126,7 @@ cut-parts side g w =
     let b = sum-map T (writer_arc g) (actives g) in
     let c = sum-flat_map T (λ c. map (read_arc c) (old_writers g c)) (cell_numbers g) in
     let e = sum-same (λ c. sum_by T (map (read_arc c) (old_writers g c))) (λ c. sum_by (λ d. T (read_arc c d)) (old_writers g c)) (cell_numbers g)
-        (λ n m. sum-map T (read_arc n) (old_writers g n)) in
+    (λ n m. sum-map T (read_arc n) (old_writers g n)) in
     let d = sum-map T (rerun_arc g w) (cell_numbers g) in
     let p = sum_by-append T (A ++ B ++ C) D in
     let q = sum_by-append T (A ++ B) C in

@@ -1,5 +1,5 @@
 -- Whether a number is among numbers.
-use Rattle.std.proofs.Common.{◌≡◌, ◌≢◌, ℕ, zero, suc, ◌+◌, ◌<◌, ◌⊎◌, List, [], ◌∷◌, length, get_or, inl, inr, refl, sym, subst, arith}
+use Rattle.std.proofs.Common.{◌≡◌, ℕ, zero, suc, ◌+◌, ◌<◌, ◌⊎◌, List, [], ◌∷◌, length, get_or, inl, inr, refl, subst, arith}
 use Rattle.std.specs.Prelude.{Contains}
 use Rattle.std.proofs.lemmas.Bool.{cases_eq, cases_lt}
 use Rattle.std.proofs.lemmas.List.{get_or_default}
@@ -38,7 +38,7 @@ pub all_more : (P : ℕ → Type 0) (xs : List ℕ) (i : ℕ) → i < length xs 
 all_more P xs i l h p k d m = elim (cases_lt k i) [
   | inl s ↦ h k d s
   | inr s ↦
-    let same : i ≡ k = omega arith in
-    let Q : ℕ → Type 0 = λ j. P (get_or xs j d) in
-    subst Q same (subst P (get_or_default xs i 0 d l) p)
+      let same : i ≡ k = omega arith in
+      let Q : ℕ → Type 0 = λ j. P (get_or xs j d) in
+      subst Q same (subst P (get_or_default xs i 0 d l) p)
 ]

@@ -1,10 +1,9 @@
 -- Numbers that rise, filters, and sums over them.
-use Rattle.std.proofs.Common.{◌≡◌, ℕ, zero, suc, ◌+◌, ◌-◌, ◌<◌, ◌≤◌, ◌⊎◌, Bool, true, false, not, cond, ◌&&◌, ◌||◌, List, [], ◌∷◌, ◌++◌, map, length, get_or, refl, sym, ap, ◌∙◌, subst, inl, inr, zero-add, arith}
+use Rattle.std.proofs.Common.{◌≡◌, ℕ, zero, suc, ◌+◌, ◌<◌, ◌≤◌, Bool, true, false, cond, ◌||◌, List, [], ◌∷◌, ◌++◌, map, length, get_or, refl, sym, ap, ◌∙◌, subst, inl, inr, arith}
 use Rattle.std.specs.Prelude.{◌==◌, Contains, sum_by, filter}
 use Rattle.std.specs.List.{flat_map, AllByRecursion}
-use Rattle.std.proofs.lemmas.Bool.{false≢true, true≢false, cases_lt, cases_eq, eq-eqb, eqb-true, ne_eqb, cases_Bool, cond-true, cond-false, or_left, or_right, or_cases, false_from_ne_true}
+use Rattle.std.proofs.lemmas.Bool.{false≢true, cases_eq, eq-eqb, eqb-true, ne_eqb, cases_Bool, cond-true, cond-false, or_left, or_right, or_cases, false_from_ne_true}
 use Rattle.std.proofs.lemmas.List.Sums.{sum_by-cons, sum_by-append}
-use Rattle.graph_model.specs.Faults.{Ascends}
 use Rattle.graph_model.specs.Networks.{count_up}
 use Rattle.plan_model.proofs.Ascents.{Rises, rises-tail}
 use Rattle.plan_model.proofs.Deciding.{contains-tail, contains-head, contains-cases, contains-nil}
@@ -66,9 +65,9 @@ filter-has {X} p (x ∷ xs) n c h =
     let P : List X → Type 0 = λ ys. Contains ys n in
     elim (contains-cases x xs n c) [
       | inl e ↦
-        let Q : X → Type 0 = λ y. p y ≡ true in
-        let R : X → Type 0 = λ y. Contains (x ∷ filter p xs) y in
-        subst P (sym (filter-yes p x xs (subst Q (sym e) h))) (subst R e (contains-head x (filter p xs)))
+          let Q : X → Type 0 = λ y. p y ≡ true in
+          let R : X → Type 0 = λ y. Contains (x ∷ filter p xs) y in
+          subst P (sym (filter-yes p x xs (subst Q (sym e) h))) (subst R e (contains-head x (filter p xs)))
       | inr d ↦ elim (cases_Bool (p x)) [
         | inl t ↦ subst P (sym (filter-yes p x xs t)) (contains-tail x (filter p xs) n (filter-has p xs n d h))
         | inr f ↦ subst P (sym (filter-no p x xs f)) (filter-has p xs n d h)
@@ -82,9 +81,9 @@ filter-from {X} p (x ∷ xs) n c =
     elim (cases_Bool (p x)) [
       | inl t ↦ elim (contains-cases x (filter p xs) n (subst P (filter-yes p x xs t) c)) [
         | inl e ↦
-          let Q : X → Type 0 = λ y. p y ≡ true in
-          let R : X → Type 0 = λ y. Contains (x ∷ xs) y in
-          (subst R e (contains-head x xs), subst Q e t)
+            let Q : X → Type 0 = λ y. p y ≡ true in
+            let R : X → Type 0 = λ y. Contains (x ∷ xs) y in
+            (subst R e (contains-head x xs), subst Q e t)
         | inr d ↦ let i = filter-from p xs n d in (contains-tail x xs n i.0, i.1)
       ]
       | inr f ↦ let i = filter-from p xs n (subst P (filter-no p x xs f) c) in (contains-tail x xs n i.0, i.1)
@@ -133,25 +132,27 @@ rising_filter [] a k r b = none (count_up a k)
 rising_filter (m ∷ ms) a zero r b = let i = b m (contains-head m ms) in let l : a ≤ m = i.0 in let h : m < a + 0 = i.1 in absurd (omega arith)
 rising_filter (m ∷ ms) a (suc k) r b = elim (cases_eq m a) [
   | inl e ↦
-    let rest : filter (is_in (m ∷ ms)) (count_up (suc a) k) ≡ filter (is_in ms) (count_up (suc a) k) =
-        filter-same (is_in (m ∷ ms)) (is_in ms) (count_up (suc a) k)
-            (λ n c. let l = count_up-from (suc a) k n c in ap (λ (t : Bool). t || is_in ms n) (ne_eqb m n (λ f. omega arith))) in
-    let tail = rising_filter ms (suc a) k (rises-tail m ms r) (λ n c.
-        let i = b n (contains-tail m ms n c) in let h : n < a + suc k = i.1 in let l = rises-above m ms r n c in (omega arith, omega arith)) in
-    filter-yes (is_in (m ∷ ms)) a (count_up (suc a) k) (or_left (m == a) (is_in ms a) (eq-eqb m a e)) ∙ (ap (λ (ys : List ℕ). a ∷ ys) (rest ∙ tail) ∙ ap (λ (j : ℕ). j ∷ ms) (sym e))
+      let rest : filter (is_in (m ∷ ms)) (count_up (suc a) k) ≡ filter (is_in ms) (count_up (suc a) k) =
+      filter-same (is_in (m ∷ ms)) (is_in ms) (count_up (suc a) k)
+      (λ n c. let l = count_up-from (suc a) k n c in ap (λ (t : Bool). t || is_in ms n) (ne_eqb m n (λ f. omega arith))) in
+      let tail = rising_filter ms (suc a) k (rises-tail m ms r) (λ n c.
+      let i = b n (contains-tail m ms n c) in let h : n < a + suc k = i.1 in let l = rises-above m ms r n c in (omega arith, omega arith)) in
+      filter-yes (is_in (m ∷ ms)) a (count_up (suc a) k) (or_left (m == a) (is_in ms a) (eq-eqb m a e)) ∙ (ap (λ (ys : List ℕ). a ∷ ys) (rest ∙ tail) ∙ ap (λ (j : ℕ). j ∷ ms) (sym e))
   | inr d ↦
-    let low = (b m (contains-head m ms)).0 in
-    let past : is_in (m ∷ ms) a ≡ true → ⊥ = λ t. elim (contains-cases m ms a (is_in-has (m ∷ ms) a t)) [
-      | inl e ↦ d e
-      | inr c ↦ let l = rises-above m ms r a c in let h : a ≤ m = low in absurd (omega arith)
-    ] in
-    filter-no (is_in (m ∷ ms)) a (count_up (suc a) k) (false_from_ne_true (is_in (m ∷ ms) a) past)
-    ∙ rising_filter (m ∷ ms) (suc a) k r (λ n c.
-        let i = b n c in let h : n < a + suc k = i.1 in
-        (elim (contains-cases m ms n c) [
+      let low = (b m (contains-head m ms)).0 in
+      let past : is_in (m ∷ ms) a ≡ true → ⊥ = λ t. elim (contains-cases m ms a (is_in-has (m ∷ ms) a t)) [
+        | inl e ↦ d e
+        | inr c ↦ let l = rises-above m ms r a c in let h : a ≤ m = low in absurd (omega arith)
+      ] in
+      filter-no (is_in (m ∷ ms)) a (count_up (suc a) k) (false_from_ne_true (is_in (m ∷ ms) a) past)
+      ∙ rising_filter (m ∷ ms) (suc a) k r (λ n c.
+      let i = b n c in let h : n < a + suc k = i.1 in (
+        elim (contains-cases m ms n c) [
           | inl e ↦ let l : a ≤ m = low in omega arith
           | inr f ↦ let l : a ≤ m = low in let g = rises-above m ms r n f in omega arith
-        ], omega arith))
+        ],
+        omega arith,
+      ))
 ]
 
 -- sums
@@ -163,13 +164,13 @@ sum-filter {X} f p (x ∷ xs) =
     let s = sum_by-cons (λ y. cond (p y) (f y) 0) x xs in
     elim (cases_Bool (p x)) [
       | inl t ↦
-        let a = ap (sum_by f) (filter-yes p x xs t) ∙ sum_by-cons f x (filter p xs) in
-        let b = cond-true (p x) (f x) 0 t in
-        omega (arith, a, b, r, s)
+          let a = ap (sum_by f) (filter-yes p x xs t) ∙ sum_by-cons f x (filter p xs) in
+          let b = cond-true (p x) (f x) 0 t in
+          omega (arith, a, b, r, s)
       | inr t ↦
-        let a = ap (sum_by f) (filter-no p x xs t) in
-        let b = cond-false (p x) (f x) 0 t in
-        omega (arith, a, b, r, s)
+          let a = ap (sum_by f) (filter-no p x xs t) in
+          let b = cond-false (p x) (f x) 0 t in
+          omega (arith, a, b, r, s)
     ]
 
 pub sum-same : {X : Type 0} (f g : X → ℕ) (xs : List X) → ((n : X) → Contains xs n → f n ≡ g n) → sum_by f xs ≡ sum_by g xs

@@ -1,10 +1,9 @@
 -- What the words of the plan network say of a graph.
-use Rattle.std.proofs.Common.{◌≡◌, ◌≢◌, ℕ, zero, suc, ◌+◌, ◌-◌, ◌<◌, ◌≤◌, ◌⊎◌, Bool, true, false, not, cond, ◌&&◌, List, [], ◌∷◌, length, get_or, Option, Some, None, refl, sym, ap, ◌∙◌, subst, inl, inr, arith}
-use Rattle.std.specs.Prelude.{Contains, sum_by, slice_get, ◌==◌, nat_lt, count_by, filter}
+use Rattle.std.proofs.Common.{◌≡◌, ℕ, suc, ◌-◌, ◌<◌, ◌≤◌, Bool, true, false, not, cond, ◌&&◌, List, [], ◌∷◌, length, get_or, Option, Some, None, sym, ap, ◌∙◌, subst, inl, inr, arith}
+use Rattle.std.specs.Prelude.{Contains, ◌==◌, nat_lt, count_by}
 use Rattle.std.specs.List.{list_any}
-use Rattle.std.proofs.lemmas.Bool.{false≢true, true≢false, cases_Bool, cases_lt, cond-true, cond-false, eq-eqb, eqb-true, ne_eqb, not-true, not_from_false, and_parts, and_from, lt-ltb, le-ltb}
+use Rattle.std.proofs.lemmas.Bool.{true≢false, cases_lt, cond-true, cond-false, eq-eqb, eqb-true, ne_eqb, not-true, not_from_false, and_parts, and_from, lt-ltb, le-ltb}
 use Rattle.std.proofs.lemmas.Option.{slice_get_cases}
-use Rattle.std.proofs.lemmas.List.{get_or_default}
 use Rattle.std.proofs.lemmas.List.Folds.{Any-from_list_any, list_any-from_Any}
 use Rattle.std.proofs.lemmas.List.Sums.{sum_by-cons}
 use Rattle.graph_model.specs.declared.graph.CellRecord.{CellRecord}
@@ -12,9 +11,8 @@ use Rattle.graph_model.specs.declared.graph.Version.{Version}
 use Rattle.graph_model.specs.declared.graph.Graph.{Graph}
 use Rattle.graph_model.specs.Graphs.{CellAt, VersionAt, IsActive, ReadsOldOf}
 use Rattle.graph_model.specs.Faults.{IsGraph}
-use Rattle.graph_model.specs.Marks.{WroteOld}
 use Rattle.graph_model.specs.Networks.{count_up, cell_numbers, is_active_at, actives, is_old_of, reads_of, old_writers, writer_of}
-use Rattle.graph_model.proofs.Lookups.{version_within, cell_within, same_version}
+use Rattle.graph_model.proofs.Lookups.{version_within, cell_within}
 use Rattle.graph_model.proofs.Needing.{writer_within}
 use Rattle.plan_model.proofs.Ascents.{Rises, rises-tail}
 use Rattle.plan_model.proofs.Deciding.{contains-cases, contains-nil}
@@ -125,7 +123,7 @@ old_writers-has g is c w o =
     let P : List ℕ → Type 0 = λ reads. list_any (is_old_of g w) reads ≡ true in
     let r = o.4 in
     filter-has (λ u. list_any (is_old_of g u) (reads_of g c)) (cell_numbers g) w n
-        (subst P (sym (reads_of-at g c x o.3)) (list_any-from_Any (is_old_of g w) x.reads (r.0, v, r.1, r.2, t)))
+    (subst P (sym (reads_of-at g c x o.3)) (list_any-from_Any (is_old_of g w) x.reads (r.0, v, r.1, r.2, t)))
 
 -- a number that stands in numbers that rise has as many below it there as its place says
 
@@ -135,14 +133,14 @@ rank-below (x ∷ xs) v r c =
     let s = sum_by-cons (λ u. cond (nat_lt u v) 1 0) x xs in
     elim (contains-cases x xs v c) [
       | inl e ↦
-        let a = cond-false {A = ℕ} (nat_lt x v) 1 0 (le-ltb x v (omega arith)) in
-        let z = sum-zero (λ u. cond (nat_lt u v) 1 0) xs (λ n m. let l = rises-above x xs r n m in cond-false {A = ℕ} (nat_lt n v) 1 0 (le-ltb n v (omega arith))) in
-        omega (arith, s, a, z)
+          let a = cond-false {A = ℕ} (nat_lt x v) 1 0 (le-ltb x v (omega arith)) in
+          let z = sum-zero (λ u. cond (nat_lt u v) 1 0) xs (λ n m. let l = rises-above x xs r n m in cond-false {A = ℕ} (nat_lt n v) 1 0 (le-ltb n v (omega arith))) in
+          omega (arith, s, a, z)
       | inr d ↦
-        let l = rises-above x xs r v d in
-        let a = cond-true {A = ℕ} (nat_lt x v) 1 0 (lt-ltb x v l) in
-        let i = rank-below xs v (rises-tail x xs r) d in
-        omega (arith, s, a, i)
+          let l = rises-above x xs r v d in
+          let a = cond-true {A = ℕ} (nat_lt x v) 1 0 (lt-ltb x v l) in
+          let i = rank-below xs v (rises-tail x xs r) d in
+          omega (arith, s, a, i)
     ]
 
 pub rank-at : (xs : List ℕ) (v d : ℕ) → Rises xs → Contains xs v → get_or xs (count_by (λ u. nat_lt u v) xs) d ≡ v
@@ -152,13 +150,13 @@ rank-at (x ∷ xs) v d r c =
     let at : ℕ → ℕ = λ k. get_or (x ∷ xs) k d in
     elim (contains-cases x xs v c) [
       | inl e ↦
-        let a = cond-false {A = ℕ} (nat_lt x v) 1 0 (le-ltb x v (omega arith)) in
-        let z = sum-zero (λ u. cond (nat_lt u v) 1 0) xs (λ n m. let l = rises-above x xs r n m in cond-false {A = ℕ} (nat_lt n v) 1 0 (le-ltb n v (omega arith))) in
-        let k : count_by (λ u. nat_lt u v) (x ∷ xs) ≡ 0 = omega (arith, s, a, z) in
-        ap at k ∙ e
+          let a = cond-false {A = ℕ} (nat_lt x v) 1 0 (le-ltb x v (omega arith)) in
+          let z = sum-zero (λ u. cond (nat_lt u v) 1 0) xs (λ n m. let l = rises-above x xs r n m in cond-false {A = ℕ} (nat_lt n v) 1 0 (le-ltb n v (omega arith))) in
+          let k : count_by (λ u. nat_lt u v) (x ∷ xs) ≡ 0 = omega (arith, s, a, z) in
+          ap at k ∙ e
       | inr m ↦
-        let l = rises-above x xs r v m in
-        let a = cond-true {A = ℕ} (nat_lt x v) 1 0 (lt-ltb x v l) in
-        let k : count_by (λ u. nat_lt u v) (x ∷ xs) ≡ suc (count_by (λ u. nat_lt u v) xs) = omega (arith, s, a) in
-        ap at k ∙ rank-at xs v d (rises-tail x xs r) m
+          let l = rises-above x xs r v m in
+          let a = cond-true {A = ℕ} (nat_lt x v) 1 0 (lt-ltb x v l) in
+          let k : count_by (λ u. nat_lt u v) (x ∷ xs) ≡ suc (count_by (λ u. nat_lt u v) xs) = omega (arith, s, a) in
+          ap at k ∙ rank-at xs v d (rises-tail x xs r) m
     ]

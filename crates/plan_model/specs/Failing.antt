@@ -1,5 +1,5 @@
 -- Where a plan is not feasible.
-use Rattle.std.specs.Prelude.{◌≡◌, ◌≢◌, ℕ, ◌<◌, ◌⊎◌, true, List, Contains}
+use Rattle.std.specs.Prelude.{◌≡◌, ℕ, ◌⊎◌, true, List, Contains}
 use Rattle.flow_model.specs.First.{IsFirst}
 use Rattle.graph_model.specs.declared.graph.CellRecord.{CellRecord}
 use Rattle.graph_model.specs.declared.graph.Version.{Version}

@@ -1,5 +1,5 @@
 -- What is wrong with weights.
-use Rattle.std.specs.Prelude.{◌≡◌, ℕ, ◌<◌, ◌≤◌}
+use Rattle.std.specs.Prelude.{◌≡◌, ◌<◌, ◌≤◌}
 use Rattle.graph_model.specs.declared.graph.Graph.{Graph}
 use Rattle.graph_model.specs.declared.plan.Weights.{Weights}
 use Rattle.graph_model.specs.Plans.{total_weight}

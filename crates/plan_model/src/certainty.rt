@@ -4,11 +4,10 @@ ghost use Rattle.graph_model.specs.Plans.{NamesOf, AreAdmitted};
 ghost use Rattle.graph_model.specs.Networks.{net_of};
 ghost use Rattle.plan_model.specs.Checking.{IsJudged};
 
-use flow_arcs::{Flow, FlowFault, Network, check_flow};
-use graph_model::{Graph, Plan, Weights};
-
 use crate::costs::cost;
 use crate::feasibility::{Item, feasible};
+use flow_arcs::{Flow, FlowFault, Network, check_flow};
+use graph_model::{Graph, Plan, Weights};
 
 /// What a plan is, judged with a flow.
 #[derive(Clone, Copy, Debug, PartialEq, Eq)]

@@ -2,9 +2,8 @@ ghost use Rattle.std.specs.Prelude.{◌≡◌, ◌<◌, ◌≤◌, ◌+◌, ◌^
 ghost use Rattle.graph_model.specs.Faults.{IsGraph};
 ghost use Rattle.graph_model.specs.Plans.{NamesOf, IsFeasible, AreAdmitted, copy_cost, rerun_cost, cost};
 
-use graph_model::{Graph, Plan, Weights};
-
 use crate::weights::{copy_weight, rerun_weight};
+use graph_model::{Graph, Plan, Weights};
 
 /// What copying version `v` costs.
 fn copy_cost(graph: &Graph, weights: &Weights, v: u32) -> u64

@@ -19,5 +19,5 @@ pub fn a_least_cut_is_a_feasible_plan()
     ensures { (g : Graph) (w : Weights) (side : ℕ → Bool) → IsGraph g → AreAdmitted g w → IsCut side
         → cut_capacity side (net_of g w).arcs < 2 ^ 63
         → NamesOf g (plan_of_cut g side) × IsFeasible g (plan_of_cut g side)
-            × (cost g w (plan_of_cut g side) ≡ cut_capacity side (net_of g w).arcs) }
+        × (cost g w (plan_of_cut g side) ≡ cut_capacity side (net_of g w).arcs) }
 {}

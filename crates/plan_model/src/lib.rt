@@ -13,3 +13,6 @@ pub use costs::cost;
 pub use feasibility::{Item, feasible};
 pub use names::is_plan_of;
 pub use weights::{Weight, WeightFault, check_weights};
+
+#[cfg(test)]
+mod tests;

@@ -8,7 +8,8 @@ pub returns-then-has : goal.returns-then-has
 returns-then-has c =
     let x = c.in-Some.cell.now in
     let P : List ℕ → Type 0 = λ rerun. RerunFails c.args.graph.now rerun x in
-    let Q : List ℕ → Type 0 = λ rerun. Contains rerun c.args.c in
-    (λ t. rerun_fails_cell c.args.graph.now c.args.plan.now c.args.c x c.in-Some.ensures
-        (subst Q c.as_slice-rerun.ensures (c.has.ensures.0 c.if-has.true)) (subst P c.as_slice-rerun.ensures (c.rerun_fails.ensures.0 t)),
-    λ h. c.rerun_fails.ensures.1 (subst P (sym c.as_slice-rerun.ensures) (cell_fails_rerun c.args.graph.now c.args.plan.now c.args.c x c.in-Some.ensures h).1))
+    let Q : List ℕ → Type 0 = λ rerun. Contains rerun c.args.c in (
+      λ t. rerun_fails_cell c.args.graph.now c.args.plan.now c.args.c x c.in-Some.ensures
+          (subst Q c.as_slice-rerun.ensures (c.has.ensures.0 c.if-has.true)) (subst P c.as_slice-rerun.ensures (c.rerun_fails.ensures.0 t)),
+      λ h. c.rerun_fails.ensures.1 (subst P (sym c.as_slice-rerun.ensures) (cell_fails_rerun c.args.graph.now c.args.plan.now c.args.c x c.in-Some.ensures h).1),
+    )

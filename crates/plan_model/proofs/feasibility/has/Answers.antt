@@ -1,4 +1,3 @@
-use Rattle.std.proofs.Common.{◌≡◌, ℕ, ◌<◌, ◌≤◌, arith}
 use Rattle.plan_model.proofs.Ascents.{found_contained}
 use Rattle.plan_model.proofs.feasibility.has.Goals as goal
 
