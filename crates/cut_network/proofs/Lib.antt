@@ -4,4 +4,6 @@ pub mod Writing
 pub mod Spreading
 pub mod Bounding
 pub mod Showing
+pub mod Choosing
 pub mod Sticking
+pub mod Certifying

@@ -1,12 +1,12 @@
 -- The cells that the handles need, as a set that can be asked.
-use Rattle.std.proofs.Common.{◌≡◌, ℕ, zero, suc, ◌+◌, ◌-◌, ◌<◌, ◌≤◌, ◌⊎◌, Bool, true, false, ◌&&◌, ◌||◌, List, length, refl, sym, ap, ◌∙◌, subst, inl, inr, arith}
-use Rattle.std.specs.Prelude.{Contains, slice_get, ◌==◌}
+use Rattle.std.proofs.Common.{◌≡◌, ℕ, zero, suc, ◌-◌, ◌<◌, ◌≤◌, ◌⊎◌, Bool, true, ◌&&◌, ◌||◌, length, refl, sym, ap, ◌∙◌, subst, inl, inr, arith}
+use Rattle.std.specs.Prelude.{slice_get, ◌==◌}
 use Rattle.std.specs.List.{list_any}
-use Rattle.std.proofs.lemmas.Bool.{false≢true, cases_eq, or_left, or_right, or_cases, and_parts, and_from, eq-eqb, eqb-true}
+use Rattle.std.proofs.lemmas.Bool.{cases_eq, or_left, or_right, or_cases, and_parts, and_from, eq-eqb, eqb-true}
 use Rattle.std.proofs.lemmas.List.Folds.{Any-from_list_any, list_any-from_Any}
 use Rattle.graph_model.specs.declared.graph.Version.{Version}
 use Rattle.graph_model.specs.declared.graph.Graph.{Graph}
-use Rattle.graph_model.specs.Graphs.{VersionAt, IsActive, ReadsOldOf, Needs}
+use Rattle.graph_model.specs.Graphs.{IsActive, ReadsOldOf, Needs}
 use Rattle.graph_model.specs.Graphs.{writer, before}
 use Rattle.graph_model.specs.Faults.{IsGraph}
 use Rattle.graph_model.specs.Networks.{actives, old_writers}
@@ -32,9 +32,9 @@ spread-step : (g : Graph) → IsGraph g → (n : ℕ) → suc n ≤ length g.cel
 spread-step g is n l S w h = elim (or_cases (S w) (S (suc n) && is_in (old_writers g (suc n)) w) h) [
   | inl s ↦ inl s
   | inr b ↦
-    let p = and_parts (S (suc n)) (is_in (old_writers g (suc n)) w) b in
-    let x = cell_there g (suc n) (omega arith) l in
-    inr (p.0, (old_writers-from g is (suc n) w x.0 x.1 (is_in-has (old_writers g (suc n)) w p.1)).1)
+      let p = and_parts (S (suc n)) (is_in (old_writers g (suc n)) w) b in
+      let x = cell_there g (suc n) (omega arith) l in
+      inr (p.0, (old_writers-from g is (suc n) w x.0 x.1 (is_in-has (old_writers g (suc n)) w p.1)).1)
 ]
 
 -- the cells from the nth on stay as they were
@@ -49,11 +49,11 @@ pub spread-closed : (g : Graph) → IsGraph g → (n : ℕ) → n ≤ length g.c
 spread-closed g is zero l S c w p m h o = absurd (omega arith)
 spread-closed g is (suc n) l S c w p m h o = elim (cases_eq c (suc n)) [
   | inl e ↦
-    let s = spread-low g is (suc n) l S c h (omega arith) in
-    let P : ℕ → Type 0 = λ k. S k ≡ true in
-    let Q : ℕ → Type 0 = λ k. ReadsOldOf g k w in
-    spread-keeps g n (spread_on g (suc n) S) w (or_right (S w) (S (suc n) && is_in (old_writers g (suc n)) w)
-        (and_from (S (suc n)) (is_in (old_writers g (suc n)) w) (subst P e s) (has-is_in (old_writers g (suc n)) w (old_writers-has g is (suc n) w (subst Q e o)))))
+      let s = spread-low g is (suc n) l S c h (omega arith) in
+      let P : ℕ → Type 0 = λ k. S k ≡ true in
+      let Q : ℕ → Type 0 = λ k. ReadsOldOf g k w in
+      spread-keeps g n (spread_on g (suc n) S) w (or_right (S w) (S (suc n) && is_in (old_writers g (suc n)) w)
+      (and_from (S (suc n)) (is_in (old_writers g (suc n)) w) (subst P e s) (has-is_in (old_writers g (suc n)) w (old_writers-has g is (suc n) w (subst Q e o)))))
   | inr d ↦ spread-closed g is n (omega arith) (spread_on g (suc n) S) c w p (omega arith) h o
 ]
 

@@ -8,6 +8,10 @@
 mod active;
 mod capacity;
 mod network;
+mod planner;
+mod shown;
+mod stuck;
 mod writers;
 
 pub use network::network_of;
+pub use planner::{PlanFault, plan};
