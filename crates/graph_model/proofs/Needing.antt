@@ -134,9 +134,6 @@ pub record NumbersSo (marks : List Bool) (numbers : List ℕ) (i : ℕ) : Type 0
   pub sound : (k : ℕ) → Contains numbers k → (k < i) × IsMarked marks k
   pub whole : (k : ℕ) → k < i → IsMarked marks k → Contains numbers k
 
-pub numbers_none : (marks : List Bool) → NumbersSo marks [] 0
-numbers_none marks = record { ascends = tt; sound = λ k c. let l : c.0 < length {A = ℕ} [] = c.1 in absurd (omega arith); whole = λ k l. absurd (omega arith) }
-
 pub numbers_more : (marks : List Bool) (numbers : List ℕ) (i : ℕ) → NumbersSo marks numbers i → IsMarked marks i → NumbersSo marks (numbers ++ i ∷ []) (i + 1)
 numbers_more marks numbers i n h = record {
   ascends = ascends-push (λ m n. m < n) numbers i n.ascends (λ x c. (n.sound x c).0);
