@@ -15,3 +15,6 @@ mod writers;
 
 pub use network::network_of;
 pub use planner::{PlanFault, plan};
+
+#[cfg(test)]
+mod tests;
