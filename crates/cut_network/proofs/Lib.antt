@@ -1,0 +1,9 @@
+pub mod Adding
+pub mod Rising
+pub mod Writing
+pub mod Spreading
+pub mod Bounding
+pub mod Showing
+pub mod Choosing
+pub mod Sticking
+pub mod Certifying

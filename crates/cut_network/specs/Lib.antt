@@ -1,0 +1,3 @@
+pub mod Arcs
+pub mod Shown
+pub mod Drawn

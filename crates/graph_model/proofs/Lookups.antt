@@ -1,0 +1,54 @@
+-- A graph has one version and one record at a number.
+use Rattle.std.proofs.Common.{◌≡◌, ℕ, ◌+◌, ◌-◌, ◌<◌, ◌≤◌, Some, List, length, get_or, refl, subst, arith}
+use Rattle.std.specs.Prelude.{slice_get}
+use Rattle.std.proofs.lemmas.Option.{same_Some, slice_get_within, slice_get_read, get_or_from_slice_get}
+use Rattle.std.proofs.Common.{sym, ◌∙◌}
+use Rattle.graph_model.specs.declared.graph.CellRecord.{CellRecord}
+use Rattle.graph_model.specs.declared.graph.Version.{Version}
+use Rattle.graph_model.specs.declared.graph.Graph.{Graph}
+use Rattle.graph_model.specs.Graphs.{CellAt, VersionAt}
+use Rattle.graph_model.specs.Faults.{IsNextWith}
+use Rattle.graph_model.proofs.Walking.{first_unique}
+
+pub same_version : (g : Graph) (v : ℕ) (x y : Version) → VersionAt g v x → VersionAt g v y → x ≡ y
+same_version g v x y h i = same_Some x y (sym h.1 ∙ i.1)
+
+pub same_cell : (g : Graph) (c : ℕ) (x y : CellRecord) → CellAt g c x → CellAt g c y → x ≡ y
+same_cell g c x y h i = same_Some x y (sym h.1 ∙ i.1)
+
+-- what holds of some version at the number holds of the one there
+pub of_version : (Q : Version → Type 0) (g : Graph) (v : ℕ) (x y : Version) → VersionAt g v x → VersionAt g v y → Q y → Q x
+of_version Q g v x y h i q = subst Q (same_version g v y x i h) q
+
+pub of_cell : (Q : CellRecord → Type 0) (g : Graph) (c : ℕ) (x y : CellRecord) → CellAt g c x → CellAt g c y → Q y → Q x
+of_cell Q g c x y h i q = subst Q (same_cell g c y x i h) q
+
+pub version_within : (g : Graph) (v : ℕ) (x : Version) → VersionAt g v x → (0 < v) × (v ≤ length g.versions)
+version_within g v x h = let p : 0 < v = h.0 in let l = slice_get_within g.versions (v - 1) x h.1 in (p, omega arith)
+
+pub cell_within : (g : Graph) (c : ℕ) (x : CellRecord) → CellAt g c x → (0 < c) × (c ≤ length g.cells)
+cell_within g c x h = let p : 0 < c = h.0 in let l = slice_get_within g.cells (c - 1) x h.1 in (p, omega arith)
+
+-- an element of the list of versions, by its place
+pub version_read : (g : Graph) (ys : List Version) (i : ℕ) (x : Version) → ys ≡ g.versions → i < length ys → x ≡ get_or ys i x → VersionAt g (i + 1) x
+version_read g ys i x same l e =
+    let e1 : i + 1 - 1 ≡ i = omega arith in
+    let P : ℕ → Type 0 = λ k. slice_get g.versions k ≡ Some x in
+    let Q : List Version → Type 0 = λ zs. slice_get zs i ≡ Some x in
+    (omega arith, subst P (sym e1) (subst Q same (slice_get_read ys (length ys) i x refl l e)))
+
+-- what fails at each place of the list of versions fails of each version
+pub none_of_versions : (g : Graph) (P : ℕ → Version → Type 0) → ((k : ℕ) (d : Version) → k < length g.versions → P (k + 1) (get_or g.versions k d) → ⊥)
+    → (u : ℕ) (y : Version) → VersionAt g u y → P u y → ⊥
+none_of_versions g P h u y at p =
+    let w = version_within g u y at in
+    let same : u ≡ u - 1 + 1 = omega arith in
+    let Q : ℕ → Type 0 = λ k. P k y in
+    h (u - 1) y (omega arith) (subst (P (u - 1 + 1)) (sym (get_or_from_slice_get g.versions (u - 1) y y at.1)) (subst Q same p))
+
+-- the next version with a name is one
+pub same_next : (g : Graph) (v : ℕ) (name : List ℕ) (u w : ℕ) (x y : Version) → IsNextWith g v name u → VersionAt g u x → IsNextWith g v name w → VersionAt g w y → x ≡ y
+same_next g v name u w x y h at i bt =
+    let e : w ≡ u = first_unique _ w u i h in
+    let P : ℕ → Type 0 = λ n. VersionAt g n y in
+    same_version g u x y at (subst P e bt)

@@ -1,0 +1,55 @@
+use plain_data::{Items, Text};
+
+/// What is kept of a cell that ended.
+#[derive(Debug, Drop)]
+pub struct CellRecord {
+    /// Its code.
+    pub code: Text,
+    /// The meter as it began.
+    pub meter: u32,
+    /// The steps that it took.
+    pub steps: u32,
+    /// Whether it called `draw()`. A cell that drew is never run again.
+    pub drew: bool,
+    /// The versions that it read, ascending.
+    pub reads: Items<u32>,
+    /// The names that it looked up before any cell had bound them, ascending.
+    pub missing: Items<Text>,
+}
+
+/// What one cell left in one part of the state.
+#[derive(Debug, Drop)]
+pub struct Version {
+    /// The names of the part, ascending.
+    pub names: Items<Text>,
+    /// The cell that wrote it.
+    pub writer: u32,
+    /// The first later cell that wrote one of its names; 0 while the version is active.
+    pub replaced: u32,
+    /// Whether its name was deleted.
+    pub absent: bool,
+    /// Whether the part holds a handle. Such a version is never copied.
+    pub handle: bool,
+    /// The length of the part's text, in bytes; 0 where it is absent or holds a handle.
+    pub size: u32,
+}
+
+/// The cells of a session and the versions that they wrote, each numbered from 1.
+#[derive(Debug, Drop)]
+pub struct Graph {
+    pub cells: Items<CellRecord>,
+    pub versions: Items<Version>,
+}
+
+/// What is wrong with a graph, in the order in which it is looked for.
+#[derive(Clone, Copy, Debug, PartialEq, Eq)]
+pub enum GraphFault {
+    /// The version's writer or the order of the versions.
+    BadWriter(u32),
+    /// What the cell read or missed.
+    BadRead(u32),
+    /// Two versions of one name that hold at once.
+    TwoActive(u32),
+    /// The version's names.
+    BadNames(u32),
+}

@@ -1,0 +1,10 @@
+pub mod Ascents
+pub mod Deciding
+pub mod Failures
+pub mod Listing
+pub mod Costing
+pub mod Reading
+pub mod Cutting
+pub mod Duality
+pub mod Uncut
+pub mod Flowing

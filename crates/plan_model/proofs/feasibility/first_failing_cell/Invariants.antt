@@ -1,0 +1,6 @@
+use Rattle.std.proofs.Common.{ℕ, ◌+◌, ◌<◌}
+use Rattle.plan_model.specs.Failing.{FailsCell}
+use Rattle.plan_model.proofs.feasibility.first_failing_cell.Given as goal
+
+abbrev pub invariant-loop-before : goal.invariant-loop-before
+invariant-loop-before l = (m : ℕ) → m < l.before + 1 → FailsCell l.graph l.plan m → ⊥

@@ -1,0 +1,18 @@
+//! Plans judged: weights, feasibility, cost, and the laws that tie plans to cuts of the plan network.
+#![tactic(auto)]
+
+mod certainty;
+mod costs;
+mod feasibility;
+pub mod laws;
+mod names;
+mod weights;
+
+pub use certainty::{PlanCheck, check_plan};
+pub use costs::cost;
+pub use feasibility::{Item, feasible};
+pub use names::is_plan_of;
+pub use weights::{Weight, WeightFault, check_weights};
+
+#[cfg(test)]
+mod tests;
