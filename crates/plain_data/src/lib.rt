@@ -7,8 +7,12 @@
 
 mod boxed;
 mod items;
+mod shared;
+mod stack;
 mod text;
 
 pub use boxed::Boxed;
 pub use items::Items;
+pub use shared::Shared;
+pub use stack::Stack;
 pub use text::Text;
