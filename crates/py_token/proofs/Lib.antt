@@ -1,0 +1,6 @@
+pub mod Bounds
+pub mod Bytes
+pub mod Escapes
+pub mod Inverted
+pub mod Quoted
+pub mod Reading
