@@ -20,11 +20,11 @@ ascii_name : (bytes : List ℕ) (i : ℕ) → get_or (take (prefix_len continues
 ascii_name [] i = omega arith
 ascii_name (c ∷ cs) i = ascii_front (continues_name c) refl i (ascii_name cs)
   where
-  ascii_front : (b : Bool) → continues_name c ≡ b → (i : ℕ) → ((j : ℕ) → get_or (take (prefix_len continues_name cs) cs) j 0 < 128)
-      → get_or (take (cond b (1 + prefix_len continues_name cs) 0) (c ∷ cs)) i 0 < 128
-  ascii_front true h zero inner = rw one-add (continues_ascii c h)
-  ascii_front true h (suc i) inner = rw one-add (inner i)
-  ascii_front false h i inner = omega arith
+    ascii_front : (b : Bool) → continues_name c ≡ b → (i : ℕ) → ((j : ℕ) → get_or (take (prefix_len continues_name cs) cs) j 0 < 128)
+        → get_or (take (cond b (1 + prefix_len continues_name cs) 0) (c ∷ cs)) i 0 < 128
+    ascii_front true h zero inner = rw one-add (continues_ascii c h)
+    ascii_front true h (suc i) inner = rw one-add (inner i)
+    ascii_front false h i inner = omega arith
 
 pub name_is_utf8 : (bytes : List ℕ) (width : ℕ) → width ≡ prefix_len continues_name bytes → IsUtf8 (take width bytes)
 name_is_utf8 bytes width is = rw is (IsUtf8-from_ascii _ (ascii_name bytes))

@@ -86,7 +86,7 @@ module _ (quote : ℕ) (bytes written : List ℕ) (bad : Option ℕ) (at : ℕ) 
       let sum : (at + 1) + e.width ≡ at + (1 + e.width) = omega arith in
       let there : drop e.width (drop (at + 1) bytes) ≡ drop (at + (1 + e.width)) bytes = drop-drop e.width (at + 1) bytes ∙ ap (λ k. drop k bytes) sum in
       let skip : skipped e.width (body quote zero (drop (at + (1 + e.width)) bytes)) ≡ body quote e.width (drop (at + 1) bytes)
-          = ap (λ r. skipped e.width (body quote zero r)) (sym there) ∙ sym (body-skip quote e.width (drop (at + 1) bytes)) in
+      = ap (λ r. skipped e.width (body quote zero r)) (sym there) ∙ sym (body-skip quote e.width (drop (at + 1) bytes)) in
       sym (read_on-behind written (encode_utf8 e.character) bad at e.width _) ∙ ap (λ b. read_on written bad at (behind (encode_utf8 e.character) b)) skip ∙ by_piece (Escaped e) is
 
 -- at the end no quote has come

@@ -75,9 +75,9 @@ pub line_ok : (P : Turn → Type 0) (at : ℕ) (line : Line) (spot : Spot) (t : 
 line_ok P at line (Start from tab) t p q r h = subst P (same_turn _ t h) p
 line_ok P at line Inside t p q r h = by_brackets (eqb line.brackets 0) h
   where
-  by_brackets : (b : Bool) → cond b (Ok (record { tokens = token Newline at 1 ∷ []; width = 1; line = next_line at line })) (passed 1 line) ≡ Ok t → P t
-  by_brackets true e = subst P (same_turn _ t e) q
-  by_brackets false e = subst P (same_turn _ t e) r
+    by_brackets : (b : Bool) → cond b (Ok (record { tokens = token Newline at 1 ∷ []; width = 1; line = next_line at line })) (passed 1 line) ≡ Ok t → P t
+    by_brackets true e = subst P (same_turn _ t e) q
+    by_brackets false e = subst P (same_turn _ t e) r
 
 -- a token
 pub placed_ok : (at : ℕ) (line : Line) (d : Result Depths TokenFault) (r : Result Lexeme TokenFault) (t : Turn) → placed at line d r ≡ Ok t
@@ -107,14 +107,14 @@ turn_is at line (c ∷ rest) t long h =
     (λ _. record { positive = omega arith; within = omega arith; few = omega arith })
     (λ _. let fits = prefix_len-le in_comment rest in record { positive = omega arith; within = omega arith; few = omega arith })
     (λ _ e. line_ok (IsTurn line (c ∷ rest)) at line line.spot t
-      (record { positive = omega arith; within = omega arith; few = omega arith })
-      (record { positive = omega arith; within = omega arith; few = omega arith })
-      (record { positive = omega arith; within = omega arith; few = omega arith }) e)
+    (record { positive = omega arith; within = omega arith; few = omega arith })
+    (record { positive = omega arith; within = omega arith; few = omega arith })
+    (record { positive = omega arith; within = omega arith; few = omega arith }) e)
     (λ _ _. record { positive = omega arith; within = omega arith; few = omega arith })
     (λ e.
-      let w = placed_ok at line _ _ t e in
-      let bounds = lexeme_bounds at (c ∷ rest) w.1 w.3 in
-      subst (IsTurn line (c ∷ rest)) w.4 (record { positive = bounds.positive; within = bounds.within; few = brackets_few w.1.kind line.brackets }))
+    let w = placed_ok at line _ _ t e in
+    let bounds = lexeme_bounds at (c ∷ rest) w.1 w.3 in
+    subst (IsTurn line (c ∷ rest)) w.4 (record { positive = bounds.positive; within = bounds.within; few = brackets_few w.1.kind line.brackets }))
     h
 
 before-before : (xs ys : List Token) (r : Result (List Token) TokenFault) → before xs (before ys r) ≡ before (xs ++ ys) r
@@ -165,9 +165,9 @@ pub read_start : (code : List ℕ) (line : Line) (all : List Token) → line ≡
 unfolding tokens_of
 read_start code line all is none = ap (λ a. before a (read 0 0 line code)) none ∙ before-none _ ∙ ap (λ l. read 0 0 l code) is
   where
-  before-none : (r : Result (List Token) TokenFault) → before [] r ≡ r
-  before-none (Ok ts) = refl
-  before-none (Err f) = refl
+    before-none : (r : Result (List Token) TokenFault) → before [] r ≡ r
+    before-none (Ok ts) = refl
+    before-none (Err f) = refl
 
 -- what is left of a text is the end of one
 pub ends_at : (code : List ℕ) (at : ℕ) → IsUtf8 code → EndsText (take (length code - at) (drop at code))

@@ -76,12 +76,7 @@ fn indented(
 
 /// What the first token of a line, which stands at that place, begins and ends of blocks.
 #[tactic(auto, unfolding(crate::specs::Lines::begun))]
-pub fn begun(
-    alloc: Global,
-    at: u32,
-    spot: Spot,
-    depths: Stack<u32>,
-) -> Result<Depths, TokenError>
+pub fn begun(alloc: Global, at: u32, spot: Spot, depths: Stack<u32>) -> Result<Depths, TokenError>
     requires { at ≤ 262144 }
     ensures { Gives result (begun at spot depths) }
 {
@@ -96,11 +91,7 @@ pub fn begun(
 }
 
 /// Ends the blocks that are open.
-pub fn close(
-    at: u32,
-    mut depths: Stack<u32>,
-    tokens: &mut Items<Token>,
-) -> Result<(), AllocError>
+pub fn close(at: u32, mut depths: Stack<u32>, tokens: &mut Items<Token>) -> Result<(), AllocError>
     requires { at ≤ 262144 }
     ensures { OnOk result (tokens.new ≡ tokens.old ++ closing at depths) }
 {

@@ -10,6 +10,8 @@ mod names;
 mod numbers;
 mod pieces;
 mod read;
+#[cfg(test)]
+mod tests;
 mod texts;
 mod turns;
 mod words;

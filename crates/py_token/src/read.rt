@@ -1,6 +1,7 @@
 ghost use Rattle.std.specs.Prelude.{◌≡◌, ◌≤◌, ◌<◌, ◌++◌, length, IfOk, OnOk};
 ghost use Rattle.py_token.specs.Lines.{start, tokens_of};
-ghost use Rattle.py_token.specs.Gives.{Gives};
+ghost use Rattle.py_token.specs.Laws.{Cover, EndsWell, place};
+ghost use Rattle.py_token.specs.Gives.{Gives, IfFault};
 
 use crate::faults::TokenError;
 use crate::kinds::Token;
@@ -49,7 +50,13 @@ fn start(alloc: Global) -> Result<Line, AllocError>
 /// The fault that is reported is the one with the least place; at one place a wrong depth comes before a bad token.
 pub fn tokens(alloc: Global, code: &str) -> Result<Items<Token>, TokenError>
     requires { length code.now ≤ 262144 }
+    // The tokens are those of the rules, and so is the fault.
     ensures exact { Gives result (tokens_of code.now) }
+
+    // Spans ascend without overlap and spell their kinds, and what lies between two of them is blank.
+    ensures cover { IfOk result (λ all. Cover code.now 0 all) }
+    ensures ends { IfOk result (λ all. EndsWell code.now all) }
+    ensures within { IfFault result (λ fault. place fault < length code.now) }
 {
     let bytes = code.as_bytes();
     let mut line = start(alloc)?;

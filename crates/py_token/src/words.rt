@@ -165,7 +165,10 @@ fn begins_with(bytes: &[u8], op: Op) -> bool
 pub fn keyword_of(name: &[u8]) -> Option<Keyword>
     ensures { result ≡ keyword_of name.now }
 {
-    KEYWORDS.iter().copied().find(|keyword| is_word(*keyword, name))
+    KEYWORDS
+        .iter()
+        .copied()
+        .find(|keyword| is_word(*keyword, name))
 }
 
 /// The longest operator at the front of the bytes.

@@ -3,6 +3,8 @@ use Rattle.std.proofs.lemmas.Result.{err_from_is_err_and}
 use Rattle.py_token.specs.Lines.{before, read, ended, tokens_of}
 use Rattle.py_token.specs.Gives.{Fails}
 use Rattle.py_token.proofs.Reading.{read_start, ends_at, fails, turn_given, turn_fits, read_turn, read_end}
+use Rattle.py_token.proofs.Covers.{covers}
+use Rattle.py_token.proofs.Ends.{ends_well, fails_within}
 use Rattle.py_token.proofs.read.tokens.Goals as goal
 
 pub turn-requires-clause-text : goal.turn-requires-clause-text
@@ -19,7 +21,13 @@ pub returns-in_err-tokens : goal.returns-in_err-tokens
 returns-in_err-tokens c =
     let p = err_from_is_err_and c.from_residual-in_err-tokens.result c.from_residual-in_err-tokens.ensures.1 in
     let fault = fails c.in_err-tokens.field-0.0 c.as_bytes-bytes.result.now c.loop-at.at c.loop-at.line c.loop-at.all c.loop-at-test.true c.in_err-tokens.ensures c.loop-at.invariant.rest in
-    record { exact = rw (p.1, p.2) (subst (λ code. Fails c.in_err-tokens.field-0.0 (tokens_of code)) c.as_bytes-bytes.ensures.value fault) }
+    let exact = subst (λ code. Fails c.in_err-tokens.field-0.0 (tokens_of code)) c.as_bytes-bytes.ensures.value fault in
+    record {
+      exact = rw (p.1, p.2) exact;
+      cover = rw (p.1) tt;
+      ends = rw (p.1) tt;
+      within = rw (p.1, p.2) (fails_within c.in_err-tokens.field-0.0 c.args.code.now exact);
+    }
 
 pub loop-at-smaller : goal.loop-at-smaller
 loop-at-smaller c =
@@ -44,4 +52,10 @@ returns c =
     let bytes = c.as_bytes-bytes.result.now in
     let read_all = read_end bytes c.loop-at.at c.loop-at.line c.loop-at.all c.loop-at-test.false c.loop-at.invariant.rest in
     let whole : c.append-2.new.all ≡ c.loop-at.all ++ ended c.loop-at.at c.loop-at.line = c.in_ok-append-2.ensures ∙ ap (λ last. c.loop-at.all ++ last) c.in_ok-last.ensures in
-    record { exact = ap tokens_of (sym c.as_bytes-bytes.ensures.value) ∙ read_all ∙ ap Ok (sym whole) }
+    let exact : tokens_of c.args.code.now ≡ Ok c.append-2.new.all = ap tokens_of (sym c.as_bytes-bytes.ensures.value) ∙ read_all ∙ ap Ok (sym whole) in
+    record {
+      exact = exact;
+      cover = covers c.args.code.now c.append-2.new.all exact;
+      ends = ends_well c.args.code.now c.append-2.new.all exact;
+      within = tt;
+    }
