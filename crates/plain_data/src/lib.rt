@@ -7,10 +7,14 @@
 
 mod boxed;
 mod items;
+mod shared;
+mod stack;
 mod text;
 mod text_map;
 
 pub use boxed::Boxed;
 pub use items::Items;
+pub use shared::Shared;
+pub use stack::Stack;
 pub use text::Text;
 pub use text_map::TextMap;

@@ -1,0 +1,9 @@
+pub mod Bounds
+pub mod Bytes
+pub mod Covers
+pub mod Ends
+pub mod Escapes
+pub mod Inverted
+pub mod Quoted
+pub mod Reading
+pub mod Spelled

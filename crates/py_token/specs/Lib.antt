@@ -1,0 +1,6 @@
+pub mod Spellings
+pub mod Lexemes
+pub mod Lines
+pub mod Laws
+pub mod Gives
+pub mod Bodies

@@ -1,0 +1,187 @@
+ghost use Rattle.std.specs.Prelude.{◌≡◌, nat_eq, find, length};
+ghost use Rattle.std.specs.List.{starts_with};
+ghost use Rattle.py_names.specs.Names.{same_text};
+ghost use Rattle.py_token.specs.Spellings.{word, keywords, sign, operators};
+ghost use Rattle.py_token.specs.Lexemes.{keyword_of};
+
+use crate::kinds::{Keyword, Op};
+
+const KEYWORDS: [Keyword; 35] = [
+    Keyword::False,
+    Keyword::None,
+    Keyword::True,
+    Keyword::And,
+    Keyword::As,
+    Keyword::Assert,
+    Keyword::Async,
+    Keyword::Await,
+    Keyword::Break,
+    Keyword::Class,
+    Keyword::Continue,
+    Keyword::Def,
+    Keyword::Del,
+    Keyword::Elif,
+    Keyword::Else,
+    Keyword::Except,
+    Keyword::Finally,
+    Keyword::For,
+    Keyword::From,
+    Keyword::Global,
+    Keyword::If,
+    Keyword::Import,
+    Keyword::In,
+    Keyword::Is,
+    Keyword::Lambda,
+    Keyword::Nonlocal,
+    Keyword::Not,
+    Keyword::Or,
+    Keyword::Pass,
+    Keyword::Raise,
+    Keyword::Return,
+    Keyword::Try,
+    Keyword::While,
+    Keyword::With,
+    Keyword::Yield,
+];
+
+const OPERATORS: [Op; 26] = [
+    Op::FloorAssign,
+    Op::PlusAssign,
+    Op::MinusAssign,
+    Op::TimesAssign,
+    Op::ModAssign,
+    Op::Equal,
+    Op::NotEqual,
+    Op::AtMost,
+    Op::AtLeast,
+    Op::Floor,
+    Op::Plus,
+    Op::Minus,
+    Op::Times,
+    Op::Mod,
+    Op::Less,
+    Op::More,
+    Op::Assign,
+    Op::OpenParenthesis,
+    Op::CloseParenthesis,
+    Op::OpenBracket,
+    Op::CloseBracket,
+    Op::OpenBrace,
+    Op::CloseBrace,
+    Op::Colon,
+    Op::Comma,
+    Op::Dot,
+];
+
+fn word(keyword: Keyword) -> &'static [u8]
+    ensures { result.now ≡ word keyword }
+{
+    match keyword {
+        Keyword::False => b"False",
+        Keyword::None => b"None",
+        Keyword::True => b"True",
+        Keyword::And => b"and",
+        Keyword::As => b"as",
+        Keyword::Assert => b"assert",
+        Keyword::Async => b"async",
+        Keyword::Await => b"await",
+        Keyword::Break => b"break",
+        Keyword::Class => b"class",
+        Keyword::Continue => b"continue",
+        Keyword::Def => b"def",
+        Keyword::Del => b"del",
+        Keyword::Elif => b"elif",
+        Keyword::Else => b"else",
+        Keyword::Except => b"except",
+        Keyword::Finally => b"finally",
+        Keyword::For => b"for",
+        Keyword::From => b"from",
+        Keyword::Global => b"global",
+        Keyword::If => b"if",
+        Keyword::Import => b"import",
+        Keyword::In => b"in",
+        Keyword::Is => b"is",
+        Keyword::Lambda => b"lambda",
+        Keyword::Nonlocal => b"nonlocal",
+        Keyword::Not => b"not",
+        Keyword::Or => b"or",
+        Keyword::Pass => b"pass",
+        Keyword::Raise => b"raise",
+        Keyword::Return => b"return",
+        Keyword::Try => b"try",
+        Keyword::While => b"while",
+        Keyword::With => b"with",
+        Keyword::Yield => b"yield",
+    }
+}
+
+fn sign(op: Op) -> &'static [u8]
+    ensures { result.now ≡ sign op }
+{
+    match op {
+        Op::FloorAssign => b"//=",
+        Op::PlusAssign => b"+=",
+        Op::MinusAssign => b"-=",
+        Op::TimesAssign => b"*=",
+        Op::ModAssign => b"%=",
+        Op::Equal => b"==",
+        Op::NotEqual => b"!=",
+        Op::AtMost => b"<=",
+        Op::AtLeast => b">=",
+        Op::Floor => b"//",
+        Op::Plus => b"+",
+        Op::Minus => b"-",
+        Op::Times => b"*",
+        Op::Mod => b"%",
+        Op::Less => b"<",
+        Op::More => b">",
+        Op::Assign => b"=",
+        Op::OpenParenthesis => b"(",
+        Op::CloseParenthesis => b")",
+        Op::OpenBracket => b"[",
+        Op::CloseBracket => b"]",
+        Op::OpenBrace => b"{",
+        Op::CloseBrace => b"}",
+        Op::Colon => b":",
+        Op::Comma => b",",
+        Op::Dot => b".",
+    }
+}
+
+fn is_word(keyword: Keyword, name: &[u8]) -> bool
+    ensures { result ≡ same_text (word keyword) name.now }
+{
+    word(keyword) == name
+}
+
+fn begins_with(bytes: &[u8], op: Op) -> bool
+    ensures { result ≡ starts_with nat_eq bytes.now (sign op) }
+{
+    bytes.starts_with(sign(op))
+}
+
+/// The keyword that these bytes spell.
+#[tactic(auto, unfolding(crate::specs::Spellings::keywords))]
+pub fn keyword_of(name: &[u8]) -> Option<Keyword>
+    ensures { result ≡ keyword_of name.now }
+{
+    KEYWORDS
+        .iter()
+        .copied()
+        .find(|keyword| is_word(*keyword, name))
+}
+
+/// The longest operator at the front of the bytes.
+#[tactic(auto, unfolding(crate::specs::Spellings::operators))]
+pub fn operator_of(bytes: &[u8]) -> Option<Op>
+    ensures { result ≡ find (λ op. starts_with nat_eq bytes.now (sign op)) operators }
+{
+    OPERATORS.iter().copied().find(|op| begins_with(bytes, *op))
+}
+
+/// How many bytes spell the operator.
+pub fn sign_width(op: Op) -> usize
+    ensures { result ≡ length (sign op) }
+{
+    sign(op).len()
+}

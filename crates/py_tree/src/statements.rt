@@ -1,0 +1,65 @@
+use crate::expressions::{Expr, Op, Place};
+use plain_data::{Items, Shared, Text};
+
+/// What is read of a whole text.
+#[derive(Drop)]
+pub struct Tree {
+    pub body: Items<Stmt>,
+}
+
+/// A statement.
+#[cycle(statement)]
+#[derive(Drop)]
+pub enum Stmt {
+    Pass,
+    Break,
+    Continue,
+    Return(Option<Expr>),
+    Global(Items<Text>),
+    Delete(Place),
+    Assign {
+        place: Place,
+        value: Expr,
+    },
+    /// `place op= value`
+    Augment {
+        place: Place,
+        op: Op,
+        value: Expr,
+    },
+    /// An expression by itself.
+    Show(Expr),
+    /// The `if` and each `elif`, and the block behind `else`, which is empty where no `else` stands.
+    If {
+        arms: Items<Arm>,
+        other: Items<Stmt>,
+    },
+    While {
+        test: Expr,
+        body: Items<Stmt>,
+    },
+    For {
+        name: Text,
+        source: Expr,
+        body: Items<Stmt>,
+    },
+    Function(Shared<Def>),
+}
+
+/// A test, and the block behind it.
+#[cycle(statement)]
+#[derive(Drop)]
+pub struct Arm {
+    pub test: Expr,
+    pub body: Items<Stmt>,
+}
+
+/// A function, and the text that it was read from.
+#[cycle(statement)]
+#[derive(Drop)]
+pub struct Def {
+    pub name: Text,
+    pub params: Items<Text>,
+    pub body: Items<Stmt>,
+    pub source: Text,
+}
