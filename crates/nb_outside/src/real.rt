@@ -75,3 +75,26 @@ impl<W: Write + Drop> Sink for StdSink<W> {
         }
     }
 }
+
+#[cfg(test)]
+mod tests {
+    use crate::{ReadEnd, Sink, Source, StdSink, StdSource, WriteEnd};
+    use std::test::Fail;
+
+    #[test]
+    fn reads_a_reader_to_its_end(rt: HostRuntime) {
+        let bytes = [1u8, 2, 3];
+        let mut source = StdSource::new(bytes.as_slice());
+        let mut piece = [0u8; 2];
+        assert_eq!(rt; source.read(&mut piece), ReadEnd::Bytes(2));
+        assert_eq!(rt; source.read(&mut piece), ReadEnd::Bytes(1));
+        assert_eq!(rt; source.read(&mut piece), ReadEnd::Bytes(0));
+    }
+
+    #[test]
+    fn writes_to_a_writer(rt: HostRuntime) -> Result<(), Fail> {
+        let mut sink = StdSink::new(Vec::new(rt.alloc()));
+        assert_eq!(rt; sink.write(&[1u8, 2]), WriteEnd::Wrote(2));
+        Ok(())
+    }
+}

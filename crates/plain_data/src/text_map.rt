@@ -59,3 +59,35 @@ impl<V: Drop> TextMap<V> {
         self.map.remove(name).is_some()
     }
 }
+
+#[cfg(test)]
+mod tests {
+    use crate::{Items, Text, TextMap};
+    use std::test::Fail;
+
+    #[test]
+    fn binds_and_unbinds(rt: HostRuntime) -> Result<(), Fail> {
+        let alloc = rt.alloc();
+        let mut map = TextMap::new(alloc);
+        map.bind(Text::new(alloc, "a")?, 1u8)?;
+        map.bind(Text::new(alloc, "b")?, 2)?;
+        map.bind(Text::new(alloc, "a")?, 3)?;
+        assert_eq!(rt; map.look(&Text::new(alloc, "a")?).copied(), Some(3));
+        assert!(rt; map.unbind(&Text::new(alloc, "a")?));
+        assert!(rt; map.look(&Text::new(alloc, "a")?).is_none());
+        Ok(())
+    }
+
+    #[test]
+    fn texts_and_lists_grow(rt: HostRuntime) -> Result<(), Fail> {
+        let alloc = rt.alloc();
+        let mut text = Text::new(alloc, "ab")?;
+        text.push_str("c")?;
+        assert_eq!(rt; text.copy(alloc)?.as_str(), "abc");
+        let mut items = Items::from_slice(alloc, &[1u8, 2])?;
+        items.extend_from_slice(&[3])?;
+        items.push(4)?;
+        assert_eq!(rt; items.as_slice(), [1, 2, 3, 4].as_slice());
+        Ok(())
+    }
+}
