@@ -9,6 +9,8 @@ pub mod run;
 mod serve;
 mod stop;
 mod streams;
+#[cfg(test)]
+mod tests;
 
 use nb_outside::{StdSink, StdSource};
 use run::top;

@@ -1,0 +1,183 @@
+use crate::run::top;
+use nb_outside::{MemSink, MemSource};
+use std::alloc::{AllocError, Global};
+use std::test::Fail;
+
+/// Adds a frame with a message of this kind and content. Its date and its texts are those of the protocol's example.
+fn push_message(
+    alloc: Global,
+    out: &mut Vec<u8>,
+    number: u32,
+    kind: &str,
+    content: &str,
+) -> Result<(), AllocError> {
+    let body = format!(in alloc;
+        "{{\"channel\":\"shell\",\"content\":{content},\"header\":{{\"date\":\"2024-01-02T03:04:05Z\",\"msg_id\":\"m{number}\",\"msg_type\":\"{kind}\",\"session\":\"f1\",\"username\":\"u\",\"version\":\"5.3\"}},\"kernel\":\"11111111-1111-4111-8111-111111111111\"}}"
+    )?;
+    let length = u32::try_from(body.len()).unwrap_or(0);
+    out.extend_from_slice(&length.to_be_bytes())?;
+    out.extend_from_slice(body.as_bytes())
+}
+
+/// The frames of an opening and of cells with these codes, which are written as JSON texts.
+fn stream_of(alloc: Global, codes: &[&str]) -> Result<Vec<u8>, AllocError> {
+    let mut out = Vec::new(alloc);
+    push_message(alloc, &mut out, 1, "kernel_open_request", "{\"host\":0}")?;
+    for (i, code) in codes.iter().enumerate() {
+        let number = u32::try_from(i).unwrap_or(0).saturating_add(2);
+        let content = format!(in alloc; "{{\"code\":\"{code}\"}}")?;
+        push_message(alloc, &mut out, number, "execute_request", content.as_str())?;
+    }
+    Ok(out)
+}
+
+/// What `run` answers and writes for a stream, where the calls with these numbers fail.
+fn served(
+    rt: &HostRuntime,
+    input: &[u8],
+    source_fails: &[u64],
+    sink_fails: &[u64],
+) -> Result<(u8, Vec<u8>), AllocError> {
+    let alloc = rt.alloc();
+    let words = vec![in alloc; String::from_str(alloc, "run")?]?;
+    let mut source = MemSource::new(input.to_vec(alloc)?, source_fails.to_vec(alloc)?);
+    let mut sink = MemSink::new(alloc, 65_536, sink_fails.to_vec(alloc)?);
+    let status = top(rt, words.as_slice(), &mut source, &mut sink);
+    let written = sink.written().to_vec(alloc)?;
+    Ok((status, written))
+}
+
+/// How often the text stands in the bytes.
+fn count_of(bytes: &[u8], text: &str) -> usize {
+    if text.is_empty() {
+        return 0;
+    }
+    bytes
+        .windows(text.len())
+        .filter(|w| *w == text.as_bytes())
+        .count()
+}
+
+// The lengths of the output come from a reading of the rules in Python, outside this repository.
+
+#[test]
+fn two_cells(rt: HostRuntime) -> Result<(), Fail> {
+    let input = stream_of(rt.alloc(), &["x = 2", "print(x + 3)"])?;
+    let (status, written) = served(&rt, input.as_slice(), &[], &[])?;
+    assert_eq!(rt; status, 0);
+    assert_eq!(rt; written.len(), 5605);
+    assert_eq!(rt; count_of(written.as_slice(), "\"text\":\"5\\n\""), 1);
+    assert_eq!(rt;
+        count_of(
+            written.as_slice(),
+            "11111111-1111-4111-8111-111111111111_12\""
+        ),
+        1
+    );
+    Ok(())
+}
+
+#[test]
+fn faults_of_the_outside(rt: HostRuntime) -> Result<(), Fail> {
+    let input = stream_of(rt.alloc(), &["x = 2", "print(x + 3)"])?;
+    let (status, written) = served(&rt, input.as_slice(), &[2], &[])?;
+    assert_eq!(rt; status, 3);
+    assert_eq!(rt; written.len(), 5605);
+    let (status, written) = served(&rt, input.as_slice(), &[], &[1])?;
+    assert_eq!(rt; status, 4);
+    assert_eq!(rt; written.len(), 0);
+    let (status, written) = served(&rt, input.as_slice(), &[], &[2])?;
+    assert_eq!(rt; status, 4);
+    assert_eq!(rt; written.len(), 1386);
+    Ok(())
+}
+
+#[test]
+fn unbuilt_input(rt: HostRuntime) -> Result<(), Fail> {
+    let (status, written) = served(&rt, &[], &[], &[])?;
+    assert_eq!(rt; status, 0);
+    assert_eq!(rt; written.len(), 0);
+    let (status, written) = served(&rt, &[0, 0, 1], &[], &[])?;
+    assert_eq!(rt; status, 2);
+    assert_eq!(rt; written.len(), 0);
+    let mut input = stream_of(rt.alloc(), &[])?;
+    input.extend_from_slice(&1_048_577u32.to_be_bytes())?;
+    let (status, written) = served(&rt, input.as_slice(), &[], &[])?;
+    assert_eq!(rt; status, 2);
+    assert_eq!(rt; written.len(), 1386);
+    Ok(())
+}
+
+#[test]
+fn other_words(rt: HostRuntime) -> Result<(), Fail> {
+    let alloc = rt.alloc();
+    let mut words = Vec::new(alloc);
+    let mut source = MemSource::new(stream_of(alloc, &[])?, Vec::new(alloc));
+    let mut sink = MemSink::new(alloc, 1, Vec::new(alloc));
+    assert_eq!(rt; top(&rt, words.as_slice(), &mut source, &mut sink), 1);
+    for word in ["run", "--hosts", "0"] {
+        words.push(String::from_str(alloc, word)?)?;
+    }
+    assert_eq!(rt; top(&rt, words.as_slice(), &mut source, &mut sink), 1);
+    assert_eq!(rt; sink.written().len(), 0);
+    Ok(())
+}
+
+static BAD_CODES: [&str; 4] = [
+    "print(y)",
+    "x = 170141183460469231731687303715884105727\\nx = x + 1",
+    "x +",
+    "print(x)",
+];
+
+static ERRORS: [(&str, usize); 6] = [
+    ("\"evalue\":\"name 'y' is not defined\"", 2),
+    ("[\"OverflowError: number past 128 bits\"]", 2),
+    ("[\"SyntaxError: not built\"]", 2),
+    ("\"status\":\"error\"", 3),
+    ("\"text\":\"170141183460469231731687303715884105727\\n\"", 1),
+    ("\"execution_count\":4", 2),
+];
+
+#[test]
+fn bad_code_goes_on(rt: HostRuntime) -> Result<(), Fail> {
+    let input = stream_of(rt.alloc(), &BAD_CODES)?;
+    let (status, written) = served(&rt, input.as_slice(), &[], &[])?;
+    assert_eq!(rt; status, 0);
+    assert_eq!(rt; written.len(), 11272);
+    for (text, times) in ERRORS {
+        assert_eq!(rt; count_of(written.as_slice(), text), times, "{text}");
+    }
+    Ok(())
+}
+
+/// So many lines that print, as a JSON text.
+fn many_prints(alloc: Global) -> Result<String, AllocError> {
+    let mut code = String::new(alloc);
+    for _ in 0..29_127 {
+        code.push_str("print(a)\\n")?;
+    }
+    Ok(code)
+}
+
+#[test]
+fn a_print_past_the_meter(rt: HostRuntime) -> Result<(), Fail> {
+    let alloc = rt.alloc();
+    let many = many_prints(alloc)?;
+    let mut codes = Vec::new(alloc);
+    codes.push("a = 170141183460469231731687303715884105727")?;
+    for _ in 0..15 {
+        codes.push(many.as_str())?;
+    }
+    codes.push("print(1)")?;
+    let input = stream_of(alloc, codes.as_slice())?;
+    let (status, written) = served(&rt, input.as_slice(), &[], &[])?;
+    assert_eq!(rt; status, 0);
+    assert_eq!(rt; written.len(), 21_719_254);
+    assert_eq!(rt;
+        count_of(written.as_slice(), "[\"MemoryError: meter spent\"]"),
+        2
+    );
+    assert_eq!(rt; count_of(written.as_slice(), "\"text\":\"1\\n\""), 1);
+    Ok(())
+}
