@@ -1,0 +1,4 @@
+mod Spelled
+mod Standing
+mod Last
+mod Ends

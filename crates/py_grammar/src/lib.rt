@@ -1,0 +1,2 @@
+//! The grammar of the language, and that reading it token by token is right.
+#![tactic(auto)]
