@@ -4,7 +4,7 @@ use Rattle.py_token.specs.declared.kinds.Kind.{Kind}
 use Rattle.py_token.specs.declared.kinds.Kind.TheVariants as t
 use Rattle.std.proofs.lemmas.Bool.{false≢true}
 use Rattle.py_grammar.specs.Words.{and_word, or_word, not_word, if_word, else_word, in_word, is_word, none_word, true_word, false_word, equal_sign, not_equal_sign, at_most_sign, at_least_sign, floor_sign, plus_sign, minus_sign, times_sign, mod_sign, less_sign, more_sign, open_parenthesis, close_parenthesis, open_bracket, close_bracket, open_brace, close_brace, colon, comma, dot}
-use Rattle.py_grammar.specs.Expressions.{Expression, plain, pick, Ors, ors_one, ors_more, Ands, ands_one, ands_more, Negation, compared, negated, Compares, compares_one, compares_more, compares_none, compares_not_none, Relational, equal, not_equal, less, at_most, more, at_least, within, not_within, Sums, sums_one, sums_more, Additive, plus, minus, Products, products_one, products_more, Multiplicative, times, floor, modulo, Signed, unsigned, signed, Primary, name, number, text, nothing, truth, falsity, group, display, dict, call, index, slice, Callee, function, method, unbounded, bounded, no_args, args, args_comma, Elements, elements_one, elements_more, no_entries, entries, entries_comma, Pairs, pairs_one, pairs_more}
+use Rattle.py_grammar.specs.Expressions.{Expression, plain, pick, Ors, ors_one, ors_more, Ands, ands_one, ands_more, Negation, compared, negated, Compares, compares_one, compares_more, compares_none, compares_not_none, Relational, equal, not_equal, less, at_most, greater, at_least, within, not_within, Sums, sums_one, sums_more, Additive, plus, minus, Products, products_one, products_more, Multiplicative, times, floor, modulo, Signed, unsigned, signed, Primary, name, number, text, nothing, truth, falsity, group, display, dict, call, index, slice, Callee, function, method, unbounded, bounded, no_args, args, args_comma, Elements, elements_one, elements_more, no_entries, entries, entries_comma, Pairs, pairs_one, pairs_more}
 use Rattle.py_grammar.specs.Readings.{Picked, picked, Upper, upper, Related, related, Added, added, Scaled, scaled, Lower, lower, no_upper, no_lower, Bracket, in_group, in_display, in_dict, in_pair, in_call, in_index, in_slice, Opened, opened, Reading, wants, has, has_none, has_not_none, after_is, after_is_not, after_not, after_dot, after_method, begun, add_signs, add_scaled, add_added, add_nots, add_and, add_or, add_picked, compares_of, expression_of, close_parenthesis_after, close_bracket_after, close_brace_after, comma_after, colon_after, behind, operator, read, whole, bare_below, narrow}
 
 -- ---- where a form ends
@@ -250,7 +250,7 @@ related-last equal c os u = after (at_compares os u c) equal_sign (behind-back c
 related-last not_equal c os u = after (at_compares os u c) not_equal_sign (behind-back c os u not_equal_sign (λ os u w p. refl)) (any-narrow c os u)
 related-last less c os u = after (at_compares os u c) less_sign (behind-back c os u less_sign (λ os u w p. refl)) (any-narrow c os u)
 related-last at_most c os u = after (at_compares os u c) at_most_sign (behind-back c os u at_most_sign (λ os u w p. refl)) (any-narrow c os u)
-related-last more c os u = after (at_compares os u c) more_sign (behind-back c os u more_sign (λ os u w p. refl)) (any-narrow c os u)
+related-last greater c os u = after (at_compares os u c) more_sign (behind-back c os u more_sign (λ os u w p. refl)) (any-narrow c os u)
 related-last at_least c os u = after (at_compares os u c) at_least_sign (behind-back c os u at_least_sign (λ os u w p. refl)) (any-narrow c os u)
 related-last within c os u = after (at_compares os u c) in_word (behind-back c os u in_word (λ os u w p. refl)) (any-narrow c os u)
 related-last not_within c os u = after (after_not os u c) in_word refl (λ h. h)

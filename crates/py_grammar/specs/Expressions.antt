@@ -38,7 +38,7 @@ mutual
     not_equal : Relational
     less : Relational
     at_most : Relational
-    more : Relational
+    greater : Relational
     at_least : Relational
     within : Relational
     not_within : Relational
@@ -121,7 +121,7 @@ spell_relational equal rest = equal_sign ∷ rest
 spell_relational not_equal rest = not_equal_sign ∷ rest
 spell_relational less rest = less_sign ∷ rest
 spell_relational at_most rest = at_most_sign ∷ rest
-spell_relational more rest = more_sign ∷ rest
+spell_relational greater rest = more_sign ∷ rest
 spell_relational at_least rest = at_least_sign ∷ rest
 spell_relational within rest = in_word ∷ rest
 spell_relational not_within rest = not_word ∷ in_word ∷ rest

@@ -2,3 +2,5 @@ pub mod Words
 pub mod Expressions
 pub mod Readings
 pub mod Open
+pub mod Statements
+pub mod States

@@ -1,0 +1,283 @@
+-- One more token of a cell is one more token of what it spells.
+use Rattle.std.proofs.Common.{◌≡◌, ℕ, zero, suc, Bool, true, false, IsTrue, if◌then◌else◌, List, [], ◌∷◌, Option, Some, None, refl, ap, ◌∙◌, sym}
+use Rattle.py_token.specs.declared.kinds.Kind.{Kind}
+use Rattle.py_token.specs.declared.kinds.Kind.TheVariants as t
+use Rattle.std.proofs.lemmas.Bool.{false≢true}
+use Rattle.py_grammar.specs.Readings.{Added as r_Added}
+use Rattle.py_grammar.specs.Words.{if_word, else_word, elif_word, while_word, for_word, in_word, pass_word, break_word, continue_word, return_word, global_word, del_word, def_word, floor_assign_sign, plus_assign_sign, minus_assign_sign, times_assign_sign, mod_assign_sign, assign_sign, open_parenthesis, close_parenthesis, colon, comma}
+use Rattle.py_grammar.specs.Expressions.{Expression, Ors, Ands, Additive, Primary, name, index, spell_expression, spell_primary}
+use Rattle.py_grammar.specs.Readings.{Picked, Upper, upper, Related, Scaled, Lower, lower, no_upper, no_lower, Reading, wants, has, has_none, has_not_none, after_is, after_is_not, after_not, after_dot, after_method, begun, read, whole, no_upper_part, bare, narrow}
+use Rattle.py_grammar.specs.Open.{spell_upper, spell_lower, spell_reading}
+use Rattle.py_grammar.specs.Statements.{Place, Augmentation, by_plus, by_minus, by_times, by_floor, by_modulo, Names, Word, Simple, word, leave, give, declare, assign, augment, show, spell_place, augmentation_sign, spell_names, spell_simple, Params, Statement, simple, compound, choose, Branches, Block, inline, indented, Statements, statements_one, statements_more, spell_params, spell_statement, spell_head, spell_branches, spell_block, spell_front}
+use Rattle.py_grammar.specs.States.{Outer, outer, Spot, own, behind_head, Purpose, showing, giving, deleting, assigning, augmenting, Lead, lead_if, lead_elif, lead_while, lead_for, State, line, in_simple, after_word, in_global, has_global, in_test, after_for, after_for_name, after_else, after_def, after_def_name, in_params, has_params, after_params, after_colon, after_newline, done, spot_around, spot_heard, add_statement, add_name, close, ended, place_of, place_read, is_begun, if_made, if_deleted, finished, head_of, Continued, continued, last_branches, if_allowed, then_simple, begins, elif_at, else_at, def_at, dedent_at, end_at, on_line, ends, assigns, augments, on_simple, on_word, spell_names_before, is_new_name, on_global, on_global_name, tested, then_test, on_for, on_for_name, on_else, on_def, on_def_name, params_of, on_params, on_param, on_params_end, on_colon, on_newline, step, spell_outer, spell_outers, spell_spot, spell_purpose, spell_lead, spell_state}
+use Rattle.py_grammar.proofs.Spelled.{Adds, Spells, read-adds, whole-spelled}
+
+abbrev pub Added : (List Kind → List Kind) → Kind → Option State → Type 0
+Added before t None = Unit {0}
+Added before t (Some s) = (rest : List Kind) → spell_state s rest ≡ before (t ∷ rest)
+
+pub add_statement-spelled : (b : Option Statements) (s : Statement) (rest : List Kind) → spell_front (add_statement b s) rest ≡ spell_front b (spell_statement s rest)
+add_statement-spelled None s rest = refl
+add_statement-spelled (Some ss) s rest = refl
+
+pub close-spelled : (o : Outer) (b : Block) (rest : List Kind) → spell_front (close o b) rest ≡ spell_outer o (spell_block b rest)
+close-spelled (outer before h) b rest = add_statement-spelled before (compound h b) rest
+
+pub ended-spelled : (os : List Outer) (at : Spot) (s : Simple) (rest : List Kind) → spell_state (ended os at s) rest ≡ spell_outers os (spell_spot at (spell_simple s (t.Newline ∷ rest)))
+ended-spelled os (own before) s rest = ap (spell_outers os) (add_statement-spelled before (simple s) rest)
+ended-spelled os (behind_head o) s rest = ap (spell_outers os) (close-spelled o (inline s) rest)
+
+pub add_name-spelled : (ns : Option Names) (n : List ℕ) (rest : List Kind) → spell_names (add_name ns n) rest ≡ spell_names_before ns (t.Name n ∷ rest)
+add_name-spelled None n rest = refl
+add_name-spelled (Some ns) n rest = refl
+
+pub params_of-spelled : (ns : Option Names) (rest : List Kind) → spell_params (params_of ns) rest ≡ spell_names_before ns rest
+params_of-spelled None rest = refl
+params_of-spelled (Some ns) rest = refl
+
+allowed-added : (b : Bool) (s : State) (f : List Kind → List Kind) (t : Kind) → Added f t (Some s) → Added f t (if_allowed b s)
+allowed-added true s f t h = h
+allowed-added false s f t h = tt
+
+-- ---- a simple statement
+
+-- it spells so, if there is one
+abbrev SpellsSimple : Option Simple → (List Kind → List Kind) → Type 0
+SpellsSimple None f = Unit {0}
+SpellsSimple (Some s) f = (rest : List Kind) → spell_simple s rest ≡ f rest
+
+abbrev SpellsPlace : Option Place → (List Kind → List Kind) → Type 0
+SpellsPlace None f = Unit {0}
+SpellsPlace (Some to) f = (rest : List Kind) → spell_place to rest ≡ f rest
+
+place_of-spelled : (u : Upper) (w : Lower) (p : Primary) → SpellsPlace (place_of u w p) (λ rest. spell_upper u (spell_lower w (spell_primary p rest)))
+place_of-spelled (upper [] None None None zero) (lower None None None []) (name n) = λ rest. refl
+place_of-spelled (upper [] None None None zero) (lower None None None []) (index p a) = λ rest. refl
+place_of-spelled _ _ _ = tt
+
+place_read-spelled : (r : Reading) → SpellsPlace (place_read r) (spell_reading r)
+place_read-spelled (has [] u w p) = place_of-spelled u w p
+place_read-spelled _ = tt
+
+made-spelled : (f : Expression → Simple) (g h : List Kind → List Kind) (a : Option Expression) → ((e : Expression) (rest : List Kind) → spell_simple (f e) rest ≡ g (spell_expression e rest)) → Spells a h → SpellsSimple (if_made f a) (λ rest. g (h rest))
+made-spelled f g h None e k = tt
+made-spelled f g h (Some a) e k = λ rest. e a rest ∙ ap g (k rest)
+
+deleted-spelled : (to : Option Place) (h : List Kind → List Kind) → SpellsPlace to h → SpellsSimple (if_deleted to) (λ rest. del_word ∷ h rest)
+deleted-spelled None h k = tt
+deleted-spelled (Some to) h k = λ rest. ap (◌∷◌ del_word) (k rest)
+
+-- nothing stands before
+bare_upper : (ps : List Picked) (test o : Option Ors) (a : Option Ands) (n : ℕ) → IsTrue (no_upper_part (upper ps test o a n)) → upper ps test o a n ≡ no_upper
+bare_upper [] None None None zero h = refl
+bare_upper _ test o a (suc n) h = absurd (false≢true h)
+bare_upper _ test o (Some a) zero h = absurd (false≢true h)
+bare_upper _ test (Some o) None zero h = absurd (false≢true h)
+bare_upper _ (Some test) None None zero h = absurd (false≢true h)
+bare_upper (p ∷ ps) None None None zero h = absurd (false≢true h)
+
+bare_lower : (r : Option Related) (a : Option r_Added) (m : Option Scaled) (ss : List Additive) (u : Upper) → IsTrue (bare u (lower r a m ss)) → (lower r a m ss ≡ no_lower) × IsTrue (no_upper_part u)
+bare_lower None None None [] u h = (refl, h)
+bare_lower r a m (s ∷ ss) u h = absurd (false≢true h)
+bare_lower r a (Some m) [] u h = absurd (false≢true h)
+bare_lower r (Some a) None [] u h = absurd (false≢true h)
+bare_lower (Some r) None None [] u h = absurd (false≢true h)
+
+pub bare_is : (u : Upper) (w : Lower) → IsTrue (bare u w) → (u ≡ no_upper) × (w ≡ no_lower)
+bare_is (upper ps test o a n) (lower r b m ss) h =
+    let k = bare_lower r b m ss (upper ps test o a n) h in
+    (bare_upper ps test o a n k.1, k.0)
+
+pub begun_is : (r : Reading) → IsTrue (is_begun r) → r ≡ begun
+begun_is (wants [] u w) h = let k = bare_is u w h in ap (λ x. wants [] x w) k.0 ∙ ap (wants [] no_upper) k.1
+begun_is (wants (o ∷ os) u w) h = absurd (false≢true h)
+begun_is (has os u w p) h = absurd (false≢true h)
+begun_is (has_none os u c) h = absurd (false≢true h)
+begun_is (has_not_none os u c) h = absurd (false≢true h)
+begun_is (after_is os u c) h = absurd (false≢true h)
+begun_is (after_is_not os u c) h = absurd (false≢true h)
+begun_is (after_not os u c) h = absurd (false≢true h)
+begun_is (after_dot os u w p) h = absurd (false≢true h)
+begun_is (after_method os u w p n) h = absurd (false≢true h)
+
+left-spelled : (r : Reading) (b : Bool) → (IsTrue b → r ≡ begun) → SpellsSimple (if b then Some leave else if_made give (whole r)) (λ rest. return_word ∷ spell_reading r rest)
+left-spelled r true h = λ rest. ap (λ x. return_word ∷ spell_reading x rest) (sym (h refl))
+left-spelled r false h = made-spelled give (λ rest. return_word ∷ rest) (spell_reading r) (whole r) (λ e rest. refl) (whole-spelled r)
+
+finished-spelled : (u : Purpose) (r : Reading) → SpellsSimple (finished u r) (λ rest. spell_purpose u (spell_reading r rest))
+finished-spelled showing r = made-spelled show (λ rest. rest) (spell_reading r) (whole r) (λ e rest. refl) (whole-spelled r)
+finished-spelled giving r = left-spelled r (is_begun r) (begun_is r)
+finished-spelled deleting r = deleted-spelled (place_read r) (spell_reading r) (place_read-spelled r)
+finished-spelled (assigning to) r = made-spelled (assign to) (spell_purpose (assigning to)) (spell_reading r) (whole r) (λ e rest. refl) (whole-spelled r)
+finished-spelled (augmenting to by) r = made-spelled (augment to by) (spell_purpose (augmenting to by)) (spell_reading r) (whole r) (λ e rest. refl) (whole-spelled r)
+
+ends-added : (os : List Outer) (at : Spot) (s : Option Simple) (f : List Kind → List Kind) → SpellsSimple s f → Added (λ rest. spell_outers os (spell_spot at (f rest))) t.Newline (ends os at s)
+ends-added os at None f h = tt
+ends-added os at (Some s) f h = λ rest. ended-spelled os at s rest ∙ ap (λ x. spell_outers os (spell_spot at x)) (h (t.Newline ∷ rest))
+
+assigns-added : (os : List Outer) (at : Spot) (u : Purpose) (to : Option Place) (f : List Kind → List Kind) → SpellsPlace to f → Added (λ rest. spell_outers os (spell_spot at (spell_purpose u (f rest)))) assign_sign (assigns os at u to)
+assigns-added os at showing (Some to) f h = λ rest. ap (λ x. spell_outers os (spell_spot at x)) (h (assign_sign ∷ rest))
+assigns-added os at _ _ f h = tt
+
+augments-added : (os : List Outer) (at : Spot) (by : Augmentation) (u : Purpose) (to : Option Place) (f : List Kind → List Kind) → SpellsPlace to f → Added (λ rest. spell_outers os (spell_spot at (spell_purpose u (f rest)))) (augmentation_sign by) (augments os at by u to)
+augments-added os at by showing (Some to) f h = λ rest. ap (λ x. spell_outers os (spell_spot at x)) (h (augmentation_sign by ∷ rest))
+augments-added os at by _ _ f h = tt
+
+then_simple-added : (os : List Outer) (at : Spot) (u : Purpose) (f : List Kind → List Kind) (t : Kind) (r : Option Reading) → Adds f t r → Added (λ rest. spell_outers os (spell_spot at (spell_purpose u (f rest)))) t (then_simple os at u r)
+then_simple-added os at u f t None h = tt
+then_simple-added os at deleting f t (Some r) h = allowed-added (narrow r) (in_simple os at deleting r) (λ rest. spell_outers os (spell_spot at (del_word ∷ f rest))) t (λ rest. ap (λ x. spell_outers os (spell_spot at (del_word ∷ x))) (h rest))
+then_simple-added os at showing f t (Some r) h = λ rest. ap (λ x. spell_outers os (spell_spot at x)) (h rest)
+then_simple-added os at giving f t (Some r) h = λ rest. ap (λ x. spell_outers os (spell_spot at (return_word ∷ x))) (h rest)
+then_simple-added os at (assigning to) f t (Some r) h = λ rest. ap (λ x. spell_outers os (spell_spot at (spell_purpose (assigning to) x))) (h rest)
+then_simple-added os at (augmenting to by) f t (Some r) h = λ rest. ap (λ x. spell_outers os (spell_spot at (spell_purpose (augmenting to by) x))) (h rest)
+
+begins-added : (os : List Outer) (at : Spot) (t : Kind) → Added (λ rest. spell_outers os (spell_spot at rest)) t (begins os at t)
+begins-added os at pass_word = λ rest. refl
+begins-added os at break_word = allowed-added (spot_around os at).in_loop _ (λ rest. spell_outers os (spell_spot at rest)) break_word (λ rest. refl)
+begins-added os at continue_word = allowed-added (spot_around os at).in_loop _ (λ rest. spell_outers os (spell_spot at rest)) continue_word (λ rest. refl)
+begins-added os at return_word = allowed-added (spot_around os at).in_function _ (λ rest. spell_outers os (spell_spot at rest)) return_word (λ rest. refl)
+begins-added os at global_word = allowed-added (spot_around os at).in_function _ (λ rest. spell_outers os (spell_spot at rest)) global_word (λ rest. refl)
+begins-added os at del_word = λ rest. refl
+begins-added os at t = then_simple-added os at showing (λ rest. rest) t (read begun t) (read-adds begun t)
+
+on_simple-added : (os : List Outer) (at : Spot) (u : Purpose) (r : Reading) (t : Kind) → Added (λ rest. spell_outers os (spell_spot at (spell_purpose u (spell_reading r rest)))) t (on_simple os at u r t)
+on_simple-added os at u r t.Newline = ends-added os at (finished u r) (λ rest. spell_purpose u (spell_reading r rest)) (finished-spelled u r)
+on_simple-added os at u r assign_sign = assigns-added os at u (place_read r) (spell_reading r) (place_read-spelled r)
+on_simple-added os at u r plus_assign_sign = augments-added os at by_plus u (place_read r) (spell_reading r) (place_read-spelled r)
+on_simple-added os at u r minus_assign_sign = augments-added os at by_minus u (place_read r) (spell_reading r) (place_read-spelled r)
+on_simple-added os at u r times_assign_sign = augments-added os at by_times u (place_read r) (spell_reading r) (place_read-spelled r)
+on_simple-added os at u r floor_assign_sign = augments-added os at by_floor u (place_read r) (spell_reading r) (place_read-spelled r)
+on_simple-added os at u r mod_assign_sign = augments-added os at by_modulo u (place_read r) (spell_reading r) (place_read-spelled r)
+on_simple-added os at u r t = then_simple-added os at u (spell_reading r) t (read r t) (read-adds r t)
+
+on_word-added : (os : List Outer) (at : Spot) (w : Word) (k : Kind) → Added (spell_state (after_word os at w)) k (on_word os at w k)
+on_word-added os at w t.Newline = λ rest. ended-spelled os at (word w) rest
+on_word-added os at w _ = tt
+
+on_global-added : (os : List Outer) (at : Spot) (ns : Option Names) (k : Kind) → Added (spell_state (in_global os at ns)) k (on_global os at ns k)
+on_global-added os at ns (t.Name n) = allowed-added (is_new_name ns n (spot_heard os at)) _ (spell_state (in_global os at ns)) (t.Name n) (λ rest. ap (λ x. spell_outers os (spell_spot at (global_word ∷ x))) (add_name-spelled ns n rest))
+on_global-added os at ns _ = tt
+
+on_global_name-added : (os : List Outer) (at : Spot) (ns : Names) (k : Kind) → Added (spell_state (has_global os at ns)) k (on_global_name os at ns k)
+on_global_name-added os at ns comma = λ rest. refl
+on_global_name-added os at ns t.Newline = λ rest. ended-spelled os at (declare ns) rest
+on_global_name-added os at ns _ = tt
+
+-- ---- heads and lines
+
+pub head_of-spelled : (lead : Lead) (a : Expression) (rest : List Kind) → spell_head (head_of lead a) rest ≡ spell_lead lead (spell_expression a (colon ∷ rest))
+head_of-spelled lead_if a rest = refl
+head_of-spelled (lead_elif bs) a rest = refl
+head_of-spelled lead_while a rest = refl
+head_of-spelled (lead_for n) a rest = refl
+
+tested-added : (os : List Outer) (before : Option Statements) (lead : Lead) (a : Option Expression) (f : List Kind → List Kind) (k : Kind) → Spells a f → Added (λ rest. spell_outers os (spell_front before (spell_lead lead (f rest)))) k (tested os before lead a k)
+tested-added os before lead (Some a) f colon h = λ rest. ap (λ x. spell_outers os (spell_front before x)) (head_of-spelled lead a rest ∙ ap (spell_lead lead) (h (colon ∷ rest)))
+tested-added os before lead _ f k h = tt
+
+then_test-added : (os : List Outer) (before : Option Statements) (lead : Lead) (r : Reading) (t : Kind) (s : Option Reading) → Adds (spell_reading r) t s → Added (spell_state (in_test os before lead r)) t (then_test os before lead r t s)
+then_test-added os before lead r t (Some s) h = λ rest. ap (λ x. spell_outers os (spell_front before (spell_lead lead x))) (h rest)
+then_test-added os before lead r t None h = tested-added os before lead (whole r) (spell_reading r) t (whole-spelled r)
+
+abbrev SpellsContinued : Option Continued → (List Kind → List Kind) → Type 0
+SpellsContinued None f = Unit {0}
+SpellsContinued (Some (continued before bs)) f = (rest : List Kind) → spell_front before (spell_branches bs rest) ≡ f rest
+
+last_branches-spelled : (before : Option Statements) → SpellsContinued (last_branches before) (spell_front before)
+last_branches-spelled (Some (statements_one (compound (choose c) b))) = λ rest. refl
+last_branches-spelled (Some (statements_more ss (compound (choose c) b))) = λ rest. refl
+last_branches-spelled _ = tt
+
+elif_at-added : (os : List Outer) (k : Option Continued) (f : List Kind → List Kind) → SpellsContinued k f → Added (λ rest. spell_outers os (f rest)) elif_word (elif_at os k)
+elif_at-added os None f h = tt
+elif_at-added os (Some (continued before bs)) f h = λ rest. ap (spell_outers os) (h (elif_word ∷ rest))
+
+else_at-added : (os : List Outer) (k : Option Continued) (f : List Kind → List Kind) → SpellsContinued k f → Added (λ rest. spell_outers os (f rest)) else_word (else_at os k)
+else_at-added os None f h = tt
+else_at-added os (Some (continued before bs)) f h = λ rest. ap (spell_outers os) (h (else_word ∷ rest))
+
+def_at-added : (os : List Outer) (before : Option Statements) → Added (λ rest. spell_outers os (spell_front before rest)) def_word (def_at os before)
+def_at-added [] before = λ rest. refl
+def_at-added (o ∷ os) before = tt
+
+dedent_at-added : (os : List Outer) (before : Option Statements) → Added (λ rest. spell_outers os (spell_front before rest)) t.Dedent (dedent_at os before)
+dedent_at-added [] before = tt
+dedent_at-added (o ∷ os) None = tt
+dedent_at-added (o ∷ os) (Some ss) = λ rest. ap (spell_outers os) (close-spelled o (indented ss) rest)
+
+end_at-added : (os : List Outer) (before : Option Statements) → Added (λ rest. spell_outers os (spell_front before rest)) t.End (end_at os before)
+end_at-added [] before = λ rest. refl
+end_at-added (o ∷ os) before = tt
+
+on_line-added : (os : List Outer) (before : Option Statements) (t : Kind) → Added (λ rest. spell_outers os (spell_front before rest)) t (on_line os before t)
+on_line-added os before if_word = λ rest. refl
+on_line-added os before elif_word = elif_at-added os (last_branches before) _ (last_branches-spelled before)
+on_line-added os before else_word = else_at-added os (last_branches before) _ (last_branches-spelled before)
+on_line-added os before while_word = λ rest. refl
+on_line-added os before for_word = λ rest. refl
+on_line-added os before def_word = def_at-added os before
+on_line-added os before t.Dedent = dedent_at-added os before
+on_line-added os before t.End = end_at-added os before
+on_line-added os before t = begins-added os (own before) t
+
+on_for-added : (os : List Outer) (before : Option Statements) (k : Kind) → Added (spell_state (after_for os before)) k (on_for os before k)
+on_for-added os before (t.Name n) = λ rest. refl
+on_for-added os before _ = tt
+
+on_for_name-added : (os : List Outer) (before : Option Statements) (n : List ℕ) (k : Kind) → Added (spell_state (after_for_name os before n)) k (on_for_name os before n k)
+on_for_name-added os before n in_word = λ rest. refl
+on_for_name-added os before n _ = tt
+
+on_else-added : (os : List Outer) (before : Option Statements) (bs : Branches) (k : Kind) → Added (spell_state (after_else os before bs)) k (on_else os before bs k)
+on_else-added os before bs colon = λ rest. refl
+on_else-added os before bs _ = tt
+
+on_def-added : (before : Option Statements) (k : Kind) → Added (spell_state (after_def before)) k (on_def before k)
+on_def-added before (t.Name n) = λ rest. refl
+on_def-added before _ = tt
+
+on_def_name-added : (before : Option Statements) (n : List ℕ) (k : Kind) → Added (spell_state (after_def_name before n)) k (on_def_name before n k)
+on_def_name-added before n open_parenthesis = λ rest. refl
+on_def_name-added before n _ = tt
+
+on_params-added : (before : Option Statements) (n : List ℕ) (ns : Option Names) (k : Kind) → Added (spell_state (in_params before n ns)) k (on_params before n ns k)
+on_params-added before n ns (t.Name m) = allowed-added (is_new_name ns m (λ rest. rest)) _ (spell_state (in_params before n ns)) (t.Name m) (λ rest. ap (λ x. spell_front before (def_word ∷ t.Name n ∷ open_parenthesis ∷ x)) (add_name-spelled ns m rest))
+on_params-added before n ns close_parenthesis = λ rest. ap (λ x. spell_front before (def_word ∷ t.Name n ∷ open_parenthesis ∷ x)) (params_of-spelled ns (close_parenthesis ∷ rest))
+on_params-added before n ns _ = tt
+
+on_param-added : (before : Option Statements) (n : List ℕ) (ns : Names) (k : Kind) → Added (spell_state (has_params before n ns)) k (on_param before n ns k)
+on_param-added before n ns comma = λ rest. refl
+on_param-added before n ns close_parenthesis = λ rest. refl
+on_param-added before n ns _ = tt
+
+on_params_end-added : (before : Option Statements) (n : List ℕ) (ps : Params) (k : Kind) → Added (spell_state (after_params before n ps)) k (on_params_end before n ps k)
+on_params_end-added before n ps colon = λ rest. refl
+on_params_end-added before n ps _ = tt
+
+on_colon-added : (os : List Outer) (o : Outer) (t : Kind) → Added (λ rest. spell_outers os (spell_outer o rest)) t (on_colon os o t)
+on_colon-added os o t.Newline = λ rest. refl
+on_colon-added os o t = begins-added os (behind_head o) t
+
+on_newline-added : (os : List Outer) (o : Outer) (k : Kind) → Added (spell_state (after_newline os o)) k (on_newline os o k)
+on_newline-added os o t.Indent = λ rest. refl
+on_newline-added os o _ = tt
+
+-- one more token is one more in the spelling
+pub step-added : (s : State) (t : Kind) → Added (spell_state s) t (step s t)
+step-added (line os before) t = on_line-added os before t
+step-added (in_simple os at u r) t = on_simple-added os at u r t
+step-added (after_word os at w) t = on_word-added os at w t
+step-added (in_global os at ns) t = on_global-added os at ns t
+step-added (has_global os at ns) t = on_global_name-added os at ns t
+step-added (in_test os before lead r) t = then_test-added os before lead r t (read r t) (read-adds r t)
+step-added (after_for os before) t = on_for-added os before t
+step-added (after_for_name os before n) t = on_for_name-added os before n t
+step-added (after_else os before bs) t = on_else-added os before bs t
+step-added (after_def before) t = on_def-added before t
+step-added (after_def_name before n) t = on_def_name-added before n t
+step-added (in_params before n ns) t = on_params-added before n ns t
+step-added (has_params before n ns) t = on_param-added before n ns t
+step-added (after_params before n ps) t = on_params_end-added before n ps t
+step-added (after_colon os o) t = on_colon-added os o t
+step-added (after_newline os o) t = on_newline-added os o t
+step-added (done c) t = tt
