@@ -6,3 +6,5 @@ mod Stepped
 mod Places
 mod Keeps
 mod Completed
+mod Prior
+mod Whole
