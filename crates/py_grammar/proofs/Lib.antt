@@ -8,3 +8,4 @@ mod Keeps
 mod Completed
 mod Prior
 mod Whole
+mod Refused

@@ -4,3 +4,5 @@ pub mod Readings
 pub mod Open
 pub mod Statements
 pub mod States
+pub mod Trees
+pub mod Outside

@@ -64,6 +64,55 @@ del_word = t.Keyword k.Del
 pattern abbrev pub def_word : Kind
 def_word = t.Keyword k.Def
 
+-- keywords that no rule has
+
+pattern abbrev pub as_word : Kind
+as_word = t.Keyword k.As
+
+pattern abbrev pub assert_word : Kind
+assert_word = t.Keyword k.Assert
+
+pattern abbrev pub async_word : Kind
+async_word = t.Keyword k.Async
+
+pattern abbrev pub await_word : Kind
+await_word = t.Keyword k.Await
+
+pattern abbrev pub class_word : Kind
+class_word = t.Keyword k.Class
+
+pattern abbrev pub except_word : Kind
+except_word = t.Keyword k.Except
+
+pattern abbrev pub finally_word : Kind
+finally_word = t.Keyword k.Finally
+
+pattern abbrev pub from_word : Kind
+from_word = t.Keyword k.From
+
+pattern abbrev pub import_word : Kind
+import_word = t.Keyword k.Import
+
+pattern abbrev pub lambda_word : Kind
+lambda_word = t.Keyword k.Lambda
+
+pattern abbrev pub nonlocal_word : Kind
+nonlocal_word = t.Keyword k.Nonlocal
+
+pattern abbrev pub raise_word : Kind
+raise_word = t.Keyword k.Raise
+
+pattern abbrev pub try_word : Kind
+try_word = t.Keyword k.Try
+
+pattern abbrev pub with_word : Kind
+with_word = t.Keyword k.With
+
+pattern abbrev pub yield_word : Kind
+yield_word = t.Keyword k.Yield
+
+-- operators and brackets
+
 pattern abbrev pub floor_assign_sign : Kind
 floor_assign_sign = t.Op o.FloorAssign
 

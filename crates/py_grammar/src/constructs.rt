@@ -1,0 +1,26 @@
+use py_token::Keyword;
+
+/// A construct of Python outside the grammar, which a token begins where the grammar has nothing for it.
+#[derive(Clone, Copy, Debug, PartialEq, Eq)]
+pub enum Construct {
+    /// A keyword that no rule has.
+    Word(Keyword),
+    /// `a, b` without brackets or in parentheses, and `()`.
+    Tuple,
+    /// `[a for b in c]` or `f(a for b in c)`
+    Comprehension,
+    /// `{a, b}`
+    Set,
+    /// `a is b`, where `b` isn't `None`.
+    Is,
+    /// `a.b` without a call.
+    Attribute,
+    /// `a = b = c`
+    ChainedAssignment,
+    /// `f(a=b)`
+    KeywordArgument,
+    /// `def f(a=b):`
+    Default,
+    /// `def` in a block.
+    NestedFunction,
+}
