@@ -9,3 +9,4 @@ mod Completed
 mod Prior
 mod Whole
 mod Refused
+mod Failing
