@@ -1,6 +1,7 @@
 -- The failing token, the tree, and that there is no other.
 use Rattle.std.proofs.Common.{◌≡◌, ◌+◌, ◌<◌, ◌≤◌, ℕ, zero, suc, List, [], ◌∷◌, ◌++◌, length, take, slice_get, Option, Some, None, refl, ap, ◌∙◌, sym, subst, append_assoc}
 use Rattle.py_token.specs.declared.kinds.Kind.{Kind}
+use Rattle.std.specs.Prelude.{◌↔◌}
 use Rattle.std.proofs.Common.{arith, take_at, take-take, take-append-drop, append-nil, drop}
 use Rattle.py_tree.specs.declared.statements.Stmt.{Stmt}
 use Rattle.py_grammar.specs.declared.constructs.Construct.{Construct}
@@ -143,3 +144,15 @@ read_as_definition source tokens called takes block e =
       is_cell = is;
       is_tree = refl;
     }
+
+pub begins_iff_read : (tokens : List Kind) → BeginsCell tokens ↔ ((s : State) × (run start tokens ≡ Some s))
+begins_iff_read tokens = (begins_is_read tokens, λ r. viable tokens r.0 r.1)
+
+pub read_iff_stands : (tokens : List Kind) (s : State) → (run start tokens ≡ Some s) ↔ (state_stands s × StandsAt tokens s)
+read_iff_stands tokens s = (λ e. (stands_where tokens s e, stands_at tokens s e), λ h. is_where tokens s h.0 (h.1 [] ∙ append-nil tokens))
+
+pub only_definition : (source : Source) (tokens : List Kind) (a b : Stmt) → ReadsDefinition source tokens a → Reads source tokens (a ∷ []) × (ReadsDefinition source tokens b → a ≡ b)
+only_definition source tokens a b h = (definition_reads source tokens a h, λ k. one_definition source tokens a b h k)
+
+pub some_definition : (source : Source) (tokens : List Kind) (called : List ℕ) (takes : Params) (block : Block) → run start tokens ≡ Some (done (Some (statements_one (compound (define called takes) block)))) → (tree : Stmt) × ReadsDefinition source tokens tree
+some_definition source tokens called takes block e = (_, read_as_definition source tokens called takes block e)
