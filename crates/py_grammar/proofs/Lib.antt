@@ -10,3 +10,4 @@ mod Prior
 mod Whole
 mod Refused
 mod Failing
+mod Examples
