@@ -11,7 +11,7 @@ use Rattle.py_grammar.specs.Expressions.{Compares, compares_more, compares_none,
 use Rattle.py_grammar.specs.Readings.{Upper, Lower, Opened, opened, Reading, wants, has, has_none, has_not_none, after_is, after_is_not, after_not, after_dot, after_method, begun, compares_of, bare, bare_below, narrow}
 use Rattle.py_grammar.specs.Open.{spell_upper, spell_lower, spell_bracket, spell_opened, spell_reading}
 use Rattle.py_grammar.specs.Statements.{to_item, Names, Simple, word, give, declare, delete, assign, augment, show, spell_names, spell_simple, Params, params, simple, compound, otherwise, define, inline, indented, Statements, statements_one, is_new, simple_stands, Cell, spell_front, front_stands, spelling, cell_stands}
-use Rattle.py_grammar.specs.States.{Outer, outer, Spot, own, behind_head, Purpose, showing, giving, deleting, assigning, augmenting, Lead, lead_for, State, line, in_simple, after_word, in_global, has_global, in_test, after_for, after_for_name, after_else, after_def, after_def_name, in_params, has_params, after_params, after_colon, after_newline, done, around, heard, spot_around, spot_heard, add_statement, add_name, close, ended, made, head_of, is_new_name, params_of, spell_outers, spell_spot, spell_purpose, spell_lead, spell_state, outers_stand, spot_stands, purpose_stands, state_stands}
+use Rattle.py_grammar.specs.States.{Outer, outer, Spot, own, behind_head, Purpose, showing, giving, deleting, assigning, augmenting, Lead, lead_for, State, line, in_simple, after_word, in_global, has_global, in_test, after_for, after_for_name, after_else, after_def, after_def_name, in_params, has_params, after_params, after_colon, after_newline, done, around, heard, spot_around, spot_heard, add_statement, add_name, close, ended, head_of, is_new_name, params_of, spell_outers, spell_spot, spell_purpose, spell_lead, spell_state, outers_stand, spot_stands, purpose_stands, state_stands}
 use Rattle.py_grammar.proofs.Spelled.{compares_of-spelled}
 use Rattle.py_grammar.proofs.Ends.{nought, upper-ends, bracket-closes, reading-ends}
 use Rattle.py_grammar.proofs.Stepped.{close-spelled, ended-spelled, add_name-spelled, params_of-spelled, bare_is, head_of-spelled}

@@ -16,8 +16,6 @@ use Rattle.py_token.specs.declared.kinds.Keyword.TheVariants as k
 use Rattle.py_grammar.specs.declared.constructs.Construct.{Construct}
 use Rattle.py_grammar.specs.declared.constructs.Construct.TheVariants.{Word as Word_, Tuple, Comprehension, Set, Is, Attribute, ChainedAssignment, KeywordArgument, Default, NestedFunction}
 use Rattle.py_grammar.specs.Words.{not_word, if_word, else_word, elif_word, while_word, for_word, in_word, is_word, none_word, pass_word, break_word, continue_word, return_word, global_word, del_word, def_word, import_word, plus_assign_sign, plus_sign, minus_sign, times_sign, assign_sign, open_parenthesis, close_parenthesis, open_bracket, close_bracket, open_brace, close_brace, colon, comma, dot}
-use Rattle.py_grammar.specs.Expressions.{name}
-use Rattle.py_grammar.specs.Statements.{params}
 use Rattle.py_grammar.specs.States.{State, done, start, step, run}
 use Rattle.py_grammar.specs.Trees.{tree_cell}
 use Rattle.py_grammar.specs.Outside.{outside}
@@ -81,14 +79,14 @@ relations = refl
 
 -- a(b, [],)[1:].f({a: b})
 calls : tree_of_tokens (t.Name a ∷ open_parenthesis ∷ t.Name b ∷ comma ∷ open_bracket ∷ close_bracket ∷ comma ∷ close_parenthesis ∷ open_bracket ∷ digit 1 ∷ colon ∷ close_bracket ∷ dot ∷ t.Name f
-        ∷ open_parenthesis ∷ open_brace ∷ t.Name a ∷ colon ∷ t.Name b ∷ close_brace ∷ close_parenthesis ∷ t.Newline ∷ t.End ∷ [])
+    ∷ open_parenthesis ∷ open_brace ∷ t.Name a ∷ colon ∷ t.Name b ∷ close_brace ∷ close_parenthesis ∷ t.Newline ∷ t.End ∷ [])
     ≡ Some (s.Show (e.Method (e.Slice (e.Call (named a) (named b ∷ e.ListOf [] ∷ [])) (Some (numbered 1)) None) f (e.DictOf (record { key = named a; value = named b } ∷ []) ∷ [])) ∷ [])
 unfolding tree_of_tokens cell_of
 calls = refl
 
 -- if a: pass / elif b: b[1] += 2 / else: del a
 branch : tree_of_tokens (if_word ∷ t.Name a ∷ colon ∷ pass_word ∷ t.Newline ∷ elif_word ∷ t.Name b ∷ colon ∷ t.Newline ∷ t.Indent ∷ t.Name b ∷ open_bracket ∷ digit 1 ∷ close_bracket ∷ plus_assign_sign ∷ digit 2 ∷ t.Newline ∷ t.Dedent
-        ∷ else_word ∷ colon ∷ del_word ∷ t.Name a ∷ t.Newline ∷ t.End ∷ [])
+    ∷ else_word ∷ colon ∷ del_word ∷ t.Name a ∷ t.Newline ∷ t.End ∷ [])
     ≡ Some (s.If (record { test = named a; body = s.Pass ∷ [] } ∷ record { test = named b; body = s.Augment (place.Item (named b) (numbered 1)) o.Plus (numbered 2) ∷ [] } ∷ []) (s.Delete (place.Name a) ∷ []) ∷ [])
 unfolding tree_of_tokens cell_of
 branch = refl

@@ -157,8 +157,8 @@ ended-prior (word w) os at h k m = from (after_word os at w) t.Newline refl (h, 
 ended-prior leave os at h k m = from (in_simple os at giving begun) t.Newline refl (h, k, m)
 ended-prior (give a) os at h k m =
     from (in_simple os at giving (at_expression [] a)) t.Newline
-        (ap (λ b. ends os at (if b then Some leave else if_made give (whole (at_expression [] a)))) (compares-not-begun (core_of a) (upper_of [] a)) ∙ ap (λ o. ends os at (if_made give o)) (whole-back a))
-        (h, k, m)
+    (ap (λ b. ends os at (if b then Some leave else if_made give (whole (at_expression [] a)))) (compares-not-begun (core_of a) (upper_of [] a)) ∙ ap (λ o. ends os at (if_made give o)) (whole-back a))
+    (h, k, m)
 ended-prior (declare ns) os at h k m = from (has_global os at ns) t.Newline refl (h, k, m.0, m.1)
 ended-prior (delete to) os at h k m = from (in_simple os at deleting (has [] no_upper no_lower (primary_of to))) t.Newline (deleted-back os at to) (h, k, refl)
 ended-prior (assign to a) os at h k m = from (in_simple os at (assigning to) (at_expression [] a)) t.Newline (ap (λ o. ends os at (if_made (assign to) o)) (whole-back a)) (h, k, tt)

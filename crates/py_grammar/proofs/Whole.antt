@@ -3,7 +3,6 @@ use Rattle.std.proofs.Common.{◌≡◌, ◌+◌, ◌≤◌, ℕ, zero, suc, Lis
 use Rattle.py_token.specs.declared.kinds.Kind.{Kind}
 use Rattle.std.proofs.Common.{arith}
 use Rattle.std.proofs.lemmas.List.{append-nil}
-use Rattle.py_grammar.specs.Readings.{read}
 use Rattle.py_grammar.specs.Statements.{Cell, IsCell, BeginsCell}
 use Rattle.py_grammar.specs.States.{State, done, start, step, run, spell_state, state_stands}
 use Rattle.py_grammar.proofs.Stepped.{Adds_state, step-added}
@@ -121,6 +120,7 @@ begun_is_read ts (more, c, is) bad =
     stays_on : (ts more : List Kind) (o : Option State) → ((v : State) → run v ts ≡ None → run v (ts ++ more) ≡ None) → then_run ts o ≡ None → then_run (ts ++ more) o ≡ None
     stays_on ts more None f e = refl
     stays_on ts more (Some v) f e = f v e
+
     stays : (ts : List Kind) (s : State) (more : List Kind) → run s ts ≡ None → run s (ts ++ more) ≡ None
     stays [] s more e = cc
     stays (t ∷ ts) s more e = stays_on ts more (step s t) (λ v. stays ts v more) e
