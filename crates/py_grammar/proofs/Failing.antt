@@ -156,3 +156,37 @@ only_definition source tokens a b h = (definition_reads source tokens a h, λ k.
 
 pub some_definition : (source : Source) (tokens : List Kind) (called : List ℕ) (takes : Params) (block : Block) → run start tokens ≡ Some (done (Some (statements_one (compound (define called takes) block)))) → (tree : Stmt) × ReadsDefinition source tokens tree
 some_definition source tokens called takes block e = (_, read_as_definition source tokens called takes block e)
+
+take_past : (tokens : List Kind) (place : ℕ) → slice_get tokens place ≡ None → take (suc place) tokens ≡ take place tokens
+take_past [] zero h = refl
+take_past [] (suc place) h = refl
+take_past (x ∷ xs) zero h = cc
+take_past (x ∷ xs) (suc place) h = ap (◌∷◌ x) (take_past xs place h)
+
+-- where the machine stands at a token, and that it refuses it
+pub record StopsAt (tokens : List Kind) (place : ℕ) : Type 0 where
+  pub open_forms : State
+  pub token : Kind
+  pub leads : run start (take place tokens) ≡ Some open_forms
+  pub is_token : slice_get tokens place ≡ Some token
+  pub is_refused : step open_forms token ≡ None
+
+stops_on : (tokens : List Kind) (place : ℕ) (s : State) (t : Kind) (o : Option State) → IsFailing tokens place → run start (take place tokens) ≡ Some s → slice_get tokens place ≡ Some t → step s t ≡ o → StopsAt tokens place
+stops_on tokens place s t None h r g e = record { open_forms = s; token = t; leads = r; is_token = g; is_refused = e }
+stops_on tokens place s t (Some v) h r g e =
+    let n : place + 1 ≡ suc place = omega arith in
+    let next : take (place + 1) tokens ≡ take place tokens ++ t ∷ [] = ap (λ n. take n tokens) n ∙ take-next tokens place t g in
+    absurd (h.with (subst BeginsCell (sym next) (viable (take place tokens ++ t ∷ []) v (run-append (take place tokens) (t ∷ []) start s r ∙ ap (then_run []) e))))
+
+stops_read : (tokens : List Kind) (place : ℕ) (o : Option Kind) → IsFailing tokens place → slice_get tokens place ≡ o → StopsAt tokens place
+stops_read tokens place None h g =
+    let n : place + 1 ≡ suc place = omega arith in
+    absurd (h.with (subst BeginsCell (sym (ap (λ n. take n tokens) n ∙ take_past tokens place g)) h.before))
+stops_read tokens place (Some t) h g = let r = begins_is_read (take place tokens) h.before in stops_on tokens place r.0 t (step r.0 t) h r.1 g refl
+
+-- the machine stops at the failing token
+pub failing_stops : (tokens : List Kind) (place : ℕ) → IsFailing tokens place
+    → (s : State) × (t : Kind) × (run start (take place tokens) ≡ Some s) × (slice_get tokens place ≡ Some t) × (step s t ≡ None)
+failing_stops tokens place h =
+    let r = stops_read tokens place (slice_get tokens place) h refl in
+    (r.open_forms, r.token, r.leads, r.is_token, r.is_refused)

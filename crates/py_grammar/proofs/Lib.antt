@@ -1,13 +1,13 @@
-mod Spelled
-mod Standing
-mod Last
-mod Ends
-mod Stepped
-mod Places
-mod Keeps
-mod Completed
-mod Prior
-mod Whole
-mod Refused
-mod Failing
+pub mod Spelled
+pub mod Standing
+pub mod Last
+pub mod Ends
+pub mod Stepped
+pub mod Places
+pub mod Keeps
+pub mod Completed
+pub mod Prior
+pub mod Whole
+pub mod Refused
+pub mod Failing
 mod Examples

@@ -11,9 +11,9 @@ use Rattle.py_grammar.specs.Statements.{Place, Augmentation, by_plus, by_minus, 
 use Rattle.py_grammar.specs.States.{Outer, outer, Spot, own, behind_head, Purpose, showing, giving, deleting, assigning, augmenting, Lead, lead_if, lead_elif, lead_while, lead_for, State, line, in_simple, after_word, in_global, has_global, in_test, after_for, after_for_name, after_else, after_def, after_def_name, in_params, has_params, after_params, after_colon, after_newline, done, spot_around, spot_heard, add_statement, add_name, close, ended, place_of, place_read, is_begun, if_made, if_deleted, finished, head_of, Continued, continued, last_branches, if_allowed, then_simple, begins, elif_at, else_at, def_at, dedent_at, end_at, on_line, ends, assigns, augments, on_simple, on_word, spell_names_before, is_new_name, on_global, on_global_name, tested, then_test, on_for, on_for_name, on_else, on_def, on_def_name, params_of, on_params, on_param, on_params_end, on_colon, on_newline, step, spell_outer, spell_outers, spell_spot, spell_purpose, spell_lead, spell_state}
 use Rattle.py_grammar.proofs.Spelled.{Adds, Spells, read-adds, whole-spelled}
 
-abbrev pub Adds_state : (List Kind → List Kind) → Kind → Option State → Type 0
-Adds_state before t None = Unit {0}
-Adds_state before t (Some s) = (rest : List Kind) → spell_state s rest ≡ before (t ∷ rest)
+abbrev pub AddsToCell : (List Kind → List Kind) → Kind → Option State → Type 0
+AddsToCell before t None = Unit {0}
+AddsToCell before t (Some s) = (rest : List Kind) → spell_state s rest ≡ before (t ∷ rest)
 
 pub add_statement-spelled : (b : Option Statements) (s : Statement) (rest : List Kind) → spell_front (add_statement b s) rest ≡ spell_front b (spell_statement s rest)
 add_statement-spelled None s rest = refl
@@ -34,7 +34,7 @@ pub params_of-spelled : (ns : Option Names) (rest : List Kind) → spell_params 
 params_of-spelled None rest = refl
 params_of-spelled (Some ns) rest = refl
 
-allowed-added : (b : Bool) (s : State) (f : List Kind → List Kind) (t : Kind) → Adds_state f t (Some s) → Adds_state f t (if_allowed b s)
+allowed-added : (b : Bool) (s : State) (f : List Kind → List Kind) (t : Kind) → AddsToCell f t (Some s) → AddsToCell f t (if_allowed b s)
 allowed-added true s f t h = h
 allowed-added false s f t h = tt
 
@@ -110,19 +110,19 @@ finished-spelled deleting r = deleted-spelled (place_read r) (spell_reading r) (
 finished-spelled (assigning to) r = made-spelled (assign to) (spell_purpose (assigning to)) (spell_reading r) (whole r) (λ e rest. refl) (whole-spelled r)
 finished-spelled (augmenting to by) r = made-spelled (augment to by) (spell_purpose (augmenting to by)) (spell_reading r) (whole r) (λ e rest. refl) (whole-spelled r)
 
-ends-added : (os : List Outer) (at : Spot) (s : Option Simple) (f : List Kind → List Kind) → SpellsSimple s f → Adds_state (λ rest. spell_outers os (spell_spot at (f rest))) t.Newline (ends os at s)
+ends-added : (os : List Outer) (at : Spot) (s : Option Simple) (f : List Kind → List Kind) → SpellsSimple s f → AddsToCell (λ rest. spell_outers os (spell_spot at (f rest))) t.Newline (ends os at s)
 ends-added os at None f h = tt
 ends-added os at (Some s) f h = λ rest. ended-spelled os at s rest ∙ ap (λ x. spell_outers os (spell_spot at x)) (h (t.Newline ∷ rest))
 
-assigns-added : (os : List Outer) (at : Spot) (u : Purpose) (to : Option Place) (f : List Kind → List Kind) → SpellsPlace to f → Adds_state (λ rest. spell_outers os (spell_spot at (spell_purpose u (f rest)))) assign_sign (assigns os at u to)
+assigns-added : (os : List Outer) (at : Spot) (u : Purpose) (to : Option Place) (f : List Kind → List Kind) → SpellsPlace to f → AddsToCell (λ rest. spell_outers os (spell_spot at (spell_purpose u (f rest)))) assign_sign (assigns os at u to)
 assigns-added os at showing (Some to) f h = λ rest. ap (λ x. spell_outers os (spell_spot at x)) (h (assign_sign ∷ rest))
 assigns-added os at _ _ f h = tt
 
-augments-added : (os : List Outer) (at : Spot) (by : Augmentation) (u : Purpose) (to : Option Place) (f : List Kind → List Kind) → SpellsPlace to f → Adds_state (λ rest. spell_outers os (spell_spot at (spell_purpose u (f rest)))) (augmentation_sign by) (augments os at by u to)
+augments-added : (os : List Outer) (at : Spot) (by : Augmentation) (u : Purpose) (to : Option Place) (f : List Kind → List Kind) → SpellsPlace to f → AddsToCell (λ rest. spell_outers os (spell_spot at (spell_purpose u (f rest)))) (augmentation_sign by) (augments os at by u to)
 augments-added os at by showing (Some to) f h = λ rest. ap (λ x. spell_outers os (spell_spot at x)) (h (augmentation_sign by ∷ rest))
 augments-added os at by _ _ f h = tt
 
-then_simple-added : (os : List Outer) (at : Spot) (u : Purpose) (f : List Kind → List Kind) (t : Kind) (r : Option Reading) → Adds f t r → Adds_state (λ rest. spell_outers os (spell_spot at (spell_purpose u (f rest)))) t (then_simple os at u r)
+then_simple-added : (os : List Outer) (at : Spot) (u : Purpose) (f : List Kind → List Kind) (t : Kind) (r : Option Reading) → Adds f t r → AddsToCell (λ rest. spell_outers os (spell_spot at (spell_purpose u (f rest)))) t (then_simple os at u r)
 then_simple-added os at u f t None h = tt
 then_simple-added os at deleting f t (Some r) h = allowed-added (narrow r) (in_simple os at deleting r) (λ rest. spell_outers os (spell_spot at (del_word ∷ f rest))) t (λ rest. ap (λ x. spell_outers os (spell_spot at (del_word ∷ x))) (h rest))
 then_simple-added os at showing f t (Some r) h = λ rest. ap (λ x. spell_outers os (spell_spot at x)) (h rest)
@@ -130,7 +130,7 @@ then_simple-added os at giving f t (Some r) h = λ rest. ap (λ x. spell_outers 
 then_simple-added os at (assigning to) f t (Some r) h = λ rest. ap (λ x. spell_outers os (spell_spot at (spell_purpose (assigning to) x))) (h rest)
 then_simple-added os at (augmenting to by) f t (Some r) h = λ rest. ap (λ x. spell_outers os (spell_spot at (spell_purpose (augmenting to by) x))) (h rest)
 
-begins-added : (os : List Outer) (at : Spot) (t : Kind) → Adds_state (λ rest. spell_outers os (spell_spot at rest)) t (begins os at t)
+begins-added : (os : List Outer) (at : Spot) (t : Kind) → AddsToCell (λ rest. spell_outers os (spell_spot at rest)) t (begins os at t)
 begins-added os at pass_word = λ rest. refl
 begins-added os at break_word = allowed-added (spot_around os at).in_loop _ (λ rest. spell_outers os (spell_spot at rest)) break_word (λ rest. refl)
 begins-added os at continue_word = allowed-added (spot_around os at).in_loop _ (λ rest. spell_outers os (spell_spot at rest)) continue_word (λ rest. refl)
@@ -139,7 +139,7 @@ begins-added os at global_word = allowed-added (spot_around os at).in_function _
 begins-added os at del_word = λ rest. refl
 begins-added os at t = then_simple-added os at showing (λ rest. rest) t (read begun t) (read-adds begun t)
 
-on_simple-added : (os : List Outer) (at : Spot) (u : Purpose) (r : Reading) (t : Kind) → Adds_state (λ rest. spell_outers os (spell_spot at (spell_purpose u (spell_reading r rest)))) t (on_simple os at u r t)
+on_simple-added : (os : List Outer) (at : Spot) (u : Purpose) (r : Reading) (t : Kind) → AddsToCell (λ rest. spell_outers os (spell_spot at (spell_purpose u (spell_reading r rest)))) t (on_simple os at u r t)
 on_simple-added os at u r t.Newline = ends-added os at (finished u r) (λ rest. spell_purpose u (spell_reading r rest)) (finished-spelled u r)
 on_simple-added os at u r assign_sign = assigns-added os at u (place_read r) (spell_reading r) (place_read-spelled r)
 on_simple-added os at u r plus_assign_sign = augments-added os at by_plus u (place_read r) (spell_reading r) (place_read-spelled r)
@@ -149,15 +149,15 @@ on_simple-added os at u r floor_assign_sign = augments-added os at by_floor u (p
 on_simple-added os at u r mod_assign_sign = augments-added os at by_modulo u (place_read r) (spell_reading r) (place_read-spelled r)
 on_simple-added os at u r t = then_simple-added os at u (spell_reading r) t (read r t) (read-adds r t)
 
-on_word-added : (os : List Outer) (at : Spot) (w : Word) (k : Kind) → Adds_state (spell_state (after_word os at w)) k (on_word os at w k)
+on_word-added : (os : List Outer) (at : Spot) (w : Word) (k : Kind) → AddsToCell (spell_state (after_word os at w)) k (on_word os at w k)
 on_word-added os at w t.Newline = λ rest. ended-spelled os at (word w) rest
 on_word-added os at w _ = tt
 
-on_global-added : (os : List Outer) (at : Spot) (ns : Option Names) (k : Kind) → Adds_state (spell_state (in_global os at ns)) k (on_global os at ns k)
+on_global-added : (os : List Outer) (at : Spot) (ns : Option Names) (k : Kind) → AddsToCell (spell_state (in_global os at ns)) k (on_global os at ns k)
 on_global-added os at ns (t.Name n) = allowed-added (is_new_name ns n (spot_heard os at)) _ (spell_state (in_global os at ns)) (t.Name n) (λ rest. ap (λ x. spell_outers os (spell_spot at (global_word ∷ x))) (add_name-spelled ns n rest))
 on_global-added os at ns _ = tt
 
-on_global_name-added : (os : List Outer) (at : Spot) (ns : Names) (k : Kind) → Adds_state (spell_state (has_global os at ns)) k (on_global_name os at ns k)
+on_global_name-added : (os : List Outer) (at : Spot) (ns : Names) (k : Kind) → AddsToCell (spell_state (has_global os at ns)) k (on_global_name os at ns k)
 on_global_name-added os at ns comma = λ rest. refl
 on_global_name-added os at ns t.Newline = λ rest. ended-spelled os at (declare ns) rest
 on_global_name-added os at ns _ = tt
@@ -170,11 +170,11 @@ head_of-spelled (lead_elif bs) a rest = refl
 head_of-spelled lead_while a rest = refl
 head_of-spelled (lead_for n) a rest = refl
 
-tested-added : (os : List Outer) (before : Option Statements) (lead : Lead) (a : Option Expression) (f : List Kind → List Kind) (k : Kind) → Spells a f → Adds_state (λ rest. spell_outers os (spell_front before (spell_lead lead (f rest)))) k (tested os before lead a k)
+tested-added : (os : List Outer) (before : Option Statements) (lead : Lead) (a : Option Expression) (f : List Kind → List Kind) (k : Kind) → Spells a f → AddsToCell (λ rest. spell_outers os (spell_front before (spell_lead lead (f rest)))) k (tested os before lead a k)
 tested-added os before lead (Some a) f colon h = λ rest. ap (λ x. spell_outers os (spell_front before x)) (head_of-spelled lead a rest ∙ ap (spell_lead lead) (h (colon ∷ rest)))
 tested-added os before lead _ f k h = tt
 
-then_test-added : (os : List Outer) (before : Option Statements) (lead : Lead) (r : Reading) (t : Kind) (s : Option Reading) → Adds (spell_reading r) t s → Adds_state (spell_state (in_test os before lead r)) t (then_test os before lead r t s)
+then_test-added : (os : List Outer) (before : Option Statements) (lead : Lead) (r : Reading) (t : Kind) (s : Option Reading) → Adds (spell_reading r) t s → AddsToCell (spell_state (in_test os before lead r)) t (then_test os before lead r t s)
 then_test-added os before lead r t (Some s) h = λ rest. ap (λ x. spell_outers os (spell_front before (spell_lead lead x))) (h rest)
 then_test-added os before lead r t None h = tested-added os before lead (whole r) (spell_reading r) t (whole-spelled r)
 
@@ -187,28 +187,28 @@ last_branches-spelled (Some (statements_one (compound (choose c) b))) = λ rest.
 last_branches-spelled (Some (statements_more ss (compound (choose c) b))) = λ rest. refl
 last_branches-spelled _ = tt
 
-elif_at-added : (os : List Outer) (k : Option Continued) (f : List Kind → List Kind) → SpellsContinued k f → Adds_state (λ rest. spell_outers os (f rest)) elif_word (elif_at os k)
+elif_at-added : (os : List Outer) (k : Option Continued) (f : List Kind → List Kind) → SpellsContinued k f → AddsToCell (λ rest. spell_outers os (f rest)) elif_word (elif_at os k)
 elif_at-added os None f h = tt
 elif_at-added os (Some (continued before bs)) f h = λ rest. ap (spell_outers os) (h (elif_word ∷ rest))
 
-else_at-added : (os : List Outer) (k : Option Continued) (f : List Kind → List Kind) → SpellsContinued k f → Adds_state (λ rest. spell_outers os (f rest)) else_word (else_at os k)
+else_at-added : (os : List Outer) (k : Option Continued) (f : List Kind → List Kind) → SpellsContinued k f → AddsToCell (λ rest. spell_outers os (f rest)) else_word (else_at os k)
 else_at-added os None f h = tt
 else_at-added os (Some (continued before bs)) f h = λ rest. ap (spell_outers os) (h (else_word ∷ rest))
 
-def_at-added : (os : List Outer) (before : Option Statements) → Adds_state (λ rest. spell_outers os (spell_front before rest)) def_word (def_at os before)
+def_at-added : (os : List Outer) (before : Option Statements) → AddsToCell (λ rest. spell_outers os (spell_front before rest)) def_word (def_at os before)
 def_at-added [] before = λ rest. refl
 def_at-added (o ∷ os) before = tt
 
-dedent_at-added : (os : List Outer) (before : Option Statements) → Adds_state (λ rest. spell_outers os (spell_front before rest)) t.Dedent (dedent_at os before)
+dedent_at-added : (os : List Outer) (before : Option Statements) → AddsToCell (λ rest. spell_outers os (spell_front before rest)) t.Dedent (dedent_at os before)
 dedent_at-added [] before = tt
 dedent_at-added (o ∷ os) None = tt
 dedent_at-added (o ∷ os) (Some ss) = λ rest. ap (spell_outers os) (close-spelled o (indented ss) rest)
 
-end_at-added : (os : List Outer) (before : Option Statements) → Adds_state (λ rest. spell_outers os (spell_front before rest)) t.End (end_at os before)
+end_at-added : (os : List Outer) (before : Option Statements) → AddsToCell (λ rest. spell_outers os (spell_front before rest)) t.End (end_at os before)
 end_at-added [] before = λ rest. refl
 end_at-added (o ∷ os) before = tt
 
-on_line-added : (os : List Outer) (before : Option Statements) (t : Kind) → Adds_state (λ rest. spell_outers os (spell_front before rest)) t (on_line os before t)
+on_line-added : (os : List Outer) (before : Option Statements) (t : Kind) → AddsToCell (λ rest. spell_outers os (spell_front before rest)) t (on_line os before t)
 on_line-added os before if_word = λ rest. refl
 on_line-added os before elif_word = elif_at-added os (last_branches before) _ (last_branches-spelled before)
 on_line-added os before else_word = else_at-added os (last_branches before) _ (last_branches-spelled before)
@@ -219,50 +219,50 @@ on_line-added os before t.Dedent = dedent_at-added os before
 on_line-added os before t.End = end_at-added os before
 on_line-added os before t = begins-added os (own before) t
 
-on_for-added : (os : List Outer) (before : Option Statements) (k : Kind) → Adds_state (spell_state (after_for os before)) k (on_for os before k)
+on_for-added : (os : List Outer) (before : Option Statements) (k : Kind) → AddsToCell (spell_state (after_for os before)) k (on_for os before k)
 on_for-added os before (t.Name n) = λ rest. refl
 on_for-added os before _ = tt
 
-on_for_name-added : (os : List Outer) (before : Option Statements) (n : List ℕ) (k : Kind) → Adds_state (spell_state (after_for_name os before n)) k (on_for_name os before n k)
+on_for_name-added : (os : List Outer) (before : Option Statements) (n : List ℕ) (k : Kind) → AddsToCell (spell_state (after_for_name os before n)) k (on_for_name os before n k)
 on_for_name-added os before n in_word = λ rest. refl
 on_for_name-added os before n _ = tt
 
-on_else-added : (os : List Outer) (before : Option Statements) (bs : Branches) (k : Kind) → Adds_state (spell_state (after_else os before bs)) k (on_else os before bs k)
+on_else-added : (os : List Outer) (before : Option Statements) (bs : Branches) (k : Kind) → AddsToCell (spell_state (after_else os before bs)) k (on_else os before bs k)
 on_else-added os before bs colon = λ rest. refl
 on_else-added os before bs _ = tt
 
-on_def-added : (before : Option Statements) (k : Kind) → Adds_state (spell_state (after_def before)) k (on_def before k)
+on_def-added : (before : Option Statements) (k : Kind) → AddsToCell (spell_state (after_def before)) k (on_def before k)
 on_def-added before (t.Name n) = λ rest. refl
 on_def-added before _ = tt
 
-on_def_name-added : (before : Option Statements) (n : List ℕ) (k : Kind) → Adds_state (spell_state (after_def_name before n)) k (on_def_name before n k)
+on_def_name-added : (before : Option Statements) (n : List ℕ) (k : Kind) → AddsToCell (spell_state (after_def_name before n)) k (on_def_name before n k)
 on_def_name-added before n open_parenthesis = λ rest. refl
 on_def_name-added before n _ = tt
 
-on_params-added : (before : Option Statements) (n : List ℕ) (ns : Option Names) (k : Kind) → Adds_state (spell_state (in_params before n ns)) k (on_params before n ns k)
+on_params-added : (before : Option Statements) (n : List ℕ) (ns : Option Names) (k : Kind) → AddsToCell (spell_state (in_params before n ns)) k (on_params before n ns k)
 on_params-added before n ns (t.Name m) = allowed-added (is_new_name ns m (λ rest. rest)) _ (spell_state (in_params before n ns)) (t.Name m) (λ rest. ap (λ x. spell_front before (def_word ∷ t.Name n ∷ open_parenthesis ∷ x)) (add_name-spelled ns m rest))
 on_params-added before n ns close_parenthesis = λ rest. ap (λ x. spell_front before (def_word ∷ t.Name n ∷ open_parenthesis ∷ x)) (params_of-spelled ns (close_parenthesis ∷ rest))
 on_params-added before n ns _ = tt
 
-on_param-added : (before : Option Statements) (n : List ℕ) (ns : Names) (k : Kind) → Adds_state (spell_state (has_params before n ns)) k (on_param before n ns k)
+on_param-added : (before : Option Statements) (n : List ℕ) (ns : Names) (k : Kind) → AddsToCell (spell_state (has_params before n ns)) k (on_param before n ns k)
 on_param-added before n ns comma = λ rest. refl
 on_param-added before n ns close_parenthesis = λ rest. refl
 on_param-added before n ns _ = tt
 
-on_params_end-added : (before : Option Statements) (n : List ℕ) (ps : Params) (k : Kind) → Adds_state (spell_state (after_params before n ps)) k (on_params_end before n ps k)
+on_params_end-added : (before : Option Statements) (n : List ℕ) (ps : Params) (k : Kind) → AddsToCell (spell_state (after_params before n ps)) k (on_params_end before n ps k)
 on_params_end-added before n ps colon = λ rest. refl
 on_params_end-added before n ps _ = tt
 
-on_colon-added : (os : List Outer) (o : Outer) (t : Kind) → Adds_state (λ rest. spell_outers os (spell_outer o rest)) t (on_colon os o t)
+on_colon-added : (os : List Outer) (o : Outer) (t : Kind) → AddsToCell (λ rest. spell_outers os (spell_outer o rest)) t (on_colon os o t)
 on_colon-added os o t.Newline = λ rest. refl
 on_colon-added os o t = begins-added os (behind_head o) t
 
-on_newline-added : (os : List Outer) (o : Outer) (k : Kind) → Adds_state (spell_state (after_newline os o)) k (on_newline os o k)
+on_newline-added : (os : List Outer) (o : Outer) (k : Kind) → AddsToCell (spell_state (after_newline os o)) k (on_newline os o k)
 on_newline-added os o t.Indent = λ rest. refl
 on_newline-added os o _ = tt
 
 -- one more token is one more in the spelling
-pub step-added : (s : State) (t : Kind) → Adds_state (spell_state s) t (step s t)
+pub step-added : (s : State) (t : Kind) → AddsToCell (spell_state s) t (step s t)
 step-added (line os before) t = on_line-added os before t
 step-added (in_simple os at u r) t = on_simple-added os at u r t
 step-added (after_word os at w) t = on_word-added os at w t

@@ -5,7 +5,7 @@ use Rattle.std.proofs.Common.{arith}
 use Rattle.std.proofs.lemmas.List.{append-nil}
 use Rattle.py_grammar.specs.Statements.{Cell, IsCell, BeginsCell}
 use Rattle.py_grammar.specs.States.{State, done, start, step, run, spell_state, state_stands}
-use Rattle.py_grammar.proofs.Stepped.{Adds_state, step-added}
+use Rattle.py_grammar.proofs.Stepped.{AddsToCell, step-added}
 use Rattle.py_grammar.proofs.Places.{state-tokens}
 use Rattle.py_grammar.proofs.Keeps.{Keeps, step-keeps}
 use Rattle.py_grammar.proofs.Completed.{state-ends}
@@ -19,7 +19,7 @@ pub record Led (s : State) (ts : List Kind) (u : State) : Type 0 where
 abbrev pub then_run : List Kind → Option State → Option State
 then_run ts o = elim o [ None ↦ None | Some u ↦ run u ts ]
 
-led_on : (ts : List Kind) (s : State) (t : Kind) (u : State) (o : Option State) → ((v : State) → state_stands v → run v ts ≡ Some u → Led v ts u) → Adds_state (spell_state s) t o → Keeps o → then_run ts o ≡ Some u → Led s (t ∷ ts) u
+led_on : (ts : List Kind) (s : State) (t : Kind) (u : State) (o : Option State) → ((v : State) → state_stands v → run v ts ≡ Some u → Led v ts u) → AddsToCell (spell_state s) t o → Keeps o → then_run ts o ≡ Some u → Led s (t ∷ ts) u
 led_on ts s t u None f a k e = cc
 led_on ts s t u (Some v) f a k e = let l = f v k e in record { spelled = λ rest. l.spelled rest ∙ a (ts ++ rest); stands = l.stands }
 
@@ -42,7 +42,7 @@ length-joined : (xs ys : List Kind) → length (xs ++ ys) ≡ length xs + length
 length-joined [] ys = omega arith
 length-joined (x ∷ xs) ys = let h = length-joined xs ys in omega arith
 
-lengths_on : (q : State) (t : Kind) (s : State) (o : Option State) → Adds_state (spell_state q) t o → o ≡ Some s → length (state-tokens s).tokens ≡ suc (length (state-tokens q).tokens)
+lengths_on : (q : State) (t : Kind) (s : State) (o : Option State) → AddsToCell (spell_state q) t o → o ≡ Some s → length (state-tokens s).tokens ≡ suc (length (state-tokens q).tokens)
 lengths_on q t s None a h = cc
 lengths_on q t s (Some u) a h =
     let same : u ≡ s = cc in
