@@ -1,5 +1,5 @@
--- What the source and the sink over memory tell.
-use Rattle.std.specs.Prelude.{ℕ, List, Option, Some, drop}
+-- What the source and the sink over memory tell, and that they have counted nothing yet.
+use Rattle.std.specs.Prelude.{◌≡◌, ℕ, List, Option, Some, drop}
 use Rattle.nb_outside.specs.declared.memory.MemSource.{MemSource}
 use Rattle.nb_outside.specs.declared.memory.MemSink.{MemSink}
 
@@ -8,3 +8,9 @@ left source = Some (drop source.at source.bytes.items)
 
 abbrev pub written : MemSink → Option (List ℕ)
 written sink = Some sink.bytes.items
+
+abbrev pub IsNewSource : MemSource → Type 0
+IsNewSource source = (source.reads ≡ 0) × (source.faults ≡ 0)
+
+abbrev pub IsNewSink : MemSink → Type 0
+IsNewSink sink = sink.faults ≡ 0

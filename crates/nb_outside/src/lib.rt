@@ -3,6 +3,10 @@
 //! Each has a count of faults that never falls, and answers `Failed` only where that count rose in the call. What a
 //! source has left and what a sink was given is optional for contracts: over memory it is told, over the real streams
 //! it isn't. Counts stand still at 2^64 - 1, and then count as risen.
+//!
+//! No contract tells at which calls a stream over memory fails, or how much it takes at once: callers have to be right
+//! for all of them. Nor does one tell what a real stream gives: that its bytes are those of the outside, and its end the
+//! outside's end, is trusted.
 #![tactic(auto)]
 
 mod memory;

@@ -41,11 +41,12 @@ pub struct MemSource {
 }
 
 impl MemSource {
-    ghost use Rattle.nb_outside.specs.Memory.{left};
+    ghost use Rattle.nb_outside.specs.Memory.{left, IsNewSource};
 
     /// A source of these bytes whose calls with the numbers in `fails`, counted from 1, fail. Takes no memory.
     pub fn new(bytes: Vec<u8>, fails: Vec<u64>) -> MemSource
-        ensures { left result ≡ Some bytes.items }
+        ensures left { left result ≡ Some bytes.items }
+        ensures counts { IsNewSource result }
     {
         MemSource {
             bytes,
@@ -94,12 +95,13 @@ pub struct MemSink {
 }
 
 impl MemSink {
-    ghost use Rattle.nb_outside.specs.Memory.{written};
+    ghost use Rattle.nb_outside.specs.Memory.{written, IsNewSink};
 
     /// An empty sink that takes at most `most` bytes at a write (0 is as 1), and whose calls with the numbers in
     /// `fails`, counted from 1, fail. Want of memory counts as a fault. Takes no memory.
     pub fn new(alloc: Global, most: usize, fails: Vec<u64>) -> MemSink
-        ensures { written result ≡ Some [] }
+        ensures written { written result ≡ Some [] }
+        ensures counts { IsNewSink result }
     {
         MemSink {
             bytes: Vec::new(alloc),

@@ -1,4 +1,5 @@
 ghost use Rattle.std.specs.Prelude.{None};
+ghost use Rattle.nb_outside.specs.Real.{IsNewSource, IsNewSink};
 
 use crate::sink::{Sink, WriteEnd};
 use crate::source::{ReadEnd, Source};
@@ -14,7 +15,9 @@ pub struct StdSource<R: Read + Drop> {
 
 impl<R: Read + Drop> StdSource<R> {
     /// A source that reads from this reader.
-    pub fn new(reader: R) -> StdSource<R> {
+    pub fn new(reader: R) -> StdSource<R>
+        ensures { IsNewSource result }
+    {
         StdSource {
             reader,
             reads: 0,
@@ -55,7 +58,9 @@ pub struct StdSink<W: Write + Drop> {
 
 impl<W: Write + Drop> StdSink<W> {
     /// A sink that writes to this writer, and doesn't flush it.
-    pub fn new(writer: W) -> StdSink<W> {
+    pub fn new(writer: W) -> StdSink<W>
+        ensures { IsNewSink result }
+    {
         StdSink { writer, faults: 0 }
     }
 }

@@ -1,7 +1,8 @@
-ghost use Rattle.std.specs.Prelude.{◌≡◌, OnOk, OnErr, IsSome, ◌↔◌, IsTrue};
+ghost use Rattle.std.specs.Prelude.{◌≡◌, IfOk, OnOk, OnErr, IsSome, ◌↔◌, IsTrue};
 ghost use Rattle.std.specs.Option.{option_copied};
 ghost use Rattle.std.specs.FinMap as finite;
 
+use crate::items::Items;
 use crate::text::Text;
 use std::alloc::{AllocError, Global};
 use std::collections::BTreeMap;
@@ -43,6 +44,17 @@ impl<V: Drop> TextMap<V> {
         self.map.get(name)
     }
 
+    /// The names that have a value, ascending by their bytes.
+    pub fn names(&self, alloc: Global) -> Result<Items<Text>, AllocError>
+        ensures { IfOk result (λ names. names ≡ finite.keys self.now) }
+    {
+        let mut names = Vec::new(alloc);
+        for name in self.map.keys() {
+            names.push(name.copy(alloc)?)?;
+        }
+        Ok(Items::from_vec(names))
+    }
+
     /// Gives a name a value, in place of one that it has. After an error nothing is changed.
     pub fn bind(&mut self, name: Text, value: V) -> Result<(), AllocError>
         ensures ok { OnOk result (self.new ≡ finite.insert self.old name value) }
@@ -54,7 +66,8 @@ impl<V: Drop> TextMap<V> {
 
     /// Takes a name's value away, and says whether it had one.
     pub fn unbind(&mut self, name: &Text) -> bool
-        ensures { self.new ≡ finite.remove self.old name.now }
+        ensures value { IsTrue result ↔ IsSome (finite.get self.old name.now) }
+        ensures rest { self.new ≡ finite.remove self.old name.now }
     {
         self.map.remove(name).is_some()
     }
@@ -62,7 +75,7 @@ impl<V: Drop> TextMap<V> {
 
 #[cfg(test)]
 mod tests {
-    use crate::{Items, Text, TextMap};
+    use crate::{Boxed, Items, Shared, Text, TextMap};
     use std::test::Fail;
 
     #[test]
@@ -73,8 +86,20 @@ mod tests {
         map.bind(Text::new(alloc, "b")?, 2)?;
         map.bind(Text::new(alloc, "a")?, 3)?;
         assert_eq!(rt; map.look(&Text::new(alloc, "a")?).copied(), Some(3));
+        assert_eq!(rt; map.names(alloc)?.len(), 2);
         assert!(rt; map.unbind(&Text::new(alloc, "a")?));
+        assert!(rt; !map.unbind(&Text::new(alloc, "a")?));
         assert!(rt; map.look(&Text::new(alloc, "a")?).is_none());
+        Ok(())
+    }
+
+    #[test]
+    fn boxes_and_shares(rt: HostRuntime) -> Result<(), Fail> {
+        let alloc = rt.alloc();
+        assert_eq!(rt; Boxed::new(alloc, 5u8)?.into_inner(), 5);
+        let first = Shared::new(alloc, 7u8)?;
+        let second = first.share()?;
+        assert_eq!(rt; *first.get() + *second.get(), 14);
         Ok(())
     }
 
@@ -88,6 +113,9 @@ mod tests {
         items.extend_from_slice(&[3])?;
         items.push(4)?;
         assert_eq!(rt; items.as_slice(), [1, 2, 3, 4].as_slice());
+        items.insert(1, 9)?;
+        assert_eq!(rt; items.remove(0), 1);
+        assert_eq!(rt; items.as_slice(), [9, 2, 3, 4].as_slice());
         Ok(())
     }
 }

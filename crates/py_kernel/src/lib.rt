@@ -2,6 +2,8 @@
 //!
 //! A cell of the built form binds names to numbers and prints sums. An error ends the cell, and what it did before
 //! stays. (Python language reference, in the subset of `docs/LANGUAGE.md`.)
+//!
+//! A sum is taken of two values, so a body that takes them the other way around is the same sum, and is proved too.
 #![tactic(auto)]
 
 mod error;
