@@ -1,17 +1,14 @@
 -- A lexeme takes at least one byte, and no more than there are.
-use Rattle.std.proofs.Common.{◌≡◌, ⊎_elim, ℕ, zero, suc, ◌+◌, ◌-◌, ◌<◌, ◌≤◌, min, Bool, true, false, cond, eqb, ltb, ◌&&◌, ◌||◌, List, [], ◌∷◌, ◌++◌, length, take, drop, Option, Some, None, Result, Ok, Err, refl, sym, ap, ◌∙◌, subst, arith, length-take}
-use Rattle.std.proofs.lemmas.Bool.Decides.{nat_tests}
+use Rattle.std.proofs.Common.{◌≡◌, ⊎_elim, ℕ, zero, ◌+◌, ◌<◌, ◌≤◌, min, Bool, true, false, cond, eqb, ltb, ◌&&◌, ◌||◌, List, [], ◌∷◌, length, take, Option, Some, Ok, refl, sym, ap, ◌∙◌, subst, arith, length-take}
 use Rattle.std.specs.Prelude.{nat_eq, find}
 use Rattle.std.specs.List.{starts_with, prefix_len, list_all}
 use Rattle.std.specs.Char.{is_ascii_digit}
 use borrow.Author.Tests.{ltb-true}
 use Rattle.std.specs.Cmp.Lexicographic.{pointwise}
 use Rattle.py_names.specs.Names.{begins_name, continues_name}
-use Rattle.py_token.specs.declared.kinds.Op as operator
 use Rattle.py_token.specs.declared.lines.Lexeme.{Lexeme}
-use Rattle.py_token.specs.declared.pieces.Body.TheVariants.{Closed}
 use Rattle.py_token.specs.Spellings.{sign, operators}
-use Rattle.py_token.specs.Lexemes.{belongs, digits_behind, number_width, body, name_at, number_at, text_at, operator_at, lexeme_at}
+use Rattle.py_token.specs.Lexemes.{belongs, digits_behind, name_at, number_at, text_at, operator_at, lexeme_at}
 use Rattle.py_token.specs.Bodies.{IsWithin}
 use Rattle.py_token.proofs.Bytes.{prefix_len-le}
 use Rattle.py_token.proofs.Escapes.{eqb_is}

@@ -1,7 +1,6 @@
 -- The tokens and the blanks between them are all that stands in the text.
-use Rattle.std.proofs.Common.{◌≡◌, inl, inr, ℕ, zero, suc, pred, ◌+◌, ◌-◌, ◌<◌, ◌≤◌, Bool, true, false, cond, eqb, ltb, ◌&&◌, ◌||◌, not, List, [], ◌∷◌, ◌++◌, length, take, drop, Option, Some, None, Result, Ok, Err, refl, sym, ap, ◌∙◌, subst, append_assoc, arith, length-append, length-take-le, take-append-drop}
-use Rattle.std.specs.Prelude.{IsTrue}
-use Rattle.std.specs.List.{prefix_len, list_all}
+use Rattle.std.proofs.Common.{◌≡◌, inl, inr, ℕ, zero, suc, pred, ◌+◌, ◌-◌, ◌<◌, ◌≤◌, Bool, true, false, cond, eqb, ltb, not, List, [], ◌∷◌, ◌++◌, length, take, drop, Some, None, Result, Ok, Err, refl, sym, ap, ◌∙◌, subst, append_assoc, arith, length-append, length-take-le, take-append-drop}
+use Rattle.std.specs.List.{prefix_len}
 use Rattle.std.proofs.lemmas.List.{drop_at}
 use Rattle.std.proofs.Math.Seq.{take-append_seam}
 use Rattle.std.proofs.Math.Numerals.{one-add}
@@ -10,7 +9,6 @@ use Rattle.py_token.specs.declared.kinds.Kind.TheVariants.{Newline, Indent, Dede
 use Rattle.py_token.specs.declared.kinds.Token.{Token}
 use Rattle.py_token.specs.declared.faults.TokenFault.{TokenFault}
 use Rattle.py_token.specs.declared.lines.Depths.{Depths}
-use Rattle.py_token.specs.declared.lines.Lexeme.{Lexeme}
 use Rattle.py_token.specs.declared.lines.Line.{Line}
 use Rattle.py_token.specs.declared.lines.Spot.{Spot}
 use Rattle.py_token.specs.declared.lines.Spot.TheVariants.{Start, Inside}
@@ -23,7 +21,7 @@ use Rattle.py_token.proofs.Bytes.{prefix_len-le}
 use Rattle.py_token.proofs.Bounds.{lexeme_bounds}
 use Rattle.py_token.proofs.Escapes.{eqb_is}
 use Rattle.py_token.proofs.Ends.{followed_ok, read_ends}
-use Rattle.py_token.proofs.Reading.{quiet, IsTurn, turn_is, turn_ok, line_ok, placed_ok}
+use Rattle.py_token.proofs.Reading.{quiet, turn_is, turn_ok, line_ok, placed_ok}
 use Rattle.py_token.proofs.Spelled.{lexeme_spells, front_passes}
 
 -- a token at the front of some bytes: a gap before it, its spelling, and the rest

@@ -1,10 +1,8 @@
 -- The last token, and the place of a fault.
-use Rattle.std.proofs.Common.{◌≡◌, ◌≢◌, ◌⊎◌, ⊎_elim, ℕ, zero, suc, pred, ◌+◌, ◌-◌, ◌<◌, ◌≤◌, ◌^◌, Bool, true, false, cond, eqb, ltb, leb, List, [], ◌∷◌, ◌++◌, length, drop, take, Option, Some, None, Result, Ok, Err, refl, sym, ap, ◌∙◌, subst, append_assoc, arith, length-drop}
-use Rattle.std.specs.Prelude.{nat_eq, find}
-use Rattle.std.specs.List.{starts_with, prefix_len}
+use Rattle.std.proofs.Common.{◌≡◌, ℕ, zero, suc, pred, ◌+◌, ◌-◌, ◌<◌, Bool, true, false, cond, eqb, ltb, List, [], ◌∷◌, ◌++◌, length, drop, Option, Some, None, Result, Ok, Err, refl, sym, ap, ◌∙◌, subst, append_assoc, arith}
+use Rattle.std.specs.List.{prefix_len}
 use Rattle.std.specs.Char.{is_ascii_digit}
 use Rattle.py_names.specs.Names.{begins_name, continues_name}
-use Rattle.py_token.specs.declared.kinds.Kind.{Kind}
 use Rattle.py_token.specs.declared.kinds.Kind.TheVariants.{End}
 use Rattle.py_token.specs.declared.kinds.Op as operator
 use Rattle.py_token.specs.declared.kinds.Token.{Token}
@@ -18,16 +16,16 @@ use Rattle.py_token.specs.declared.lines.Spot.TheVariants.{Start, Inside}
 use Rattle.py_token.specs.declared.lines.Turn.{Turn}
 use Rattle.py_token.specs.declared.pieces.Body.{Body}
 use Rattle.py_token.specs.declared.pieces.Body.TheVariants.{Closed, Unclosed, Spoiled}
-use Rattle.py_token.specs.Spellings.{sign, operators, decimal, is_quote}
-use Rattle.py_token.specs.Lexemes.{next_is, unless_next, name_at, follows_no_number, number_width, number_at, body, text_of, text_at, operator_lexeme, operator_at, lexeme_at, ends_line}
-use Rattle.py_token.specs.Lines.{token, ends_block, shallower, indented, begun, is_deeper, placed, passed, at_spot, next_line, line_ended, with_tab, without_tab, lone, in_comment, turn, closing, last_newline, ended, before, followed, read, start, tokens_of}
+use Rattle.py_token.specs.Spellings.{is_quote}
+use Rattle.py_token.specs.Lexemes.{next_is, name_at, follows_no_number, number_width, number_at, body, text_of, text_at, operator_lexeme, operator_at, lexeme_at, ends_line}
+use Rattle.py_token.specs.Lines.{token, ends_block, shallower, indented, begun, is_deeper, placed, passed, line_ended, with_tab, without_tab, lone, turn, closing, last_newline, before, followed, read, start, tokens_of}
 use Rattle.py_token.specs.declared.faults.TokenError.{TokenError}
 use Rattle.py_token.specs.declared.faults.TokenError.TheVariants.{OutOfMemory, Fault}
 use Rattle.py_token.specs.Gives.{Fails, AtFault}
 use Rattle.py_token.specs.Bodies.{IsWithin}
 use Rattle.py_token.specs.Laws.{place, EndsWell}
 use Rattle.py_token.proofs.Quoted.{body_within}
-use Rattle.py_token.proofs.Reading.{quiet, IsTurn, turn_is, turn_ok, line_ok, placed_ok}
+use Rattle.py_token.proofs.Reading.{turn_ok, line_ok, placed_ok}
 
 before_ok : (xs ts : List Token) (r : Result (List Token) TokenFault) → before xs r ≡ Ok ts → (ys : List Token) × (r ≡ Ok ys) × (xs ++ ys ≡ ts)
 before_ok xs ts (Err f) h = cc

@@ -1,5 +1,5 @@
 -- What a lexeme that was read is.
-use Rattle.std.proofs.Common.{◌≡◌, ◌⊎◌, inl, inr, ℕ, zero, suc, ◌+◌, ◌-◌, ◌<◌, ◌≤◌, ◌^◌, pos, Bool, true, false, cond, ltb, leb, List, [], ◌∷◌, ◌++◌, length, take, drop, get_or, Option, Some, None, Result, Ok, Err, refl, sym, ap, ◌∙◌, subst, arith}
+use Rattle.std.proofs.Common.{◌≡◌, ◌⊎◌, inl, inr, ℕ, zero, suc, ◌^◌, pos, Bool, true, false, cond, ltb, leb, List, [], ◌∷◌, length, take, drop, Option, Some, None, Result, Ok, Err, refl}
 use Rattle.std.specs.Prelude.{nat_eq, find}
 use Rattle.std.specs.List.{starts_with, prefix_len}
 use Rattle.std.specs.Char.{is_ascii_digit}
@@ -8,7 +8,6 @@ use Rattle.py_token.specs.declared.kinds.Kind.{Kind}
 use Rattle.py_token.specs.declared.kinds.Kind.TheVariants.{Number, Text, Op}
 use Rattle.py_token.specs.declared.kinds.Op as operator
 use Rattle.py_token.specs.declared.faults.TokenFault.{TokenFault}
-use Rattle.py_token.specs.declared.faults.TokenFault.TheVariants.{BadChar, LongName, WideNumber}
 use Rattle.py_token.specs.declared.lines.Lexeme.{Lexeme}
 use Rattle.py_token.specs.declared.pieces.Body.{Body}
 use Rattle.py_token.specs.declared.pieces.Body.TheVariants.{Closed, Unclosed, Spoiled}

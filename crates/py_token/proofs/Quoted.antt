@@ -1,7 +1,6 @@
 -- Reading on between the quotes of a text.
-use Rattle.std.proofs.Common.{◌≡◌, ℕ, zero, suc, ◌+◌, ◌-◌, ◌*◌, ◌<◌, ◌≤◌, Bool, true, false, cond, List, [], ◌∷◌, ◌++◌, length, take, drop, get_or, Option, Some, None, IsUtf8, refl, sym, ap, ◌∙◌, subst, append_assoc, arith, rules, length-append}
+use Rattle.std.proofs.Common.{◌≡◌, ℕ, zero, suc, ◌+◌, ◌-◌, ◌<◌, ◌≤◌, true, List, [], ◌∷◌, ◌++◌, length, take, drop, get_or, Option, Some, None, IsUtf8, refl, sym, ap, ◌∙◌, subst, append_assoc, arith, length-append}
 use Rattle.std.specs.Prelude.{encode_utf8, unwrap_or}
-use Rattle.std.proofs.lemmas.Grind.{common_steps}
 use Rattle.std.proofs.lemmas.Bool.Decides.{nat_tests}
 use Rattle.std.proofs.lemmas.List.{append-nil, drop-drop, drop_all, take_rest}
 use Rattle.std.proofs.Math.Numerals.{add-one}
@@ -11,11 +10,11 @@ use Rattle.py_token.specs.declared.pieces.Piece.{Piece}
 use Rattle.py_token.specs.declared.pieces.Piece.TheVariants.{Quote, LineEnd, Bad, Plain, Escaped}
 use Rattle.py_token.specs.declared.pieces.Body.{Body}
 use Rattle.py_token.specs.declared.pieces.Body.TheVariants.{Closed, Unclosed, Spoiled}
-use Rattle.py_token.specs.Spellings.{hexadecimal, escape, is_quote}
+use Rattle.py_token.specs.Spellings.{is_quote}
 use Rattle.py_token.specs.Lexemes.{piece, behind, spoil, follow, body}
 use Rattle.py_token.specs.Bodies.{closed, read_on, IsWithin, EndsText}
-use Rattle.py_token.proofs.Escapes.{Ascii, IsEscape, piece_escaped, piece_plain, piece_quote}
-use Rattle.std.proofs.lemmas.Str.{IsUtf8-append, IsUtf8-encode, IsUtf8-take, IsUtf8-drop, IsUtf8-nil, IsCharBoundary-before_ascii, IsCharBoundary-after_ascii}
+use Rattle.py_token.proofs.Escapes.{Ascii, piece_escaped, piece_plain, piece_quote}
+use Rattle.std.proofs.lemmas.Str.{IsUtf8-append, IsUtf8-encode, IsUtf8-take, IsUtf8-drop, IsCharBoundary-before_ascii, IsCharBoundary-after_ascii}
 use Rattle.std.specs.Char.{IsScalar}
 
 -- so many bytes more in front, which write nothing

@@ -1,6 +1,6 @@
 -- Each lexeme is spelled by the bytes that it takes.
-use Rattle.std.proofs.Common.{◌≡◌, ◌≢◌, ◌⊎◌, inl, inr, ⊎_elim, ℕ, zero, suc, ◌+◌, ◌-◌, ◌*◌, ◌<◌, ◌≤◌, ◌^◌, Bool, true, false, cond, eqb, ltb, leb, ◌&&◌, ◌||◌, not, List, [], ◌∷◌, ◌++◌, length, take, drop, Option, Some, None, Result, Ok, Err, fold, refl, sym, ap, ◌∙◌, subst, append_assoc, arith}
-use Rattle.std.specs.Prelude.{nat_eq, find, map, IsTrue, encode_utf8}
+use Rattle.std.proofs.Common.{◌≡◌, ◌≢◌, ◌⊎◌, inl, inr, ⊎_elim, ℕ, zero, suc, ◌+◌, ◌-◌, ◌*◌, ◌<◌, ◌^◌, Bool, true, false, cond, eqb, leb, ◌&&◌, ◌||◌, not, List, [], ◌∷◌, ◌++◌, length, take, Option, Some, None, Ok, fold, refl, sym, ap, ◌∙◌, subst, append_assoc, arith}
+use Rattle.std.specs.Prelude.{nat_eq, find, map, encode_utf8}
 use Rattle.std.specs.List.{starts_with, prefix_len, list_all, list_any}
 use Rattle.std.specs.Char.{is_ascii_digit}
 use Rattle.std.proofs.lemmas.Bool.Decides.{nat_tests}
@@ -9,17 +9,15 @@ use Rattle.std.proofs.Math.Seq.{take-append_seam}
 use Rattle.std.proofs.Math.Numerals.{one-add}
 use Rattle.py_names.specs.Names.{begins_name, continues_name, same_text, is_spelled_as_name, is_identifier, is_keyword, is_variable}
 use Rattle.py_names.specs.Names as names
-use Rattle.py_token.specs.declared.kinds.Kind.{Kind}
 use Rattle.py_token.specs.declared.kinds.Keyword as keyword
-use Rattle.py_token.specs.declared.kinds.Op as operator
 use Rattle.py_token.specs.declared.lines.Lexeme.{Lexeme}
 use Rattle.py_token.specs.declared.pieces.Escape.{Escape}
 use Rattle.py_token.specs.declared.pieces.Piece.{Piece}
 use Rattle.py_token.specs.declared.pieces.Piece.TheVariants.{Quote, LineEnd, Bad, Plain, Escaped}
 use Rattle.py_token.specs.declared.pieces.Body.{Body}
 use Rattle.py_token.specs.declared.pieces.Body.TheVariants.{Closed, Unclosed, Spoiled}
-use Rattle.py_token.specs.Spellings.{word, keywords, sign, operators, are_digits, decimal, leads_well, is_quote, escape, is_plain, Writes, nothing, plain, escaped, SpellsText, SpellsNumber, Spells}
-use Rattle.py_token.specs.Lexemes.{keyword_of, named, name_at, belongs, digits_behind, number_width, number_at, piece, behind, spoil, follow, body, text_at, operator_at, lexeme_at}
+use Rattle.py_token.specs.Spellings.{word, keywords, sign, operators, are_digits, decimal, is_quote, escape, is_plain, Writes, nothing, plain, escaped, Spells}
+use Rattle.py_token.specs.Lexemes.{keyword_of, named, name_at, belongs, digits_behind, number_at, piece, behind, spoil, follow, body, text_at, operator_at, lexeme_at}
 use Rattle.py_token.proofs.Escapes.{eqb_is, IsEscape, piece_escaped, piece_plain, piece_quote}
 use Rattle.py_token.proofs.Bounds.{same_bytes, found_passes, name_longer}
 use Rattle.py_token.proofs.Inverted.{name_ok, number_ok, text_ok, operator_ok, lexeme_ok, no_lexeme}

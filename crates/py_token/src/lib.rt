@@ -19,3 +19,4 @@ mod words;
 pub use faults::{TokenError, TokenFault};
 pub use kinds::{Keyword, Kind, Op, Token};
 pub use read::tokens;
+pub use words::word;

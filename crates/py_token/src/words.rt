@@ -73,45 +73,46 @@ const OPERATORS: [Op; 26] = [
     Op::Dot,
 ];
 
-fn word(keyword: Keyword) -> &'static [u8]
+/// The spelling of a keyword.
+pub fn word(keyword: Keyword) -> &'static str
     ensures { result.now ≡ word keyword }
 {
     match keyword {
-        Keyword::False => b"False",
-        Keyword::None => b"None",
-        Keyword::True => b"True",
-        Keyword::And => b"and",
-        Keyword::As => b"as",
-        Keyword::Assert => b"assert",
-        Keyword::Async => b"async",
-        Keyword::Await => b"await",
-        Keyword::Break => b"break",
-        Keyword::Class => b"class",
-        Keyword::Continue => b"continue",
-        Keyword::Def => b"def",
-        Keyword::Del => b"del",
-        Keyword::Elif => b"elif",
-        Keyword::Else => b"else",
-        Keyword::Except => b"except",
-        Keyword::Finally => b"finally",
-        Keyword::For => b"for",
-        Keyword::From => b"from",
-        Keyword::Global => b"global",
-        Keyword::If => b"if",
-        Keyword::Import => b"import",
-        Keyword::In => b"in",
-        Keyword::Is => b"is",
-        Keyword::Lambda => b"lambda",
-        Keyword::Nonlocal => b"nonlocal",
-        Keyword::Not => b"not",
-        Keyword::Or => b"or",
-        Keyword::Pass => b"pass",
-        Keyword::Raise => b"raise",
-        Keyword::Return => b"return",
-        Keyword::Try => b"try",
-        Keyword::While => b"while",
-        Keyword::With => b"with",
-        Keyword::Yield => b"yield",
+        Keyword::False => "False",
+        Keyword::None => "None",
+        Keyword::True => "True",
+        Keyword::And => "and",
+        Keyword::As => "as",
+        Keyword::Assert => "assert",
+        Keyword::Async => "async",
+        Keyword::Await => "await",
+        Keyword::Break => "break",
+        Keyword::Class => "class",
+        Keyword::Continue => "continue",
+        Keyword::Def => "def",
+        Keyword::Del => "del",
+        Keyword::Elif => "elif",
+        Keyword::Else => "else",
+        Keyword::Except => "except",
+        Keyword::Finally => "finally",
+        Keyword::For => "for",
+        Keyword::From => "from",
+        Keyword::Global => "global",
+        Keyword::If => "if",
+        Keyword::Import => "import",
+        Keyword::In => "in",
+        Keyword::Is => "is",
+        Keyword::Lambda => "lambda",
+        Keyword::Nonlocal => "nonlocal",
+        Keyword::Not => "not",
+        Keyword::Or => "or",
+        Keyword::Pass => "pass",
+        Keyword::Raise => "raise",
+        Keyword::Return => "return",
+        Keyword::Try => "try",
+        Keyword::While => "while",
+        Keyword::With => "with",
+        Keyword::Yield => "yield",
     }
 }
 
@@ -151,7 +152,7 @@ fn sign(op: Op) -> &'static [u8]
 fn is_word(keyword: Keyword, name: &[u8]) -> bool
     ensures { result ≡ same_text (word keyword) name.now }
 {
-    word(keyword) == name
+    word(keyword).as_bytes() == name
 }
 
 fn begins_with(bytes: &[u8], op: Op) -> bool

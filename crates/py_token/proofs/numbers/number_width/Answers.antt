@@ -1,4 +1,4 @@
-use Rattle.std.proofs.Common.{◌≡◌, subst, arith, get_or, drop}
+use Rattle.std.proofs.Common.{◌≡◌, subst, arith, get_or}
 use Rattle.std.proofs.lemmas.List.{take_rest}
 use Rattle.py_token.specs.Lexemes.{digits_behind}
 use Rattle.py_token.proofs.numbers.number_width.Goals as goal

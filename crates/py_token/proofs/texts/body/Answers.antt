@@ -1,4 +1,4 @@
-use Rattle.std.proofs.Common.{◌≡◌, ℕ, zero, ◌+◌, ◌≤◌, List, Some, length, drop, get_or, sym, ◌∙◌, subst, arith, length-drop}
+use Rattle.std.proofs.Common.{◌≡◌, zero, ◌+◌, Some, length, drop, get_or, sym, ◌∙◌, subst, arith, length-drop}
 use Rattle.py_token.specs.declared.pieces.Piece.TheVariants.{Quote, LineEnd, Bad, Plain, Escaped}
 use Rattle.py_token.specs.Lexemes.{body}
 use Rattle.py_token.specs.Bodies.{read_on, IsWithin}

@@ -1,0 +1,4 @@
+pub mod Numbers
+pub mod Searching
+pub mod Closed
+pub mod OneOrder

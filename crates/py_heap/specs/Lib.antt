@@ -1,0 +1,5 @@
+pub mod Objects
+pub mod States
+pub mod References
+pub mod Reaching
+pub mod Searches

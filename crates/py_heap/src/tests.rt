@@ -1,0 +1,92 @@
+ghost use Rattle.std.specs.Prelude.{IfOk};
+ghost use Rattle.py_heap.specs.References.{IsClosed};
+
+use crate::{HeapFault, METER_LIMIT, Object, State};
+use plain_data::{Items, Text};
+use py_value::Value;
+use std::alloc::{AllocError, Global};
+use std::test::Fail;
+
+fn text(alloc: Global, word: &str) -> Result<Text, AllocError> {
+    Text::new(alloc, word)
+}
+
+#[test]
+fn names_have_values(rt: HostRuntime) -> Result<(), Fail> {
+    let alloc = rt.alloc();
+    let mut state = State::new(alloc);
+    state.bind(text(alloc, "b")?, Value::Number(1))?;
+    state.bind(text(alloc, "a")?, Value::Number(2))?;
+    state.bind(text(alloc, "b")?, Value::Bool(true))?;
+    assert!(rt; matches!(state.look(&text(alloc, "b")?), Some(Value::Bool(true))));
+    let names = state.names(alloc)?;
+    assert_eq!(rt; names.len(), 2);
+    assert!(rt; names.get(0).is_some_and(|name| name.as_str() == "a"));
+    assert!(rt; state.unbind(&text(alloc, "a")?));
+    assert!(rt; !state.unbind(&text(alloc, "a")?));
+    assert!(rt; state.look(&text(alloc, "a")?).is_none());
+    Ok(())
+}
+
+#[test]
+fn lists_change_in_place(rt: HostRuntime) -> Result<(), Fail> {
+    let alloc = rt.alloc();
+    let mut state = State::new(alloc);
+    assert!(rt; state.is_empty());
+    let at = state.add(Object::List(Items::new(alloc)))?;
+    assert_eq!(rt; at, 0);
+    assert!(rt; state.is_list(at));
+    assert!(rt; !state.is_list(1));
+    state.push_item(at, Value::Number(3))?;
+    state.insert_item(at, 0, Value::Number(1))?;
+    state.set_item(at, 1, Value::Number(2));
+    assert_eq!(rt; state.list(at).len(), 2);
+    assert!(rt; matches!(state.remove_item(at, 0), Value::Number(1)));
+    assert!(rt; matches!(state.list(at).get(0), Some(Value::Number(2))));
+    state.clear(at);
+    assert!(rt; state.list(at).is_empty());
+    assert_eq!(rt; state.len(), 1);
+    Ok(())
+}
+
+#[test]
+fn the_meter_stops_at_its_limit(rt: HostRuntime) -> Result<(), Fail> {
+    let mut state = State::new(rt.alloc());
+    state.set_count(7);
+    state.set_meter(METER_LIMIT - 2);
+    assert_eq!(rt; state.charge(3), Err(HeapFault::MeterSpent));
+    assert_eq!(rt; state.charge(u64::MAX), Err(HeapFault::MeterSpent));
+    assert_eq!(rt; state.charge(2), Ok(()));
+    assert_eq!(rt; state.meter(), METER_LIMIT);
+    assert_eq!(rt; state.count(), 7);
+    Ok(())
+}
+
+/// `x` has the list at 1, which holds the list at 0; that holds the list at 1. `y` has the list at 0. No name reaches the
+/// list at 2.
+fn two_lists_of_each_other(alloc: Global) -> Result<State, AllocError>
+    ensures { IfOk result IsClosed }
+{
+    let mut state = State::new(alloc);
+    state.add(Object::List(Items::new(alloc)))?;
+    state.add(Object::List(Items::new(alloc)))?;
+    state.add(Object::List(Items::new(alloc)))?;
+    state.push_item(1, Value::Ref(0))?;
+    state.push_item(0, Value::Ref(1))?;
+    state.bind(Text::new(alloc, "x")?, Value::Ref(1))?;
+    state.bind(Text::new(alloc, "y")?, Value::Ref(0))?;
+    Ok(state)
+}
+
+#[test]
+fn names_reach_lists(rt: HostRuntime) -> Result<(), Fail> {
+    let alloc = rt.alloc();
+    let state = two_lists_of_each_other(alloc)?;
+    let all = [text(alloc, "y")?, text(alloc, "z")?, text(alloc, "x")?];
+    assert_eq!(rt; state.reach(alloc, &all)?.as_slice(), [0, 1].as_slice());
+    let one = [text(alloc, "x")?];
+    assert_eq!(rt; state.reach(alloc, &one)?.as_slice(), [1, 0].as_slice());
+    let unbound = [text(alloc, "z")?];
+    assert!(rt; state.reach(alloc, &unbound)?.is_empty());
+    Ok(())
+}
