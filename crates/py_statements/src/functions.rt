@@ -1,0 +1,96 @@
+//! The head of a function.
+ghost use Rattle.std.specs.Prelude.{List};
+ghost use Rattle.py_postfix.specs.declared.entries.Entry.{Entry};
+ghost use Rattle.py_expressions.specs.Gives.{Gives};
+ghost use Rattle.py_statements.specs.Steps.{on_def, on_def_name, on_params, on_param, on_params_end};
+
+use crate::entries::write_mark;
+use crate::heads::open;
+use crate::names::is_new;
+use crate::state::{Head, State};
+use plain_data::{Stack, TextMap};
+use py_expressions::Stop;
+use py_postfix::{Entry, Node};
+use py_token::{Kind, Op as Sign};
+use std::alloc::Global;
+
+/// Behind `def`.
+pub fn on_def(
+    alloc: Global,
+    from: usize,
+    token: &Kind,
+    entries: &mut Stack<Entry>,
+) -> Result<State, Stop>
+    ensures { Gives result entries.new (on_def from token.now entries.old) }
+{
+    match token {
+        Kind::Name(name) => {
+            write_mark(Node::Target(name.copy(alloc)?), entries)?;
+            Ok(State::AfterDefName { from })
+        }
+        _ => Err(Stop::Refused),
+    }
+}
+
+/// Behind the name of a function.
+pub fn on_def_name(from: usize, token: &Kind, entries: &mut Stack<Entry>) -> Result<State, Stop>
+    ensures { Gives result entries.new (on_def_name from token.now entries.old) }
+{
+    match token {
+        Kind::Op(Sign::OpenParenthesis) => {
+            write_mark(Node::NoNames, entries)?;
+            Ok(State::InParams { from })
+        }
+        _ => Err(Stop::Refused),
+    }
+}
+
+/// Where a parameter may come.
+pub fn on_params(
+    alloc: Global,
+    from: usize,
+    names: &TextMap<bool>,
+    token: &Kind,
+    entries: &mut Stack<Entry>,
+) -> Result<State, Stop>
+    ensures { Gives result entries.new (on_params from names.now token.now entries.old) }
+{
+    match token {
+        Kind::Name(name) => {
+            if is_new(names, name) {
+                write_mark(Node::OneName(name.copy(alloc)?), entries)?;
+                Ok(State::HasParams { from })
+            } else {
+                Err(Stop::Refused)
+            }
+        }
+        Kind::Op(Sign::CloseParenthesis) => Ok(State::AfterParams { from }),
+        _ => Err(Stop::Refused),
+    }
+}
+
+/// Behind a parameter.
+pub fn on_param(from: usize, token: &Kind) -> Result<State, Stop>
+    ensures { (es : List Entry) → Gives result es (on_param from token.now es) }
+{
+    match token {
+        Kind::Op(Sign::Comma) => Ok(State::InParams { from }),
+        Kind::Op(Sign::CloseParenthesis) => Ok(State::AfterParams { from }),
+        _ => Err(Stop::Refused),
+    }
+}
+
+/// Behind the parameters.
+pub fn on_params_end(
+    alloc: Global,
+    from: usize,
+    token: &Kind,
+    entries: &mut Stack<Entry>,
+) -> Result<State, Stop>
+    ensures { Gives result entries.new (on_params_end from token.now entries.old) }
+{
+    match token {
+        Kind::Op(Sign::Colon) => open(Stack::new(alloc), Head::Function, from, entries),
+        _ => Err(Stop::Refused),
+    }
+}

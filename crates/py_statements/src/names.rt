@@ -1,0 +1,44 @@
+//! The names of the function that is open.
+ghost use Rattle.std.specs.Prelude.{◌≡◌, IfOk, ◌↔◌, IsTrue};
+ghost use Rattle.py_statements.specs.Steps.{is_new_in, begins_function, noted, renamed};
+
+use crate::state::State;
+use plain_data::{Text, TextMap};
+use py_token::{Kind, Op};
+use std::alloc::{AllocError, Global};
+
+pub fn is_new(names: &TextMap<bool>, name: &Text) -> bool
+    ensures { result ≡ is_new_in names.now name.now }
+{
+    names.look(name).is_none()
+}
+
+/// Another function begins.
+pub fn begins_function(state: &State, token: &Kind) -> bool
+    ensures { result ≡ begins_function state.now token.now }
+{
+    match state {
+        State::AfterDefName { from: _ } => match token {
+            Kind::Op(Op::OpenParenthesis) => true,
+            _ => false,
+        },
+        _ => false,
+    }
+}
+
+/// One more token is heard.
+pub fn note(
+    alloc: Global,
+    mut names: TextMap<bool>,
+    token: &Kind,
+) -> Result<TextMap<bool>, AllocError>
+    ensures { IfOk result (λ n. n ≡ noted token.now names) }
+{
+    match token {
+        Kind::Name(name) => {
+            names.bind(name.copy(alloc)?, true)?;
+            Ok(names)
+        }
+        _ => Ok(names),
+    }
+}
