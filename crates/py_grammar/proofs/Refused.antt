@@ -1,5 +1,5 @@
 -- A token that begins a construct outside the grammar is refused.
-use Rattle.std.proofs.Common.{◌≡◌, ℕ, zero, false, if◌then◌else◌, List, [], ◌∷◌, Option, Some, None, refl, ap, ◌∙◌}
+use Rattle.std.proofs.Common.{◌≡◌, ℕ, zero, Bool, true, false, if◌then◌else◌, List, [], ◌∷◌, Option, Some, None, refl, ap, ◌∙◌}
 use Rattle.py_token.specs.declared.kinds.Kind.{Kind}
 use Rattle.py_token.specs.declared.kinds.Kind.TheVariants as t
 use Rattle.py_grammar.specs.declared.constructs.Construct.{Construct}
@@ -8,7 +8,7 @@ use Rattle.py_grammar.specs.Expressions.{Expression, Compares, compares_none, co
 use Rattle.py_grammar.specs.Readings.{Upper, upper, Lower, lower, in_group, in_dict, Opened, opened, Reading, wants, has, has_none, has_not_none, after_is, after_is_not, after_method, compares_of, expression_of, close_brace_after, comma_after, behind, operator, close_parenthesis_at, if_nothing, operand, is_what, is_not_what, method_what, read, whole}
 use Rattle.py_grammar.specs.Statements.{Augmentation, by_plus, by_minus, by_times, by_floor, by_modulo, Names, leave, give, assign, augment, show, Statements}
 use Rattle.py_grammar.specs.States.{Outer, Spot, Purpose, showing, giving, deleting, assigning, augmenting, Lead, State, line, in_simple, in_test, has_params, after_colon, place_read, is_begun, if_made, if_deleted, finished, then_simple, on_line, ends, assigns, augments, on_simple, tested, then_test, on_param, on_colon, step}
-use Rattle.py_grammar.specs.Outside.{ruleless, first_of, comma_begins, brace_begins, equals_begins, behind_whole, empty_group, at_operand, not_none, not_none_or_not, no_call, outside_reading, chained_by, chained, default_at, nested, inline_function, outside_state, outside}
+use Rattle.py_grammar.specs.Outside.{ruleless, first_of, comma_begins, brace_begins, equals_begins, behind_whole, empty_group, at_operand, not_none, not_none_or_not, no_call, outside_reading, chained_by, chained, behind_deleted, default_at, nested, inline_function, outside_state, outside}
 
 -- ---- keywords that no rule has
 
@@ -306,9 +306,13 @@ inline-refused : (os : List Outer) (o : Outer) (t : Kind) (k : Construct) → in
 inline-refused os o def_word k h = refl
 inline-refused os o _ k h = cc
 
+deleted-refused : (os : List Outer) (at : Spot) (u : Purpose) (r : Reading) (t : Kind) (k : Construct) (b : Bool) → (if b then None else first_of (chained u (whole r) t) (outside_reading r t)) ≡ Some k → on_simple os at u r t ≡ None
+deleted-refused os at u r t k true h = cc
+deleted-refused os at u r t k false h = simple-refused os at u r t k h
+
 state-refused : (s : State) (t : Kind) (k : Construct) → outside_state s t ≡ Some k → step s t ≡ None
 state-refused (line os before) t k h = line-refused os before t k h
-state-refused (in_simple os at u r) t k h = simple-refused os at u r t k h
+state-refused (in_simple os at u r) t k h = deleted-refused os at u r t k (behind_deleted u r t) h
 state-refused (in_test os before lead r) t k h = test-refused os before lead r t k h
 state-refused (has_params before n ns) t k h = default-refused before n ns t k h
 state-refused (after_colon os o) t k h = inline-refused os o t k h

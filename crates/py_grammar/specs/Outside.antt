@@ -1,14 +1,14 @@
 -- Which construct outside the grammar a token begins, by the forms that are open before it.
-use Rattle.std.specs.Prelude.{◌≡◌, ℕ, zero, List, [], ◌∷◌, take, slice_get, Option, Some, None}
+use Rattle.std.specs.Prelude.{◌≡◌, ℕ, zero, Bool, false, if◌then◌else◌, List, [], ◌∷◌, take, slice_get, Option, Some, None}
 use Rattle.py_token.specs.declared.kinds.Kind.{Kind}
 use Rattle.py_grammar.specs.declared.constructs.Construct.{Construct}
 use Rattle.py_grammar.specs.declared.constructs.Construct.TheVariants.{Word as Word_, Tuple, Comprehension, Set, Is, Attribute, ChainedAssignment, KeywordArgument, Default, NestedFunction}
 use Rattle.py_token.specs.declared.kinds.Keyword.TheVariants as k
 use Rattle.py_grammar.specs.Words.{not_word, for_word, none_word, def_word, as_word, assert_word, async_word, await_word, class_word, except_word, finally_word, from_word, import_word, lambda_word, nonlocal_word, raise_word, try_word, with_word, yield_word, assign_sign, open_parenthesis, close_parenthesis, close_brace, comma}
 use Rattle.py_grammar.specs.Expressions.{Expression, compares_none, compares_not_none}
-use Rattle.py_grammar.specs.Readings.{Upper, upper, Lower, lower, in_group, in_display, in_dict, in_call, Opened, opened, Reading, wants, has, has_none, has_not_none, after_is, after_is_not, after_method, compares_of, expression_of, whole}
+use Rattle.py_grammar.specs.Readings.{Upper, upper, Lower, lower, in_group, in_display, in_dict, in_call, Opened, opened, Reading, wants, has, has_none, has_not_none, after_is, after_is_not, after_not, after_dot, after_method, is_empty, compares_of, expression_of, whole}
 use Rattle.py_grammar.specs.Statements.{IsFailing}
-use Rattle.py_grammar.specs.States.{Outer, Purpose, assigning, State, line, in_simple, in_test, has_params, after_colon, StandsAt, state_stands}
+use Rattle.py_grammar.specs.States.{Outer, Purpose, deleting, assigning, State, line, in_simple, in_test, has_params, after_colon, StandsAt, state_stands}
 
 -- a keyword that no rule has
 abbrev pub ruleless : Kind → Option Construct
@@ -111,6 +111,23 @@ abbrev pub chained : Purpose → Option Expression → Kind → Option Construct
 chained u a assign_sign = chained_by u a
 chained u a _ = None
 
+-- outside all brackets
+abbrev pub is_bare_of_brackets : Reading → Bool
+is_bare_of_brackets (wants os u w) = is_empty os
+is_bare_of_brackets (has os u w p) = is_empty os
+is_bare_of_brackets (has_none os u c) = is_empty os
+is_bare_of_brackets (has_not_none os u c) = is_empty os
+is_bare_of_brackets (after_is os u c) = is_empty os
+is_bare_of_brackets (after_is_not os u c) = is_empty os
+is_bare_of_brackets (after_not os u c) = is_empty os
+is_bare_of_brackets (after_dot os u w p) = is_empty os
+is_bare_of_brackets (after_method os u w p n) = is_empty os
+
+-- `,` behind what is deleted, which is no expression
+abbrev pub behind_deleted : Purpose → Reading → Kind → Bool
+behind_deleted deleting r comma = is_bare_of_brackets r
+behind_deleted _ r t = false
+
 abbrev pub default_at : Kind → Option Construct
 default_at assign_sign = Some Default
 default_at _ = None
@@ -126,7 +143,7 @@ inline_function _ = None
 
 abbrev pub outside_state : State → Kind → Option Construct
 outside_state (line os before) t = nested os t
-outside_state (in_simple os at u r) t = first_of (chained u (whole r) t) (outside_reading r t)
+outside_state (in_simple os at u r) t = if behind_deleted u r t then None else first_of (chained u (whole r) t) (outside_reading r t)
 outside_state (in_test os before lead r) t = outside_reading r t
 outside_state (has_params before n ns) t = default_at t
 outside_state (after_colon os o) t = inline_function t

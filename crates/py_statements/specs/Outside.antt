@@ -1,5 +1,5 @@
 -- Which construct outside the grammar a token begins, on what the program holds.
-use Rattle.std.specs.Prelude.{Bool, true, false, if◌then◌else◌, List, [], ◌∷◌, Option, Some, None}
+use Rattle.std.specs.Prelude.{Bool, true, false, ◌&&◌, if◌then◌else◌, List, [], ◌∷◌, Option, Some, None}
 use Rattle.py_token.specs.declared.kinds.Kind.{Kind}
 use Rattle.py_token.specs.declared.kinds.Kind.TheVariants as t
 use Rattle.py_token.specs.declared.kinds.Keyword.{Keyword}
@@ -8,7 +8,9 @@ use Rattle.py_token.specs.declared.kinds.Op.TheVariants as s
 use Rattle.py_grammar.specs.declared.constructs.Construct.{Construct}
 use Rattle.py_grammar.specs.declared.constructs.Construct.TheVariants.{Word as Word_, ChainedAssignment, Default, NestedFunction}
 use Rattle.py_grammar.specs.Outside.{first_of}
+use Rattle.py_grammar.specs.Readings.{is_empty}
 use Rattle.py_expressions.specs.declared.reading.Reading.{Reading}
+use Rattle.py_expressions.specs.declared.reading.Reading.TheVariants as x
 use Rattle.py_expressions.specs.Places.{is_whole}
 use Rattle.py_expressions.specs.Outside.{outside_held}
 use Rattle.py_statements.specs.declared.state.Outer.{Outer}
@@ -49,6 +51,26 @@ abbrev pub chained : Purpose → Reading → Kind → Option Construct
 chained u r (t.Op s.Assign) = if is_assigning u then (if is_whole r then Some ChainedAssignment else None) else None
 chained u r _ = None
 
+-- outside all brackets
+abbrev pub is_bare_of_brackets : Reading → Bool
+is_bare_of_brackets (x.Wants os u w) = is_empty os
+is_bare_of_brackets (x.Has os u w p from) = is_empty os
+is_bare_of_brackets (x.Related os u from) = is_empty os
+is_bare_of_brackets (x.AfterIs os u from) = is_empty os
+is_bare_of_brackets (x.AfterIsNot os u from) = is_empty os
+is_bare_of_brackets (x.AfterNot os u from) = is_empty os
+is_bare_of_brackets (x.AfterDot os u w from) = is_empty os
+is_bare_of_brackets (x.AfterMethod os u w from m) = is_empty os
+
+abbrev pub is_deleting : Purpose → Bool
+is_deleting purpose.Deleting = true
+is_deleting _ = false
+
+-- `,` behind what is deleted, which is no expression
+abbrev pub behind_deleted : Purpose → Reading → Kind → Bool
+behind_deleted u r (t.Op s.Comma) = is_deleting u && is_bare_of_brackets r
+behind_deleted u r _ = false
+
 abbrev pub default_at : Kind → Option Construct
 default_at (t.Op s.Assign) = Some Default
 default_at _ = None
@@ -62,9 +84,12 @@ abbrev pub nested : List Outer → Kind → Option Construct
 nested [] t = None
 nested (o ∷ os) t = inline_function t
 
+abbrev pub in_simple : Purpose → Reading → Kind → Option Construct
+in_simple u r t = if behind_deleted u r t then None else first_of (chained u r t) (outside_held r t)
+
 abbrev pub outside_state : State → Kind → Option Construct
 outside_state (h.Line os last) t = nested os t
-outside_state (h.InSimple os spot u from r) t = first_of (chained u r t) (outside_held r t)
+outside_state (h.InSimple os spot u from r) t = in_simple u r t
 outside_state (h.InTest os lead from r) t = outside_held r t
 outside_state (h.HasParams from) t = default_at t
 outside_state (h.AfterColon os o) t = inline_function t

@@ -1,11 +1,12 @@
 //! Which construct outside the grammar a token begins.
 ghost use Rattle.std.specs.Prelude.{◌≡◌};
 ghost use Rattle.py_grammar.specs.Outside.{first_of};
-ghost use Rattle.py_statements.specs.Outside.{ruleless_word, ruleless, is_assigning, chained, default_at, inline_function, nested, outside_state, outside};
+ghost use Rattle.py_grammar.specs.Readings.{is_empty};
+ghost use Rattle.py_statements.specs.Outside.{ruleless_word, ruleless, is_assigning, chained, is_bare_of_brackets, is_deleting, behind_deleted, in_simple, default_at, inline_function, nested, outside_state, outside};
 
 use crate::state::{Outer, Purpose, State};
 use plain_data::Stack;
-use py_expressions::{Reading, is_whole};
+use py_expressions::{Opened, Reading, is_whole};
 use py_grammar::Construct;
 use py_token::{Keyword, Kind, Op as Sign};
 
@@ -68,6 +69,47 @@ fn chained(purpose: Purpose, reading: &Reading, token: &Kind) -> Option<Construc
     }
 }
 
+fn is_empty(opened: &Stack<Opened>) -> bool
+    ensures { result ≡ is_empty opened.now }
+{
+    opened.top().is_none()
+}
+
+/// Whether nothing is open but what stands outside all brackets.
+fn is_bare_of_brackets(reading: &Reading) -> bool
+    ensures { result ≡ is_bare_of_brackets reading.now }
+{
+    match reading {
+        Reading::Wants { opened, .. } => is_empty(opened),
+        Reading::Has { opened, .. } => is_empty(opened),
+        Reading::Related { opened, .. } => is_empty(opened),
+        Reading::AfterIs { opened, .. } => is_empty(opened),
+        Reading::AfterIsNot { opened, .. } => is_empty(opened),
+        Reading::AfterNot { opened, .. } => is_empty(opened),
+        Reading::AfterDot { opened, .. } => is_empty(opened),
+        Reading::AfterMethod { opened, .. } => is_empty(opened),
+    }
+}
+
+fn is_deleting(purpose: Purpose) -> bool
+    ensures { result ≡ is_deleting purpose }
+{
+    match purpose {
+        Purpose::Deleting => true,
+        _ => false,
+    }
+}
+
+/// `,` behind what is deleted, which is no expression.
+fn behind_deleted(purpose: Purpose, reading: &Reading, token: &Kind) -> bool
+    ensures { result ≡ behind_deleted purpose reading.now token.now }
+{
+    match token {
+        Kind::Op(Sign::Comma) => is_deleting(purpose) && is_bare_of_brackets(reading),
+        _ => false,
+    }
+}
+
 fn default_at(token: &Kind) -> Option<Construct>
     ensures { result ≡ default_at token.now }
 {
@@ -96,6 +138,19 @@ fn nested(outers: &Stack<Outer>, token: &Kind) -> Option<Construct>
     }
 }
 
+/// The construct that a token begins in a simple statement.
+fn in_simple(purpose: Purpose, reading: &Reading, token: &Kind) -> Option<Construct>
+    ensures { result ≡ in_simple purpose reading.now token.now }
+{
+    if behind_deleted(purpose, reading, token) {
+        return None;
+    }
+    match chained(purpose, reading, token) {
+        Some(construct) => Some(construct),
+        None => py_expressions::outside(reading, token),
+    }
+}
+
 fn outside_state(state: &State, token: &Kind) -> Option<Construct>
     ensures { result ≡ outside_state state.now token.now }
 {
@@ -105,10 +160,7 @@ fn outside_state(state: &State, token: &Kind) -> Option<Construct>
             purpose,
             reading,
             ..
-        } => match chained(*purpose, reading, token) {
-            Some(construct) => Some(construct),
-            None => py_expressions::outside(reading, token),
-        },
+        } => in_simple(*purpose, reading, token),
         State::InTest { reading, .. } => py_expressions::outside(reading, token),
         State::HasParams { from: _ } => default_at(token),
         State::AfterColon { .. } => inline_function(token),
