@@ -1,0 +1,4 @@
+pub mod Kept
+pub mod Read
+pub mod Failing
+mod Examples
