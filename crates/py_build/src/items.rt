@@ -1,0 +1,159 @@
+ghost use Rattle.std.specs.Prelude.{◌≡◌, [], ◌∷◌};
+ghost use Rattle.py_build.specs.Items.{below, expr_on, terms_on, pairs_on, compared_on, operated_on, place_on, names_on, target_on, block_on};
+
+use plain_data::{Items, Stack, Text};
+use py_tree::{Expr, Literal, Operand, Pair, Place, Relation, Stmt};
+use std::alloc::Global;
+
+/// A chain of comparisons that may go on.
+#[derive(Drop)]
+pub struct Comparison {
+    pub first: Expr,
+    pub rest: Items<Relation>,
+}
+
+/// A sum or a product that may go on.
+#[derive(Drop)]
+pub struct Operation {
+    pub first: Expr,
+    pub rest: Items<Operand>,
+}
+
+/// What an entry leaves for those behind it.
+#[derive(Drop)]
+pub enum Item {
+    Expr(Expr),
+    Terms(Items<Expr>),
+    Pairs(Items<Pair>),
+    Compared(Comparison),
+    Operated(Operation),
+    Place(Place),
+    Names(Items<Text>),
+    Target(Text),
+    Block(Items<Stmt>),
+}
+
+/// Takes the expression on the top off. Anything else there is lost, and `None` stands for it.
+pub fn pop_expr(items: &mut Stack<Item>) -> Expr
+    ensures value { result ≡ expr_on items.old }
+    ensures rest { items.new ≡ below items.old }
+{
+    match items.pop() {
+        Some(Item::Expr(value)) => value,
+        other => {
+            drop(other);
+            Expr::Literal(Literal::Nothing)
+        }
+    }
+}
+
+/// Takes the list of expressions on the top off, as do those below with what they are named for.
+pub fn pop_terms(alloc: Global, items: &mut Stack<Item>) -> Items<Expr>
+    ensures value { result ≡ terms_on items.old }
+    ensures rest { items.new ≡ below items.old }
+{
+    match items.pop() {
+        Some(Item::Terms(terms)) => terms,
+        other => {
+            drop(other);
+            Items::new(alloc)
+        }
+    }
+}
+
+pub fn pop_pairs(alloc: Global, items: &mut Stack<Item>) -> Items<Pair>
+    ensures value { result ≡ pairs_on items.old }
+    ensures rest { items.new ≡ below items.old }
+{
+    match items.pop() {
+        Some(Item::Pairs(pairs)) => pairs,
+        other => {
+            drop(other);
+            Items::new(alloc)
+        }
+    }
+}
+
+pub fn pop_compared(alloc: Global, items: &mut Stack<Item>) -> Comparison
+    ensures value { result ≡ compared_on items.old }
+    ensures rest { items.new ≡ below items.old }
+{
+    match items.pop() {
+        Some(Item::Compared(chain)) => chain,
+        other => {
+            drop(other);
+            Comparison {
+                first: Expr::Literal(Literal::Nothing),
+                rest: Items::new(alloc),
+            }
+        }
+    }
+}
+
+pub fn pop_operated(alloc: Global, items: &mut Stack<Item>) -> Operation
+    ensures value { result ≡ operated_on items.old }
+    ensures rest { items.new ≡ below items.old }
+{
+    match items.pop() {
+        Some(Item::Operated(chain)) => chain,
+        other => {
+            drop(other);
+            Operation {
+                first: Expr::Literal(Literal::Nothing),
+                rest: Items::new(alloc),
+            }
+        }
+    }
+}
+
+pub fn pop_place(alloc: Global, items: &mut Stack<Item>) -> Place
+    ensures value { result ≡ place_on items.old }
+    ensures rest { items.new ≡ below items.old }
+{
+    match items.pop() {
+        Some(Item::Place(place)) => place,
+        other => {
+            drop(other);
+            Place::Name(Text::from_string(String::new(alloc)))
+        }
+    }
+}
+
+pub fn pop_names(alloc: Global, items: &mut Stack<Item>) -> Items<Text>
+    ensures value { result ≡ names_on items.old }
+    ensures rest { items.new ≡ below items.old }
+{
+    match items.pop() {
+        Some(Item::Names(names)) => names,
+        other => {
+            drop(other);
+            Items::new(alloc)
+        }
+    }
+}
+
+pub fn pop_target(alloc: Global, items: &mut Stack<Item>) -> Text
+    ensures value { result ≡ target_on items.old }
+    ensures rest { items.new ≡ below items.old }
+{
+    match items.pop() {
+        Some(Item::Target(name)) => name,
+        other => {
+            drop(other);
+            Text::from_string(String::new(alloc))
+        }
+    }
+}
+
+pub fn pop_block(alloc: Global, items: &mut Stack<Item>) -> Items<Stmt>
+    ensures value { result ≡ block_on items.old }
+    ensures rest { items.new ≡ below items.old }
+{
+    match items.pop() {
+        Some(Item::Block(body)) => body,
+        other => {
+            drop(other);
+            Items::new(alloc)
+        }
+    }
+}
