@@ -1,2 +1,11 @@
-pub mod Cuts
-pub mod Decimal
+pub mod Ended
+pub mod Scanned
+pub mod Judged
+pub mod Final
+pub mod Meant
+pub mod ScannedAlone
+pub mod JudgedAlone
+pub mod Spanned
+pub mod WholeAlone
+pub mod MeantAlone
+pub mod Told

@@ -1,3 +1,9 @@
-pub mod Outcomes
-pub mod Pieces
-pub mod Built
+pub mod Verdicts
+pub mod Verdict
+pub mod Definitions
+pub mod DefinitionVerdict
+pub mod Gives
+pub mod Scans
+pub mod Alone
+pub mod Texts
+pub mod Completeness

@@ -1,16 +1,23 @@
-//! Reading the code of a cell, in the form that is built.
+//! Reading the code of a cell: its tree, or the fault that it is refused for, and how far it is a cell. The same of a text that
+//! is one function alone.
 //!
-//! Lines end with a line feed, and a line without tokens is nothing. Any other line is `NAME = sum` or `print(sum)`, from
-//! its first byte on; spaces between tokens are skipped. A sum is one or more names or numbers with `+` between them. A
-//! code has at most 262,144 bytes. `docs/LANGUAGE.md` says what a name and a number are.
+//! The tokens are read one after the other by a machine that writes the postfix form of the cell (`py_statements`), from which
+//! the nesting is judged (`py_nesting`) and the tree is built (`py_build`). Nothing is recursive, so no text, however deep its
+//! brackets or long its chains, needs a larger stack.
 #![tactic(auto)]
 
+mod answer;
+mod begun;
+mod definition;
 mod fault;
-mod number;
-mod pieces;
 mod read;
-mod tree;
+mod scan;
+#[cfg(test)]
+mod tests;
+mod text;
 
-pub use fault::CodeFault;
+pub use answer::Completeness;
+pub use begun::completeness;
+pub use definition::read_def;
+pub use fault::{ReadError, SyntaxFault};
 pub use read::read_cell;
-pub use tree::{Atom, Line, Sum};

@@ -1,168 +1,153 @@
-ghost use Rattle.std.specs.Prelude.{◌≡◌, ℕ, ◌<◌, List, ◌∷◌, length, true, false, MatchOption, IfOk, IfSome, Some, None, option_map};
-ghost use Rattle.py_reader.specs.Outcomes.{Gives, GivesNext, GivesMore};
-ghost use Rattle.py_reader.specs.Pieces.{pieces, lines};
-ghost use Rattle.py_reader.specs.Built as spec;
+ghost use Rattle.std.specs.Prelude.{◌≡◌, ◌≤◌, ◌<◌, length, IfOk};
+ghost use Rattle.py_reader.specs.Gives.{Gives, Means};
+ghost use Rattle.py_reader.specs.Scans.{ArePartsBefore, IsRefusal, GivesCell};
+ghost use Rattle.py_reader.specs.Verdict.{verdict, deep_from, most, place_of_deep};
+ghost use Rattle.py_reader.specs.Verdicts.{start_of, is_end, refusal};
 
-use crate::fault::CodeFault;
-use crate::number::number_of;
-use crate::pieces::{next_line, next_piece};
-use crate::tree::{Atom, Line, Sum};
-use plain_data::{Items, Text};
-use py_names::{is_builtin, is_variable};
-use std::alloc::Global;
+use crate::fault::{ReadError, SyntaxFault, token_error};
+use crate::scan::{Scan, kind_at, read_tokens};
+use plain_data::Stack;
+use py_build::{build, listed};
+use py_grammar::Construct;
+use py_nesting::{first_too_deep, open_parts};
+use py_postfix::Entry;
+use py_token::{Kind, Token, tokens};
+use py_tree::Tree;
+use std::alloc::{AllocError, Global};
 
-#[tactic(auto, unfolding(crate::specs::Built::is_own_name))]
-fn is_own_name(name: &str) -> bool
-    ensures { result ≡ spec.is_own_name name.now }
+/// The most bytes of a code.
+pub const MAX_CODE: usize = 262_144;
+
+/// The place of the token with that number.
+pub fn start_of(tokens: &[Token], number: usize) -> u32
+    ensures { result ≡ start_of tokens.now number }
 {
-    is_variable(name) && !is_builtin(name)
-}
-
-/// The piece as a name that a line may bind or use.
-fn own_name(piece: &[u8]) -> Option<&str>
-    ensures { MatchOption result (spec.is_own_name piece.now ≡ false)
-        (λ name. (name.now ≡ piece.now) × (spec.is_own_name piece.now ≡ true)) }
-{
-    match str::from_utf8(piece) {
-        Ok(name) if is_own_name(name) => Some(name),
-        Ok(_) => None,
-        Err(_) => None,
+    match tokens.get(number) {
+        Some(token) => token.start,
+        None => 0,
     }
 }
 
-#[tactic(auto, unfolding(crate::specs::Built::atom_of))]
-fn atom_of(alloc: Global, piece: &[u8]) -> Result<Atom, CodeFault>
-    ensures { Gives result (spec.atom_of piece.now) }
+fn is_end(kind: &Kind) -> bool
+    ensures { result ≡ is_end kind.now }
 {
-    if let Some(name) = own_name(piece) {
-        return Ok(Atom::Name(Text::new(alloc, name)?));
-    }
-    match number_of(piece) {
-        Some(number) => Ok(Atom::Number(number)),
-        None => Err(CodeFault::NotBuilt),
+    matches!(kind, Kind::End)
+}
+
+/// What the failing token is refused as.
+fn refused(at: u32, token: &Kind, construct: Option<Construct>) -> SyntaxFault
+    ensures { result ≡ refusal at token.now construct }
+{
+    match construct {
+        None => SyntaxFault::NoParse {
+            at,
+            end: is_end(token),
+        },
+        Some(construct) => SyntaxFault::Outside(at, construct),
     }
 }
 
-/// The next operand behind an atom and what stands behind it, or none where the sum ends.
-#[tactic(auto, unfolding(crate::specs::Built::operands))]
-fn next_operand(
+/// The place of the first part that is too deep.
+pub fn too_deep(
     alloc: Global,
-    closed: bool,
-    bytes: &[u8],
-) -> Result<Option<(Atom, &[u8])>, CodeFault>
-    ensures gives { GivesNext (λ more. spec.operands closed (pieces more.now)) result (spec.operands closed (pieces bytes.now)) }
-    ensures shorter { IfOk result (λ next. IfSome next (λ found. length found.1.now < length bytes.now)) }
+    tokens: &[Token],
+    entries: &[Entry],
+) -> Result<Option<u32>, AllocError>
+    ensures { IfOk result (λ found. found ≡ place_of_deep tokens.now (deep_from (most entries.now) entries.now)) }
 {
-    let Some((first, rest)) = next_piece(bytes) else {
-        return if closed {
-            Err(CodeFault::NotBuilt)
-        } else {
-            Ok(None)
-        };
-    };
-    match next_piece(rest) {
-        None if closed && first == b")".as_slice() => Ok(None),
-        Some((second, more)) if first == b"+".as_slice() => Ok(Some((
-            atom_of(alloc, second)?,
-            more,
-        ))),
-        _ => Err(CodeFault::NotBuilt),
+    match first_too_deep(alloc, entries)? {
+        None => Ok(None),
+        Some(left) => Ok(Some(start_of(tokens, tokens.len().saturating_sub(left)))),
     }
 }
 
-/// The operands behind the first atom of a sum.
-fn operands(alloc: Global, closed: bool, bytes: &[u8]) -> Result<Items<Atom>, CodeFault>
-    ensures { Gives result (spec.operands closed (pieces bytes.now)) }
+/// The tree of the cell that the tokens are, unless it is too deep.
+fn whole(
+    alloc: Global,
+    code: &str,
+    tokens: &[Token],
+    entries: Stack<Entry>,
+) -> Result<Tree, ReadError>
+    ensures { GivesCell code.now tokens.now entries result }
 {
-    let mut atoms = Items::new(alloc);
-    let mut rest = bytes;
-    while let Some((atom, more)) = next_operand(alloc, closed, rest)? {
-        atoms.push(atom)?;
-        rest = more;
+    let entries = listed(alloc, entries)?;
+    if let Some(at) = too_deep(alloc, tokens, entries.as_slice())? {
+        return Err(ReadError::Fault(SyntaxFault::TooDeep(at)));
     }
-    Ok(atoms)
+    Ok(Tree {
+        body: build(alloc, entries, code, tokens)?,
+    })
 }
 
-/// The sum that the pieces of the bytes are: all of them, or all before a bracket that closes it.
-#[tactic(auto, unfolding(crate::specs::Built::sum_of))]
-fn sum_of(alloc: Global, closed: bool, bytes: &[u8]) -> Result<Sum, CodeFault>
-    ensures { Gives result (spec.sum_of closed (pieces bytes.now)) }
+/// What stands before the token with that number: the parts that have ended, and those that are open.
+fn parts_before(alloc: Global, tokens: &[Token], place: usize) -> Result<Stack<Entry>, AllocError>
+    requires { place ≤ length tokens.now }
+    ensures { IfOk result (ArePartsBefore tokens.now place) }
 {
-    let Some((piece, rest)) = next_piece(bytes) else {
-        return Err(CodeFault::NotBuilt);
-    };
-    let first = atom_of(alloc, piece)?;
-    let rest = operands(alloc, closed, rest)?;
-    Ok(Sum { first, rest })
-}
-
-#[tactic(auto, unfolding(crate::specs::Built::line_of))]
-fn line_of(alloc: Global, line: &[u8]) -> Result<Line, CodeFault>
-    ensures { Gives result (spec.line_of (pieces line.now)) }
-{
-    let Some((first, rest)) = next_piece(line) else {
-        return Err(CodeFault::NotBuilt);
-    };
-    let Some((second, rest)) = next_piece(rest) else {
-        return Err(CodeFault::NotBuilt);
-    };
-    match own_name(first) {
-        Some(name) if second == b"=".as_slice() => {
-            let name = Text::new(alloc, name)?;
-            Ok(Line::Assign(name, sum_of(alloc, false, rest)?))
+    match read_tokens(alloc, tokens, place)? {
+        Scan::Whole(reader, mut entries) => {
+            open_parts(reader.state, tokens.len() - place, &mut entries)?;
+            Ok(entries)
         }
-        _ if first == b"print".as_slice() && second == b"(".as_slice() => {
-            Ok(Line::Print(sum_of(alloc, true, rest)?))
+        Scan::Refused(..) => Ok(Stack::new(alloc)),
+    }
+}
+
+/// Why the token with that number is refused, or what is too deep before it.
+pub fn refusal_at(
+    alloc: Global,
+    tokens: &[Token],
+    place: usize,
+    construct: Option<Construct>,
+) -> Result<SyntaxFault, AllocError>
+    requires { place < length tokens.now }
+    ensures { IfOk result (IsRefusal tokens.now place construct) }
+{
+    let parts = listed(alloc, parts_before(alloc, tokens, place)?)?;
+    match too_deep(alloc, tokens, parts.as_slice())? {
+        Some(at) => Ok(SyntaxFault::TooDeep(at)),
+        None => Ok(refused(start_of(tokens, place), kind_at(tokens, place), construct)),
+    }
+}
+
+/// What the code is read as.
+fn judge(alloc: Global, code: &str) -> Result<Tree, ReadError>
+    ensures { Gives result (verdict code.now) }
+{
+    if MAX_CODE < code.len() {
+        return Err(ReadError::Fault(SyntaxFault::TooLong));
+    }
+    let tokens = match tokens(alloc, code) {
+        Ok(tokens) => tokens,
+        Err(error) => return Err(token_error(error)),
+    };
+    let all = tokens.as_slice();
+    match read_tokens(alloc, all, all.len())? {
+        Scan::Whole(reader, entries) => {
+            drop(reader);
+            whole(alloc, code, all, entries)
         }
-        _ => Err(CodeFault::NotBuilt),
-    }
-}
-
-/// Whether the line has no pieces.
-fn is_blank(line: &[u8]) -> bool
-    ensures { result ≡ spec.is_blank line.now }
-{
-    next_piece(line).is_none()
-}
-
-/// What a line is: nothing where it has no pieces, and else a line from its first byte on.
-#[tactic(auto, unfolding(crate::specs::Built::body_of))]
-fn line_at(alloc: Global, line: &[u8]) -> Result<Option<Line>, CodeFault>
-    ensures { (more : List (List ℕ)) → GivesMore result (spec.body_of more) (spec.body_of (line.now ∷ more)) }
-{
-    if is_blank(line) {
-        Ok(None)
-    } else if line.starts_with(b" ") {
-        Err(CodeFault::NotBuilt)
-    } else {
-        Ok(Some(line_of(alloc, line)?))
-    }
-}
-
-/// The lines of the code.
-#[tactic(auto, unfolding(crate::specs::Built::body_of))]
-fn body_of(alloc: Global, code: &[u8]) -> Result<Items<Line>, CodeFault>
-    ensures { Gives result (spec.body_of (lines code.now)) }
-{
-    let mut body = Items::new(alloc);
-    let mut rest = Some(code);
-    while let Some(bytes) = rest {
-        let (line, more) = next_line(bytes);
-        if let Some(line) = line_at(alloc, line)? {
-            body.push(line)?;
+        Scan::Refused(place, construct) => {
+            let fault = refusal_at(alloc, all, place, construct)?;
+            Err(ReadError::Fault(fault))
         }
-        rest = more;
     }
-    Ok(body)
 }
 
-/// Reads the code of a cell. `NotBuilt` says that it isn't of the built form; `OutOfMemory` says nothing about it.
-#[tactic(auto, unfolding(crate::specs::Built::cell_of))]
-pub fn read_cell(alloc: Global, code: &str) -> Result<Items<Line>, CodeFault>
-    ensures { Gives result (spec.cell_of code.now) }
+/// Reads the code of a cell.
+///
+/// A code of more than 262,144 bytes is `TooLong`, and one without tokens has the fault of its tokens. Otherwise, if a part
+/// stands at depth 65 or deeper, the first such part is `TooDeep`: in a code without a tree a part counts as far as the
+/// tokens before the failing one begin it. Otherwise the code has its one tree in the grammar, or it is refused at the first
+/// token such that no cell begins with the tokens up to it: as `Outside`, where that token begins a construct of Python
+/// that this language leaves out, and else as `NoParse`. (Python language reference, in the subset of docs/LANGUAGE.md.)
+#[tactic(auto, using(crate::proofs::Meant::told))]
+pub fn read_cell(alloc: Global, code: &str) -> Result<Tree, ReadError>
+    // The verdict as a definition that computes.
+    ensures exact { Gives result (verdict code.now) }
+
+    // The same in the words of the grammar.
+    ensures meaning { Means code.now result }
 {
-    if code.len() > 262_144 {
-        return Err(CodeFault::NotBuilt);
-    }
-    body_of(alloc, code.as_bytes())
+    judge(alloc, code)
 }

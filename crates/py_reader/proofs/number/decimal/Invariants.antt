@@ -1,6 +1,0 @@
-use Rattle.std.proofs.Common.{◌≡◌, ◌<◌, ◌^◌, drop}
-use Rattle.py_reader.specs.Built as spec
-use Rattle.py_reader.proofs.number.decimal.Given as goal
-
-abbrev pub invariant-loop-byte : goal.invariant-loop-byte
-invariant-loop-byte l = (l.number < 2 ^ 127) × (spec.decimal_from 0 l.bytes ≡ spec.decimal_from l.number (drop l.byte-index l.bytes))
