@@ -1,0 +1,3 @@
+pub mod Errors
+pub mod Builtins
+pub mod Runs

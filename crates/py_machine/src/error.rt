@@ -1,0 +1,151 @@
+ghost use Rattle.std.specs.Prelude.{◌≡◌, IfOk};
+ghost use Rattle.py_machine.specs.Errors as spec;
+
+use crate::kind::{Kind, kind_name};
+use plain_data::Text;
+use std::alloc::{AllocError, Global};
+
+/// The name of a Python error.
+#[derive(Clone, Copy, Debug, PartialEq, Eq)]
+pub enum ErrorKind {
+    Syntax,
+    Name,
+    Type,
+    Attribute,
+    Overflow,
+    Recursion,
+    StepLimit,
+    Memory,
+}
+
+/// A Python error, which ends its cell.
+#[derive(Debug, Drop)]
+pub struct PyError {
+    pub kind: ErrorKind,
+    pub text: Text,
+}
+
+/// Why a run ended early.
+#[derive(Debug, Drop)]
+pub enum Fault {
+    /// Memory ran out: nothing is known of the run.
+    OutOfMemory,
+    /// The run raised this error.
+    Raised(PyError),
+}
+
+impl From<AllocError> for Fault {
+    ghost use Rattle.std.specs.Prelude.{◌≡◌};
+    ghost use Rattle.py_machine.specs.declared.error.Fault.TheVariants.{OutOfMemory};
+
+    ghost from_gives = { λ _ e. e ≡ OutOfMemory };
+
+    fn from(_: AllocError) -> Fault {
+        Fault::OutOfMemory
+    }
+}
+
+/// The error of a cell that isn't of the built form.
+pub fn not_built(alloc: Global) -> Result<PyError, AllocError>
+    ensures { IfOk result (λ error. error ≡ spec.not_built) }
+{
+    let text = Text::new(alloc, "not built")?;
+    Ok(PyError {
+        kind: ErrorKind::Syntax,
+        text,
+    })
+}
+
+/// The error of a number past 128 bits.
+pub fn overflow_error(alloc: Global) -> Result<PyError, AllocError>
+    ensures { IfOk result (λ error. error ≡ spec.overflow_error) }
+{
+    let text = Text::new(alloc, "number past 128 bits")?;
+    Ok(PyError {
+        kind: ErrorKind::Overflow,
+        text,
+    })
+}
+
+/// The error of level 801.
+pub fn recursion_error(alloc: Global) -> Result<PyError, AllocError>
+    ensures { IfOk result (λ error. error ≡ spec.recursion_error) }
+{
+    let text = Text::new(alloc, "maximum recursion depth exceeded")?;
+    Ok(PyError {
+        kind: ErrorKind::Recursion,
+        text,
+    })
+}
+
+/// The error of a step past the limit.
+pub fn step_limit_error(alloc: Global) -> Result<PyError, AllocError>
+    ensures { IfOk result (λ error. error ≡ spec.step_limit_error) }
+{
+    let text = Text::new(alloc, "1000000 steps")?;
+    Ok(PyError {
+        kind: ErrorKind::StepLimit,
+        text,
+    })
+}
+
+/// The error of a charge past the meter's limit.
+pub fn memory_error(alloc: Global) -> Result<PyError, AllocError>
+    ensures { IfOk result (λ error. error ≡ spec.memory_error) }
+{
+    let text = Text::new(alloc, "meter spent")?;
+    Ok(PyError {
+        kind: ErrorKind::Memory,
+        text,
+    })
+}
+
+/// The error of a name that has no value.
+pub fn name_error(alloc: Global, name: &Text) -> Result<PyError, AllocError>
+    ensures { IfOk result (λ error. error ≡ spec.name_error name.now) }
+{
+    let name = name.as_str();
+    let text = format!(in alloc; "name '{name}' is not defined")?;
+    Ok(PyError {
+        kind: ErrorKind::Name,
+        text: Text::from_string(text),
+    })
+}
+
+/// The error of a `+` between values of these kinds.
+pub fn unsupported_sum(alloc: Global, left: Kind, right: Kind) -> Result<PyError, AllocError>
+    ensures { IfOk result (λ error. error ≡ spec.unsupported_sum left right) }
+{
+    let left = kind_name(left);
+    let right = kind_name(right);
+    let text = format!(in alloc; "unsupported operand type(s) for +: '{left}' and '{right}'")?;
+    Ok(PyError {
+        kind: ErrorKind::Type,
+        text: Text::from_string(text),
+    })
+}
+
+/// The error of a call of a value that no call can stand on.
+pub fn not_callable(alloc: Global, kind: Kind) -> Result<PyError, AllocError>
+    ensures { IfOk result (λ error. error ≡ spec.not_callable kind) }
+{
+    let kind = kind_name(kind);
+    let text = format!(in alloc; "'{kind}' object is not callable")?;
+    Ok(PyError {
+        kind: ErrorKind::Type,
+        text: Text::from_string(text),
+    })
+}
+
+/// The error of a method that values of this kind don't have.
+pub fn no_attribute(alloc: Global, kind: Kind, name: &Text) -> Result<PyError, AllocError>
+    ensures { IfOk result (λ error. error ≡ spec.no_attribute kind name.now) }
+{
+    let kind = kind_name(kind);
+    let name = name.as_str();
+    let text = format!(in alloc; "'{kind}' object has no attribute '{name}'")?;
+    Ok(PyError {
+        kind: ErrorKind::Attribute,
+        text: Text::from_string(text),
+    })
+}

@@ -1,0 +1,28 @@
+ghost use Rattle.std.specs.Prelude.{◌≡◌};
+ghost use Rattle.py_machine.specs.Errors as spec;
+
+/// What sort of value a value is.
+#[derive(Clone, Copy, Debug, PartialEq, Eq)]
+pub enum Kind {
+    /// None. A reference to no object counts as one; a session has none such.
+    Nothing,
+    Bool,
+    Number,
+    Text,
+    List,
+    Builtin,
+}
+
+/// The name of a kind, as errors say it.
+pub fn kind_name(kind: Kind) -> &'static str
+    ensures { result.now ≡ spec.kind_name kind }
+{
+    match kind {
+        Kind::Nothing => "NoneType",
+        Kind::Bool => "bool",
+        Kind::Number => "int",
+        Kind::Text => "str",
+        Kind::List => "list",
+        Kind::Builtin => "builtin_function_or_method",
+    }
+}

@@ -1,0 +1,4 @@
+pub mod Keeping
+pub mod Growing
+pub mod Opened
+pub mod Examples

@@ -1,0 +1,82 @@
+-- The text that a value shows, as acts, by the levels left and the lists that are open. (Python reference: `repr`, `str`.)
+use Rattle.std.specs.Prelude.{ℕ, zero, suc, List, [], ◌∷◌, ◌++◌, codes, Option, Some, None}
+use Rattle.py_value.specs.declared.key.Key.TheVariants as key
+use Rattle.py_value.specs.declared.value.Builtin.{Builtin}
+use Rattle.py_value.specs.declared.value.Builtin.TheVariants as builtin
+use Rattle.py_value.specs.declared.value.Value.{Value}
+use Rattle.py_value.specs.declared.value.Value.TheVariants as value
+use Rattle.py_value.specs.Reprs.{key_text}
+use Rattle.py_heap.specs.Searches.{has}
+use Rattle.py_machine.specs.Errors.{recursion_error}
+use Rattle.py_meaning.specs.Acts.{Act, ◌>>=◌, ◌>>◌, pure, fail, step, list_at, choose}
+
+abbrev pub builtin_text : Builtin → List ℕ
+builtin_text builtin.Print = codes "<built-in function print>"
+builtin_text builtin.Len = codes "<built-in function len>"
+builtin_text builtin.Str = codes "<class 'str'>"
+builtin_text builtin.Repr = codes "<built-in function repr>"
+builtin_text builtin.Int = codes "<class 'int'>"
+builtin_text builtin.Range = codes "<class 'range'>"
+builtin_text builtin.Draw = codes "<built-in function draw>"
+builtin_text builtin.Handle = codes "<built-in function handle>"
+builtin_text builtin.Tell = codes "<built-in function tell>"
+
+-- the text of a value that isn't looked into: a reference to no object counts as None
+abbrev pub plain_text : Value → List ℕ
+plain_text value.Nothing = key_text key.Nothing
+plain_text (value.Bool truth) = key_text (key.Bool truth)
+plain_text (value.Number number) = key_text (key.Number number)
+plain_text (value.Text text) = key_text (key.Text text)
+plain_text (value.Ref at) = key_text key.Nothing
+plain_text (value.Builtin builtin) = builtin_text builtin
+
+-- what shows a value behind a text, with the lists open that it stands in, the outermost first
+abbrev pub Shows : Type 1
+Shows = List ℕ → List ℕ → Value → Act (List ℕ)
+
+module _ (below : Shows) where
+  -- the items of a list behind its first one, and its end
+  abbrev pub more_items : List ℕ → List ℕ → List Value → Act (List ℕ)
+  more_items path text [] = pure (text ++ codes "]")
+  more_items path text (item ∷ items) = below path (text ++ codes ", ") item >>= (λ longer. more_items path longer items)
+
+  abbrev pub all_items : List ℕ → List ℕ → List Value → Act (List ℕ)
+  all_items path text [] = pure (text ++ codes "]")
+  all_items path text (item ∷ items) = below path text item >>= (λ longer. more_items path longer items)
+
+  abbrev pub list_text : List ℕ → List ℕ → ℕ → List Value → Act (List ℕ)
+  list_text path text at items = all_items (path ++ at ∷ []) (text ++ codes "[") items
+
+  abbrev pub listed : List ℕ → List ℕ → ℕ → Option (List Value) → Act (List ℕ)
+  listed path text at None = pure (text ++ plain_text (value.Ref at))
+  listed path text at (Some items) = list_text path text at items
+
+  -- a list that is open already isn't looked into again
+  unfoldable pub object_text : List ℕ → List ℕ → ℕ → Act (List ℕ)
+  object_text path text at = choose (has path at) (pure (text ++ codes "[...]")) (list_at at >>= listed path text at)
+
+  abbrev pub value_text : Shows
+  value_text path text (value.Ref at) = object_text path text at
+  value_text path text held = pure (text ++ plain_text held)
+
+  -- what `print` writes of a value: a text as it is, and anything else as it shows
+  abbrev pub str_text : Value → Act (List ℕ)
+  str_text (value.Text text) = pure text
+  str_text held = value_text [] [] held
+
+  -- each value takes a step
+  abbrev pub shown_one : Shows
+  shown_one path text held = step >> value_text path text held
+
+  abbrev pub written_one : Value → Act (List ℕ)
+  written_one held = step >> str_text held
+
+-- the text, with what a value shows behind it: an item stands one level below its list
+unfoldable pub shown : ℕ → Shows
+shown zero path text held = fail recursion_error
+shown (suc n) path text held = shown_one (shown n) path text held
+
+-- what `print` writes of a value
+unfoldable pub written : ℕ → Value → Act (List ℕ)
+written zero held = fail recursion_error
+written (suc n) held = written_one (shown n) held

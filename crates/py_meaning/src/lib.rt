@@ -1,0 +1,6 @@
+//! The meaning of a cell, written out: what each construct does to a machine, and what a cell gives from a state.
+#![tactic(auto)]
+
+mod end;
+
+pub use end::CellEnd;
