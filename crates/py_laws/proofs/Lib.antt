@@ -1,0 +1,15 @@
+pub mod Matching
+pub mod Pairing
+pub mod Sameness
+pub mod Reports
+pub mod Places
+pub mod Sparing
+pub mod Traces
+pub mod Respecting
+pub mod LeastActs
+pub mod Showing
+pub mod Constructs
+pub mod Narrowing
+pub mod Framing
+pub mod Closing
+pub mod Examples
