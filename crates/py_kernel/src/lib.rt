@@ -1,17 +1,17 @@
-//! The kernel: cells run as the meaning in `specs/` says.
+//! The kernel: cells run as the meaning in py_meaning says, and a session answers them as one that never moved.
 //!
-//! A cell of the built form binds names to numbers and prints sums. An error ends the cell, and what it did before
-//! stays. (Python language reference, in the subset of `docs/LANGUAGE.md`.)
-//!
-//! A sum is taken of two values, so a body that takes them the other way around is the same sum, and is proved too.
+//! An error ends a cell, and what it did before stays. (Python language reference, in the subset of `docs/LANGUAGE.md`.)
 #![tactic(auto)]
 
-mod error;
+mod built;
+mod cell;
 mod kernel;
-mod machine;
+mod plus;
 mod run;
 mod session;
+mod shown;
+#[cfg(test)]
+mod tests;
 
-pub use error::{ErrorKind, PyError};
-pub use kernel::{CellEnd, Kernel, State};
-pub use session::{Failure, Reply};
+pub use built::is_built;
+pub use kernel::Kernel;

@@ -1,36 +1,24 @@
-ghost use Rattle.std.specs.Prelude.{◌≡◌, ◌+◌, ◌<◌, IfOk, OnOk, codes, string_bytes};
-ghost use Rattle.py_kernel.specs.Session as spec;
+ghost use Rattle.std.specs.Prelude.{◌≡◌, ◌+◌, ◌<◌, IfOk, OnOk};
+ghost use Rattle.py_session.specs.Session as spec;
 
-use crate::error::{ErrorKind, PyError};
-use crate::kernel::{CellEnd, Kernel};
+use crate::kernel::Kernel;
 use plain_data::Text;
-use py_reader::{CodeFault, read_cell};
+use py_machine::{ErrorKind, PyError};
+use py_meaning::CellEnd;
+use py_reader::{ReadError, SyntaxFault, read_cell};
+use py_session::{Failure, Reply};
 use std::alloc::{AllocError, Global};
-
-/// A Python error as a reply says it.
-#[derive(Drop)]
-pub struct Failure {
-    pub name: Text,
-    pub text: Text,
-}
-
-/// The reply to a cell.
-#[derive(Drop)]
-pub struct Reply {
-    /// The count of the cell.
-    pub count: u32,
-    /// All that it printed.
-    pub printed: Text,
-    /// The error that ended it, if one did.
-    pub error: Option<Failure>,
-}
 
 fn error_name(kind: ErrorKind) -> &'static str
     ensures { result.now ≡ spec.error_name kind }
 {
     match kind {
+        ErrorKind::Syntax => "SyntaxError",
         ErrorKind::Name => "NameError",
+        ErrorKind::Type => "TypeError",
+        ErrorKind::Attribute => "AttributeError",
         ErrorKind::Overflow => "OverflowError",
+        ErrorKind::Recursion => "RecursionError",
         ErrorKind::StepLimit => "StepLimitError",
         ErrorKind::Memory => "MemoryError",
     }
@@ -46,53 +34,72 @@ fn failure_of(alloc: Global, error: PyError) -> Result<Failure, AllocError>
     })
 }
 
-/// The failure of code that isn't of the built form.
-fn not_built(alloc: Global) -> Result<Failure, AllocError>
-    ensures { IfOk result (λ failure. failure ≡ spec.not_built) }
+/// Why a code has no tree.
+fn refused(alloc: Global, fault: SyntaxFault) -> Result<Failure, AllocError>
+    ensures { IfOk result (λ failure. failure ≡ spec.refused fault) }
 {
     Ok(Failure {
         name: Text::new(alloc, "SyntaxError")?,
-        text: Text::new(alloc, "not built")?,
+        text: fault.text(alloc)?,
+    })
+}
+
+/// The reply to a cell that ended so.
+fn reply_of(alloc: Global, count: u32, end: CellEnd) -> Result<Reply, AllocError>
+    ensures { IfOk result (λ reply. reply ≡ spec.reply_of count end) }
+{
+    let CellEnd {
+        printed,
+        result,
+        error,
+        steps: _,
+        trace: _,
+    } = end;
+    let error = match error {
+        Some(error) => Some(failure_of(alloc, error)?),
+        None => None,
+    };
+    Ok(Reply {
+        count,
+        printed,
+        result,
+        error,
+    })
+}
+
+/// The reply to a code without a tree.
+fn refusal(alloc: Global, count: u32, fault: SyntaxFault) -> Result<Reply, AllocError>
+    ensures { IfOk result (λ reply. reply ≡ spec.refusal count fault) }
+{
+    Ok(Reply {
+        count,
+        printed: Text::new(alloc, "")?,
+        result: None,
+        error: Some(refused(alloc, fault)?),
     })
 }
 
 impl Kernel {
-    /// Runs a cell with this code as the next of the session, and gives the reply to it. Code that isn't of the built form
-    /// doesn't run, and is answered by a SyntaxError. After an `Err`, which is want of memory, the kernel stands for
-    /// nothing and is only dropped.
-    #[tactic(auto, unfolding(crate::specs::Session::answer, crate::specs::Session::next_state))]
+    /// Runs a cell with this code as the next of the session, and gives the reply to it. Code that has no tree, or one that
+    /// isn't of the built form, doesn't run, and is answered by a SyntaxError. After an `Err`, which is want of memory, the
+    /// kernel stands for nothing and is only dropped.
+    #[tactic(auto, unfolding(py_session::specs::Session::answer, py_session::specs::Session::next_state), using(crate::proofs::Counted::cell_counts))]
     pub fn answer(&mut self, alloc: Global, code: &str) -> Result<Reply, AllocError>
         requires { self.old.state.count < 4294967295 }
         ensures reply { IfOk result (λ reply. reply ≡ spec.answer code.now self.old.state) }
         ensures state { OnOk result (self.new.state ≡ spec.next_state code.now self.old.state) }
         ensures counted { OnOk result (self.new.state.count ≡ self.old.state.count + 1) }
     {
-        self.state.count += 1;
-        let count = self.state.count;
-        let lines = match read_cell(alloc, code) {
-            Ok(lines) => lines,
-            Err(CodeFault::OutOfMemory) => return Err(AllocError),
-            Err(CodeFault::NotBuilt) => {
-                return Ok(Reply {
-                    count,
-                    printed: Text::new(alloc, "")?,
-                    error: Some(not_built(alloc)?),
-                });
+        let count = self.state.count() + 1;
+        self.state.set_count(count);
+        match read_cell(alloc, code) {
+            Ok(tree) => {
+                let end = self.run_cell(alloc, tree.body.as_slice());
+                drop(tree);
+                reply_of(alloc, count, end?)
             }
-        };
-        let CellEnd {
-            printed,
-            error,
-            steps: _,
-        } = self.run_cell(alloc, lines.as_slice())?;
-        let error = match error {
-            Some(error) => Some(failure_of(alloc, error)?),
-            None => None,
-        };
-        Ok(Reply {
-            count,
-            printed,
-            error,
-        })
+            Err(ReadError::Fault(fault)) => refusal(alloc, count, fault),
+            Err(ReadError::OutOfMemory) => Err(AllocError),
+        }
     }
 }

@@ -1,0 +1,7 @@
+use Rattle.std.proofs.Common.{◌≡◌, drop}
+use Rattle.py_meaning.specs.Acts.{run}
+use Rattle.py_meaning.specs.Meaning.{level, items, items_from}
+use Rattle.py_kernel.proofs.run.Below.items.Given as goal
+
+abbrev pub invariant-loop-expression : goal.invariant-loop-expression
+invariant-loop-expression g l = run (items (level l.self.left) l.expressions) l.initial.machine ≡ run (items_from (level l.self.left) l.values (drop l.expression-index l.expressions)) l.machine

@@ -1,0 +1,18 @@
+use Rattle.std.proofs.Common.{◌≡◌, ap, arith}
+use Rattle.py_machine.specs.Errors.{recursion_error}
+use Rattle.py_meaning.specs.Acts.{run}
+use Rattle.py_meaning.specs.Shown.{shown}
+use Rattle.py_kernel.proofs.Deeper.{deeper}
+use Rattle.py_kernel.proofs.shown.+show.Goals as goal
+
+pub show-returns-clause-shows : goal.show-returns-clause-shows
+unfolding shown
+show-returns-clause-shows t c =
+    rw (deeper (λ n. run (shown n c.args.path.now c.args.text c.args.value.now) c.args.machine.now) c.args.left (omega arith)) c.show_one.ensures.shows
+
+pub show-returns-then-left-eq0-clause-shows : goal.show-returns-then-left-eq0-clause-shows
+unfolding shown
+show-returns-then-left-eq0-clause-shows t c =
+    let none : c.args.left ≡ 0 = omega arith in
+    let error : c.in_ok-recursion_error.field-0 ≡ recursion_error = c.in_ok-recursion_error.ensures in
+    rw error (ap (λ n. run (shown n c.args.path.now c.args.text c.args.value.now) c.args.machine.now) none)

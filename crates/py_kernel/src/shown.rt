@@ -1,0 +1,238 @@
+ghost use Rattle.std.specs.Prelude.{◌≡◌, IfOk, OnOk};
+ghost use Rattle.py_heap.specs.Searches.{has};
+ghost use Rattle.py_machine.specs.Runs.{Runs};
+ghost use Rattle.py_meaning.specs.Acts.{run};
+ghost use Rattle.py_meaning.specs.Shown as spec;
+
+use plain_data::{Items, Text};
+use py_machine::{Fault, Machine, recursion_error};
+use py_value::{Builtin, Key, Value, key_text};
+use std::alloc::{AllocError, Global};
+
+fn builtin_text(builtin: Builtin) -> &'static str
+    ensures { result.now ≡ spec.builtin_text builtin }
+{
+    match builtin {
+        Builtin::Print => "<built-in function print>",
+        Builtin::Len => "<built-in function len>",
+        Builtin::Str => "<class 'str'>",
+        Builtin::Repr => "<built-in function repr>",
+        Builtin::Int => "<class 'int'>",
+        Builtin::Range => "<class 'range'>",
+        Builtin::Draw => "<built-in function draw>",
+        Builtin::Handle => "<built-in function handle>",
+        Builtin::Tell => "<built-in function tell>",
+    }
+}
+
+/// The text of a value that isn't looked into.
+fn plain_text(alloc: Global, value: &Value) -> Result<Text, AllocError>
+    ensures { IfOk result (λ text. text ≡ spec.plain_text value.now) }
+{
+    match value {
+        Value::Nothing | Value::Ref(_) => key_text(alloc, &Key::Nothing),
+        Value::Bool(truth) => key_text(alloc, &Key::Bool(*truth)),
+        Value::Number(number) => key_text(alloc, &Key::Number(*number)),
+        Value::Text(text) => key_text(alloc, &Key::Text(text.copy(alloc)?)),
+        Value::Builtin(builtin) => Text::new(alloc, builtin_text(*builtin)),
+    }
+}
+
+/// Whether a list is open.
+fn is_open(path: &[u32], at: u32) -> bool
+    ensures { result ≡ has path.now at }
+{
+    path.iter().any(|open| *open == at)
+}
+
+/// Puts what a value shows behind a text, one level lower than its items' `left`.
+#[cycle(show)]
+fn show_value(
+    alloc: Global,
+    left: u32,
+    machine: &mut Machine,
+    path: &mut Items<u32>,
+    text: Text,
+    value: &Value,
+) -> Result<Text, Fault>
+    ensures shows { Runs (run (spec.value_text (spec.shown left) path.old text value.now) machine.old) result machine.new }
+    ensures path { OnOk result (path.new ≡ path.old) }
+{
+    match value {
+        Value::Ref(at) => show_object(alloc, left, machine, path, text, *at),
+        _ => {
+            let mut text = text;
+            text.push_str(plain_text(alloc, value)?.as_str())?;
+            Ok(text)
+        }
+    }
+}
+
+/// Puts what the object at an address shows behind a text.
+#[cycle(show)]
+#[tactic(auto, unfolding(py_meaning::specs::Shown::object_text))]
+fn show_object(
+    alloc: Global,
+    left: u32,
+    machine: &mut Machine,
+    path: &mut Items<u32>,
+    text: Text,
+    at: u32,
+) -> Result<Text, Fault>
+    ensures shows { Runs (run (spec.object_text (spec.shown left) path.old text at) machine.old) result machine.new }
+    ensures path { OnOk result (path.new ≡ path.old) }
+{
+    let mut text = text;
+    if is_open(path.as_slice(), at) {
+        text.push_str("[...]")?;
+        return Ok(text);
+    }
+    match machine.list_at(alloc, at)? {
+        Some(items) => show_list(alloc, left, machine, path, text, at, items.as_slice()),
+        None => {
+            text.push_str("None")?;
+            Ok(text)
+        }
+    }
+}
+
+/// Puts what the list at an address shows behind a text.
+#[cycle(show)]
+fn show_list(
+    alloc: Global,
+    left: u32,
+    machine: &mut Machine,
+    path: &mut Items<u32>,
+    text: Text,
+    at: u32,
+    items: &[Value],
+) -> Result<Text, Fault>
+    ensures shows { Runs (run (spec.list_text (spec.shown left) path.old text at items.now) machine.old) result machine.new }
+    ensures path { OnOk result (path.new ≡ path.old) }
+{
+    let mut text = text;
+    text.push_str("[")?;
+    path.push(at)?;
+    let text = show_items(alloc, left, machine, path, text, items)?;
+    path.pop();
+    Ok(text)
+}
+
+/// Puts what the items of a list show, and its end, behind a text.
+#[cycle(show)]
+fn show_items(
+    alloc: Global,
+    left: u32,
+    machine: &mut Machine,
+    path: &mut Items<u32>,
+    text: Text,
+    items: &[Value],
+) -> Result<Text, Fault>
+    ensures shows { Runs (run (spec.all_items (spec.shown left) path.old text items.now) machine.old) result machine.new }
+    ensures path { OnOk result (path.new ≡ path.old) }
+{
+    match items {
+        [first, more @ ..] => {
+            let text = show(alloc, left, machine, path, text, first)?;
+            show_more(alloc, left, machine, path, text, more)
+        }
+        [] => {
+            let mut text = text;
+            text.push_str("]")?;
+            Ok(text)
+        }
+    }
+}
+
+/// Puts what the items of a list behind its first one show, and its end, behind a text.
+#[cycle(show)]
+fn show_more(
+    alloc: Global,
+    left: u32,
+    machine: &mut Machine,
+    path: &mut Items<u32>,
+    text: Text,
+    items: &[Value],
+) -> Result<Text, Fault>
+    ensures shows { Runs (run (spec.more_items (spec.shown left) path.old text items.now) machine.old) result machine.new }
+    ensures path { OnOk result (path.new ≡ path.old) }
+{
+    let mut text = text;
+    for item in items {
+        text.push_str(", ")?;
+        text = show(alloc, left, machine, path, text, item)?;
+    }
+    text.push_str("]")?;
+    Ok(text)
+}
+
+/// Puts what a value shows behind a text, and takes its step.
+#[cycle(show)]
+fn show_one(
+    alloc: Global,
+    left: u32,
+    machine: &mut Machine,
+    path: &mut Items<u32>,
+    text: Text,
+    value: &Value,
+) -> Result<Text, Fault>
+    ensures shows { Runs (run (spec.shown_one (spec.shown left) path.old text value.now) machine.old) result machine.new }
+    ensures path { OnOk result (path.new ≡ path.old) }
+{
+    machine.step(alloc)?;
+    show_value(alloc, left, machine, path, text, value)
+}
+
+/// Puts what a value shows (its `repr`) behind a text, with `left` levels left.
+#[cycle(show)]
+pub fn show(
+    alloc: Global,
+    left: u32,
+    machine: &mut Machine,
+    path: &mut Items<u32>,
+    text: Text,
+    value: &Value,
+) -> Result<Text, Fault>
+    ensures shows { Runs (run (spec.shown left path.old text value.now) machine.old) result machine.new }
+    ensures path { OnOk result (path.new ≡ path.old) }
+{
+    if left == 0 {
+        return Err(Fault::Raised(recursion_error(alloc)?));
+    }
+    show_one(alloc, left - 1, machine, path, text, value)
+}
+
+fn str_text(alloc: Global, left: u32, machine: &mut Machine, value: &Value) -> Result<Text, Fault>
+    ensures { Runs (run (spec.str_text (spec.shown left) value.now) machine.old) result machine.new }
+{
+    match value {
+        Value::Text(text) => Ok(text.copy(alloc)?),
+        _ => {
+            let mut path = Items::new(alloc);
+            let text = Text::new(alloc, "")?;
+            show_value(alloc, left, machine, &mut path, text, value)
+        }
+    }
+}
+
+fn write_one(alloc: Global, left: u32, machine: &mut Machine, value: &Value) -> Result<Text, Fault>
+    ensures { Runs (run (spec.written_one (spec.shown left) value.now) machine.old) result machine.new }
+{
+    machine.step(alloc)?;
+    str_text(alloc, left, machine, value)
+}
+
+/// What `print` writes of a value (its `str`), with `left` levels left.
+pub fn written(
+    alloc: Global,
+    left: u32,
+    machine: &mut Machine,
+    value: &Value,
+) -> Result<Text, Fault>
+    ensures { Runs (run (spec.written left value.now) machine.old) result machine.new }
+{
+    if left == 0 {
+        return Err(Fault::Raised(recursion_error(alloc)?));
+    }
+    write_one(alloc, left - 1, machine, value)
+}
