@@ -1,8 +1,8 @@
 -- Cells served one after the other.
 use Rattle.std.proofs.Common.{◌≡◌, ℕ, zero, suc, ◌+◌, List, [], ◌++◌, length, Option, Some, None, refl, ap, sym, ◌∙◌, subst, append_assoc, append-nil}
 use Rattle.nb_outside.specs.Streams.{Adds}
-use Rattle.py_kernel.specs.declared.kernel.State.{State}
-use Rattle.py_kernel.specs.Session.{answer, next_state}
+use Rattle.py_heap.specs.declared.state.State.{State}
+use Rattle.py_session.specs.Session.{answer, next_state}
 use Rattle.reply_frames.specs.Messages.{ran}
 use Rattle.reply_frames.specs.Frames.{frames}
 use Rattle.elastic_notebook.specs.declared.intake.Cell.{Cell}

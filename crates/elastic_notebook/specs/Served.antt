@@ -1,8 +1,9 @@
 -- What is written for a stream, and what each status tells.
 use Rattle.std.specs.Prelude.{◌≡◌, ◌≢◌, ℕ, ◌+◌, Bool, ◌||◌, ◌==◌, IsTrue, List, [], ◌∷◌, ◌++◌, length, Option, Some, None}
 use Rattle.jupyter_messages.specs.declared.message.Message.{Message}
-use Rattle.py_kernel.specs.declared.kernel.State.{State}
-use Rattle.py_kernel.specs.Session.{empty, answer, next_state}
+use Rattle.py_heap.specs.declared.state.State.{State}
+use Rattle.py_heap.specs.States.{empty}
+use Rattle.py_session.specs.Session.{answer, next_state}
 use Rattle.reply_frames.specs.Messages.{opened, ran}
 use Rattle.reply_frames.specs.Frames.{kernel_name, frames}
 use Rattle.nb_outside.specs.Streams.{Adds}

@@ -1,7 +1,8 @@
 ghost use Rattle.std.specs.Prelude.{◌≡◌, ◌+◌, ◌<◌, ◌≤◌, [], length, IfOk, OnOk, OnErr, Err};
 ghost use Rattle.nb_outside.specs.Counts.{HasRisen};
 ghost use Rattle.nb_outside.specs.Streams.{Adds};
-ghost use Rattle.py_kernel.specs.Session.{empty, answer, next_state};
+ghost use Rattle.py_heap.specs.States.{empty};
+ghost use Rattle.py_session.specs.Session.{answer, next_state};
 ghost use Rattle.reply_frames.specs.Messages.{ran};
 ghost use Rattle.reply_frames.specs.Messages as said;
 ghost use Rattle.reply_frames.specs.Frames.{frames, kernel_name};

@@ -133,7 +133,7 @@ static BAD_CODES: [&str; 4] = [
 static ERRORS: [(&str, usize); 6] = [
     ("\"evalue\":\"name 'y' is not defined\"", 2),
     ("[\"OverflowError: number past 128 bits\"]", 2),
-    ("[\"SyntaxError: not built\"]", 2),
+    ("[\"SyntaxError: no parse at byte 3\"]", 2),
     ("\"status\":\"error\"", 3),
     ("\"text\":\"170141183460469231731687303715884105727\\n\"", 1),
     ("\"execution_count\":4", 2),
@@ -144,10 +144,158 @@ fn bad_code_goes_on(rt: HostRuntime) -> Result<(), Fail> {
     let input = stream_of(rt.alloc(), &BAD_CODES)?;
     let (status, written) = served(&rt, input.as_slice(), &[], &[])?;
     assert_eq!(rt; status, 0);
-    assert_eq!(rt; written.len(), 11272);
+    assert_eq!(rt; written.len(), 11308);
     for (text, times) in ERRORS {
         assert_eq!(rt; count_of(written.as_slice(), text), times, "{text}");
     }
+    Ok(())
+}
+
+// Codes that don't run, and what their cells answer.
+static FAULTY_CODES: [(&str, &str); 6] = [
+    (
+        "170141183460469231731687303715884105728",
+        "[\"SyntaxError: number too wide at byte 0\"]",
+    ),
+    (
+        "import os",
+        "[\"SyntaxError: import is outside this subset at byte 0\"]",
+    ),
+    ("x = [1", "[\"SyntaxError: no parse at byte 6\"]"),
+    ("if x:\\n\\ty", "[\"SyntaxError: tab in indent at byte 6\"]"),
+    ("def f(): pass\\nx = f()", "[\"SyntaxError: not built\"]"),
+    ("len = 1", "[\"SyntaxError: not built\"]"),
+];
+
+#[test]
+fn codes_that_do_not_run(rt: HostRuntime) -> Result<(), Fail> {
+    for (code, answer) in FAULTY_CODES {
+        let input = stream_of(rt.alloc(), &[code, "print(7)"])?;
+        let (status, written) = served(&rt, input.as_slice(), &[], &[])?;
+        assert_eq!(rt; status, 0);
+        assert_eq!(rt; count_of(written.as_slice(), answer), 2, "{code}");
+        assert_eq!(rt;
+            count_of(written.as_slice(), "\"text\":\"7\\n\""),
+            1,
+            "{code}"
+        );
+    }
+    Ok(())
+}
+
+// Sessions of cells, and what their frames hold, and how often.
+static SHARED: [&str; 4] = ["a = [1]", "b = a", "b.append(2)", "a"];
+
+static SHARED_FRAMES: [(&str, usize); 4] = [
+    ("\"data\":{\"text/plain\":\"[1, 2]\"}", 1),
+    ("\"msg_type\":\"execute_result\"", 1),
+    ("\"execution_count\":4", 3),
+    ("\"status\":\"error\"", 0),
+];
+
+static KNOTTED: [&str; 3] = ["a = []", "a.append(a)", "a"];
+
+static KNOTTED_FRAMES: [(&str, usize); 2] = [
+    ("\"data\":{\"text/plain\":\"[[...]]\"}", 1),
+    ("\"msg_type\":\"execute_result\"", 1),
+];
+
+static FAILING: [&str; 6] = [
+    "a = [7]\\nb = a + [8]\\na.append(b)",
+    "1 + a",
+    "b.append(1)\\nb = 2\\nb.append(x)",
+    "b",
+    "print(a)",
+    "(a.append(3))",
+];
+
+static FAILING_FRAMES: [(&str, usize); 6] = [
+    (
+        "[\"TypeError: unsupported operand type(s) for +: 'int' and 'list'\"]",
+        2,
+    ),
+    (
+        "[\"AttributeError: 'int' object has no attribute 'append'\"]",
+        2,
+    ),
+    ("\"data\":{\"text/plain\":\"2\"}", 1),
+    ("\"text\":\"[7, [7, 8, 1]]\\n\"", 1),
+    ("\"msg_type\":\"execute_result\"", 1),
+    ("\"status\":\"error\"", 2),
+];
+
+// Each row that doesn't stand so often in what is written for the cells.
+fn missed(
+    rt: &HostRuntime,
+    codes: &[&str],
+    frames: &[(&str, usize)],
+) -> Result<String, AllocError> {
+    let alloc = rt.alloc();
+    let input = stream_of(alloc, codes)?;
+    let (status, written) = served(rt, input.as_slice(), &[], &[])?;
+    let mut all = String::new(alloc);
+    if status != 0 {
+        all.push_str("status")?;
+    }
+    for (text, times) in frames {
+        let found = count_of(written.as_slice(), text);
+        if found != *times {
+            all.push_str(format!(in alloc; "{text} stands {found} times\n")?.as_str())?;
+        }
+    }
+    Ok(all)
+}
+
+#[test]
+fn two_names_of_one_list(rt: HostRuntime) -> Result<(), Fail> {
+    assert_eq!(rt; missed(&rt, &SHARED, &SHARED_FRAMES)?.as_str(), "");
+    Ok(())
+}
+
+#[test]
+fn a_list_in_itself(rt: HostRuntime) -> Result<(), Fail> {
+    assert_eq!(rt; missed(&rt, &KNOTTED, &KNOTTED_FRAMES)?.as_str(), "");
+    Ok(())
+}
+
+#[test]
+fn errors_of_lists(rt: HostRuntime) -> Result<(), Fail> {
+    assert_eq!(rt; missed(&rt, &FAILING, &FAILING_FRAMES)?.as_str(), "");
+    Ok(())
+}
+
+/// A line, and so often another, and a third, as a JSON text.
+fn repeated(
+    alloc: Global,
+    first: &str,
+    times: u32,
+    line: &str,
+    last: &str,
+) -> Result<String, AllocError> {
+    let mut code = String::from_str(alloc, first)?;
+    for _ in 0..times {
+        code.push_str("\\n")?;
+        code.push_str(line)?;
+    }
+    code.push_str("\\n")?;
+    code.push_str(last)?;
+    Ok(code)
+}
+
+#[test]
+fn levels_and_steps_end(rt: HostRuntime) -> Result<(), Fail> {
+    let alloc = rt.alloc();
+    let deep = repeated(alloc, "a = []", 797, "a = [a]", "a")?;
+    let deeper = repeated(alloc, "a = []", 798, "a = [a]", "a")?;
+    let long = repeated(alloc, "b = [1]", 19, "b = b + b", "b = b + b")?;
+    let codes = [deep.as_str(), deeper.as_str(), long.as_str(), "print(5)"];
+    let frames = [
+        ("\"msg_type\":\"execute_result\"", 1),
+        ("[\"RecursionError: maximum recursion depth exceeded\"]", 2),
+        ("[\"StepLimitError: 1000000 steps\"]", 2),
+        ("\"text\":\"5\\n\"", 1),
+    ];
+    assert_eq!(rt; missed(&rt, &codes, &frames)?.as_str(), "");
     Ok(())
 }
 

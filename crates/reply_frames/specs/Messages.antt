@@ -1,10 +1,10 @@
 -- The messages that answer a request. (Jupyter messaging 5.3; `docs/PROTOCOL.md` lists them.)
-use Rattle.std.specs.Prelude.{ℕ, List, [], ◌∷◌, ◌++◌, codes, length, map, Option, Some, None}
+use Rattle.std.specs.Prelude.{ℕ, List, [], ◌∷◌, ◌++◌, codes, length, map, nat_le, Option, Some, None, if◌then◌else◌}
 use Rattle.serde_json.specs.Data.{Data, number, unsigned, string, array, object, no_items, item, Members, no_members, member}
 use Rattle.jupyter_messages.specs.declared.message.Channel.{Channel}
 use Rattle.jupyter_messages.specs.declared.message.Channel.TheVariants.{Shell, Control}
-use Rattle.py_kernel.specs.declared.session.Failure.{Failure}
-use Rattle.py_kernel.specs.declared.session.Reply.{Reply}
+use Rattle.py_session.specs.declared.reply.Failure.{Failure}
+use Rattle.py_session.specs.declared.reply.Reply.{Reply}
 use Rattle.reply_frames.specs.Cuts.{prefix_within, pieces}
 
 -- ---- JSON
@@ -67,6 +67,18 @@ stream piece = on_iopub (codes "stream") (json ((codes "name", string (codes "st
 abbrev pub streams : List ℕ → List Said
 streams printed = map stream (pieces (length printed) 65536 printed)
 
+-- the text of a result, or its beginning within 65,536 bytes and three dots
+unfoldable pub shortened : List ℕ → List ℕ
+shortened text = if nat_le (length text) 65536 then text else prefix_within 65536 text ++ codes "..."
+
+abbrev pub result : ℕ → List ℕ → Said
+result count text = on_iopub (codes "execute_result") (json ((codes "data", json ((codes "text/plain", string (shortened text)) ∷ []))
+    ∷ (codes "execution_count", whole count) ∷ (codes "metadata", json []) ∷ []))
+
+abbrev pub results : ℕ → Option (List ℕ) → List Said
+results count None = []
+results count (Some text) = result count text ∷ []
+
 -- the text of an error within 4,096 bytes, and its one line
 abbrev pub evalue : Failure → List ℕ
 evalue f = prefix_within 4096 f.text
@@ -91,4 +103,4 @@ reply r = record { channel = codes "shell"; kind = codes "execute_reply"; conten
 
 -- what answers a cell with this code
 abbrev pub ran : List ℕ → Reply → List Said
-ran code r = busy ∷ input code r.count ∷ (streams r.printed ++ (errors r.error ++ reply r ∷ idle ∷ []))
+ran code r = busy ∷ input code r.count ∷ (streams r.printed ++ (results r.count r.result ++ (errors r.error ++ reply r ∷ idle ∷ [])))

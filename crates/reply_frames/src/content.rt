@@ -6,7 +6,7 @@ ghost use Rattle.reply_frames.specs.Messages.{json, whole};
 
 use crate::cut::cut_at;
 use plain_data::Text;
-use py_kernel::Failure;
+use py_session::Failure;
 use serde_json::{Value, json};
 use std::alloc::{AllocError, Global};
 
@@ -39,6 +39,43 @@ pub fn stream_content(alloc: Global, piece: &str) -> Result<Value, AllocError>
     ensures { IfOk result (λ v. view v ≡ json ((codes "name", string (codes "stdout")) ∷ (codes "text", string piece.now) ∷ [])) }
 {
     json!(in alloc; {"name": "stdout", "text": piece})
+}
+
+/// A beginning with three dots behind it.
+fn with_dots(alloc: Global, front: &str) -> Result<Text, AllocError>
+    ensures { IfOk result (λ short. short ≡ front.now ++ codes "...") }
+{
+    Ok(Text::from_string(format!(in alloc; "{front}...")?))
+}
+
+/// The text of a result, or its beginning within 65,536 bytes and three dots.
+#[tactic(auto, unfolding(crate::specs::Messages::shortened))]
+fn shortened(alloc: Global, text: &str) -> Result<Text, AllocError>
+    ensures { IfOk result (λ short. short ≡ said.shortened text.now) }
+{
+    if text.len() <= 65_536 {
+        return Text::new(alloc, text);
+    }
+    let (front, _) = cut_at(text, 65_536);
+    with_dots(alloc, front)
+}
+
+fn result_members(alloc: Global, count: u32, text: &str) -> Result<Value, AllocError>
+    ensures { IfOk result (λ v. view v ≡ json ((codes "data", json ((codes "text/plain", string text.now) ∷ []))
+        ∷ (codes "execution_count", whole count) ∷ (codes "metadata", json []) ∷ [])) }
+{
+    json!(in alloc; {
+        "data": {"text/plain": text},
+        "execution_count": u64::from(count),
+        "metadata": {}
+    })
+}
+
+pub fn result_content(alloc: Global, count: u32, text: &Text) -> Result<Value, AllocError>
+    ensures { IfOk result (λ v. view v ≡ (said.result count text.now).content) }
+{
+    let short = shortened(alloc, text.as_str())?;
+    result_members(alloc, count, short.as_str())
 }
 
 /// The one line of an error.

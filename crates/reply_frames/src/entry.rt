@@ -3,14 +3,15 @@ ghost use Rattle.reply_frames.specs.Messages as said;
 ghost use Rattle.reply_frames.specs.Frames as spec;
 
 use crate::content::{
-    error_content, input_content, open_content, reply_content, status_content, stream_content,
+    error_content, input_content, open_content, reply_content, result_content, status_content,
+    stream_content,
 };
 use crate::cut::cut_at;
 use crate::message::kernel_name;
 use crate::outbox::Outbox;
 use jupyter_messages::{Channel, Header};
 use plain_data::{Items, Text};
-use py_kernel::{Failure, Reply};
+use py_session::{Failure, Reply};
 use std::alloc::{AllocError, Global};
 
 fn say_status(
@@ -101,6 +102,35 @@ fn say_streams(
     Ok(())
 }
 
+fn say_text(
+    outbox: &mut Outbox,
+    alloc: Global,
+    request: &Header,
+    count: u32,
+    text: &Text,
+) -> Result<(), AllocError>
+    ensures { OnOk result (outbox.new ≡ spec.say request.now (said.result count text.now) outbox.old) }
+{
+    let content = result_content(alloc, count, text)?;
+    outbox.say(alloc, request, "iopub", "execute_result", &content)
+}
+
+/// The result of a cell, if it has one.
+fn say_result(
+    outbox: &mut Outbox,
+    alloc: Global,
+    request: &Header,
+    count: u32,
+    shown: &Option<Text>,
+) -> Result<(), AllocError>
+    ensures { OnOk result (outbox.new ≡ spec.say_all request.now (said.results count shown.now) outbox.old) }
+{
+    match shown {
+        Some(text) => say_text(outbox, alloc, request, count, text),
+        None => Ok(()),
+    }
+}
+
 fn say_error(
     outbox: &mut Outbox,
     alloc: Global,
@@ -156,6 +186,7 @@ fn say_ran(
     say_status(outbox, alloc, request, "busy")?;
     say_input(outbox, alloc, request, code, reply.count)?;
     say_streams(outbox, alloc, request, reply.printed.as_str())?;
+    say_result(outbox, alloc, request, reply.count, &reply.result)?;
     say_error(outbox, alloc, request, &reply.error)?;
     say_reply(outbox, alloc, request, reply)?;
     say_status(outbox, alloc, request, "idle")
@@ -191,7 +222,8 @@ impl Outbox {
         say_opened(self, alloc, request, channel)
     }
 
-    /// Adds the frames that answer a cell with this code: busy, the code, the printed text, the error, the reply, idle.
+    /// Adds the frames that answer a cell with this code: busy, the code, the printed text, the result or the error,
+    /// the reply, idle.
     /// `Err` also where a number or a length would not fit.
     #[tactic(auto, using(crate::proofs::Saying::said_bytes, crate::proofs::Saying::said_running, crate::proofs::Saying::said_kernel))]
     pub fn ran(

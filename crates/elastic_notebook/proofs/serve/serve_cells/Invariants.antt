@@ -1,5 +1,5 @@
 use Rattle.std.proofs.Common.{◌≡◌, ◌-◌, ◌≤◌, []}
-use Rattle.py_kernel.specs.Session.{empty}
+use Rattle.py_heap.specs.States.{empty}
 use Rattle.elastic_notebook.specs.Intake.{cells}
 use Rattle.elastic_notebook.specs.Served.{most_requests, cell_frames}
 use Rattle.elastic_notebook.proofs.Serving.{ServesSoFar}

@@ -1,7 +1,7 @@
 use Rattle.std.proofs.Common.{◌∙◌, ap, subst, List, ℕ}
 use Rattle.nb_outside.specs.Streams.{Adds}
 use Rattle.reply_frames.specs.declared.outbox.Outbox.{Outbox}
-use Rattle.py_kernel.specs.Session.{empty}
+use Rattle.py_heap.specs.States.{empty}
 use Rattle.reply_frames.specs.Frames.{kernel_name}
 use Rattle.elastic_notebook.specs.Intake.{cells}
 use Rattle.elastic_notebook.specs.Served as spec
