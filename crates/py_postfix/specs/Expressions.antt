@@ -1,10 +1,10 @@
 -- The postfix form of an expression, by its forms: before these tokens, behind these entries.
-use Rattle.std.specs.Prelude.{Bool, true, false, List, [], ◌∷◌}
+use Rattle.std.specs.Prelude.{Bool, true, false, List, ◌∷◌}
 use Rattle.py_token.specs.declared.kinds.Kind.{Kind}
 use Rattle.py_token.specs.declared.kinds.Kind.TheVariants as t
 use Rattle.py_tree.specs.declared.expressions.Literal.TheVariants as literal
-use Rattle.py_grammar.specs.Words.{and_word, or_word, not_word, if_word, else_word, is_word, none_word, open_parenthesis, close_parenthesis, open_bracket, close_bracket, open_brace, close_brace, colon, comma, dot}
-use Rattle.py_grammar.specs.Expressions.{Expression, plain, pick, Ors, ors_one, ors_more, Ands, ands_one, ands_more, Negation, compared, negated, Compares, compares_one, compares_more, compares_none, compares_not_none, Sums, sums_one, sums_more, Additive, plus, minus, Products, products_one, products_more, Signed, unsigned, signed, Primary, name, number, text, nothing, truth, falsity, group, display, dict, call, index, slice, Callee, function, method, Bound, unbounded, bounded, Args, no_args, args, args_comma, Elements, elements_one, elements_more, Entries, no_entries, entries, entries_comma, Pairs, pairs_one, pairs_more, spell_relational, additive_sign, multiplicative_sign, spell_expression, spell_ors, spell_ands, spell_negation, spell_compares, spell_sums, spell_products, spell_signed, spell_primary, spell_callee, spell_bound, spell_args, spell_elements, spell_entries, spell_pairs}
+use Rattle.py_grammar.specs.Words.{and_word, or_word, not_word, if_word, else_word, is_word, none_word, open_parenthesis, close_parenthesis, open_bracket, close_bracket, close_brace, colon, comma, dot}
+use Rattle.py_grammar.specs.Expressions.{Expression, plain, pick, Ors, ors_one, ors_more, Ands, ands_one, ands_more, Negation, compared, negated, Compares, compares_one, compares_more, compares_none, compares_not_none, Sums, sums_one, sums_more, Additive, plus, minus, Products, products_one, products_more, Signed, unsigned, signed, Primary, name, number, text, nothing, truth, falsity, group, display, dict, call, index, slice, Callee, function, method, Bound, unbounded, bounded, Args, no_args, args, args_comma, Elements, elements_one, elements_more, Entries, no_entries, entries, entries_comma, Pairs, pairs_one, pairs_more, spell_relational, additive_sign, multiplicative_sign, spell_expression, spell_ors, spell_ands, spell_negation, spell_compares, spell_sums, spell_products, spell_signed, spell_primary, spell_bound, spell_args}
 use Rattle.py_postfix.specs.declared.entries.Node.{Node}
 use Rattle.py_postfix.specs.declared.entries.Node.TheVariants as n
 use Rattle.py_postfix.specs.declared.entries.Entry.{Entry}

@@ -4,7 +4,7 @@ use Rattle.py_token.specs.declared.kinds.Kind.{Kind}
 use Rattle.py_token.specs.declared.kinds.Kind.TheVariants as t
 use Rattle.py_tree.specs.declared.expressions.Op as operator
 use Rattle.py_tree.specs.declared.expressions.Op.TheVariants as o
-use Rattle.py_grammar.specs.Words.{if_word, else_word, elif_word, return_word, assign_sign, open_bracket, close_bracket, colon}
+use Rattle.py_grammar.specs.Words.{if_word, else_word, elif_word, assign_sign, open_bracket, close_bracket, colon}
 use Rattle.py_grammar.specs.Expressions.{Expression, Primary, spell_expression}
 use Rattle.py_grammar.specs.Statements.{Place, to_name, to_item, Augmentation, by_plus, by_minus, by_times, by_floor, by_modulo, Names, names_one, names_more, Word, idle, stop, skip, Simple, word, leave, give, declare, delete, assign, augment, show, augmentation_sign, spell_simple, Params, no_params, params, params_comma, Statement, simple, compound, Head, choose, otherwise, while_true, for_each, define, Condition, if_true, else_if, Branches, branches, Block, inline, indented, Statements, statements_one, statements_more, spell_statement, spell_head, spell_block, Cell}
 use Rattle.py_postfix.specs.declared.entries.Node.{Node}

@@ -10,7 +10,7 @@ use Rattle.py_tree.specs.declared.locals.Names as collected
 use Rattle.py_tree.specs.declared.statements.Arm.{Arm, out-Arm}
 use Rattle.py_tree.specs.declared.statements.Def.{Def}
 use Rattle.py_tree.specs.declared.statements.Stmt.{Stmt}
-use Rattle.py_tree.specs.declared.statements.Stmt.TheOpen.{Stmt-F, Arm-F, Def-F}
+use Rattle.py_tree.specs.declared.statements.Stmt.TheOpen.{Stmt-F}
 use Rattle.py_tree.specs.declared.statements.Stmt.TheFolds.{fold-roll-Stmt, fold_out-Arm}
 use Rattle.py_tree.specs.declared.statements.Stmt.TheVariants as s
 use Rattle.py_tree.specs.Added.{added}
