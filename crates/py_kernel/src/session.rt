@@ -9,7 +9,7 @@ use py_reader::{ReadError, SyntaxFault, read_cell};
 use py_session::{Failure, Reply};
 use std::alloc::{AllocError, Global};
 
-fn error_name(kind: ErrorKind) -> &'static str
+pub fn error_name(kind: ErrorKind) -> &'static str
     ensures { result.now ≡ spec.error_name kind }
 {
     match kind {
