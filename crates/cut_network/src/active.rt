@@ -1,18 +1,8 @@
 ghost use Rattle.std.specs.Prelude.{◌≡◌, ◌<◌, ◌≤◌, ◌+◌, ◌^◌, length, IfOk};
-ghost use Rattle.graph_model.specs.Networks.{is_active_at, actives, writer_of};
+ghost use Rattle.graph_model.specs.Networks.{actives, writer_of};
 
 use graph_model::Graph;
 use std::alloc::{AllocError, Global};
-
-/// Whether version `v`, counted from 1, holds at the end.
-fn is_active(graph: &Graph, v: u32) -> bool
-    ensures { result ≡ is_active_at graph.now v }
-{
-    match graph.versions.get(v.saturating_sub(1) as usize) {
-        Some(version) => version.replaced == 0,
-        None => false,
-    }
-}
 
 /// The cell that wrote version `v`, counted from 1.
 pub(crate) fn writer_of(graph: &Graph, v: u32) -> u32
@@ -32,7 +22,7 @@ pub(crate) fn active_versions(alloc: Global, graph: &Graph) -> Result<Vec<u32>, 
 {
     let mut active = Vec::new(alloc);
     for before in 0..graph.version_count() {
-        if is_active(graph, before + 1) {
+        if graph.is_active(before + 1) {
             active.push(before + 1)?;
         }
     }

@@ -61,8 +61,8 @@ fn planned(
     weights: &Weights,
 ) -> Result<Certified, PlanFault> {
     assert!(rt; graph.cells.len() < 10 && graph.versions.len() < 10);
-    match (graph.check(), check_weights(graph, weights)) {
-        (Ok(()), Ok(())) => plan(alloc, graph, weights),
+    match (graph.check(alloc), check_weights(graph, weights)) {
+        (Ok(Ok(())), Ok(())) => plan(alloc, graph, weights),
         _ => panic!(rt; "no graph, or no weights"),
     }
 }
@@ -74,8 +74,8 @@ fn network(
     weights: &Weights,
 ) -> Result<Network, AllocError> {
     assert!(rt; graph.cells.len() < 10 && graph.versions.len() < 10);
-    match (graph.check(), check_weights(graph, weights)) {
-        (Ok(()), Ok(())) => network_of(alloc, graph, weights),
+    match (graph.check(alloc), check_weights(graph, weights)) {
+        (Ok(Ok(())), Ok(())) => network_of(alloc, graph, weights),
         _ => panic!(rt; "no graph, or no weights"),
     }
 }
@@ -212,13 +212,18 @@ fn grow(rt: &impl Abort, alloc: Global, dice: &mut Dice, count: u32) -> Result<G
 }
 
 /// What a plan costs; none where it is none of the graph, or not feasible.
-fn price(rt: &impl Abort, graph: &Graph, weights: &Weights, plan: &Plan) -> Option<u64> {
+fn price(
+    rt: &(impl Abort + AllocGlobal),
+    graph: &Graph,
+    weights: &Weights,
+    plan: &Plan,
+) -> Option<u64> {
     assert!(rt; graph.cells.len() < 10 && graph.versions.len() < 10);
     if !is_plan_of(graph, plan) {
         return None;
     }
-    match (graph.check(), check_weights(graph, weights)) {
-        (Ok(()), Ok(())) => match feasible(graph, plan) {
+    match (graph.check(rt.alloc()), check_weights(graph, weights)) {
+        (Ok(Ok(())), Ok(())) => match feasible(graph, plan) {
             Ok(()) => Some(cost(graph, weights, plan)),
             Err(_) => None,
         },
@@ -239,7 +244,7 @@ fn picked(alloc: Global, bits: u32) -> Result<Items<u32>, AllocError> {
 
 /// The least cost of all plans that are feasible.
 fn least_price(
-    rt: &impl Abort,
+    rt: &(impl Abort + AllocGlobal),
     alloc: Global,
     graph: &Graph,
     weights: &Weights,
@@ -261,7 +266,7 @@ fn least_price(
 
 /// What `plan` says its plan costs; none where it says that some pair is stuck.
 fn plan_price(
-    rt: &impl Abort,
+    rt: &(impl Abort + AllocGlobal),
     alloc: Global,
     graph: &Graph,
     weights: &Weights,

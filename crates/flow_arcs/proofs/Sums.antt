@@ -1,36 +1,8 @@
--- What the arcs of a node carry, arc by arc, and flows within their capacities.
-use Rattle.std.proofs.Common.{◌≡◌, ◌≢◌, ℕ, zero, suc, ◌+◌, ◌<◌, ◌≤◌, List, [], ◌∷◌, length, get_or, drop, map, refl, ap, zero-add, arith}
-use Rattle.std.proofs.lemmas.Bool.{eq-eqb, ne_eqb}
-use Rattle.std.proofs.lemmas.List.{drop_more}
+-- Flows within their capacities.
+use Rattle.std.proofs.Common.{◌≡◌, ℕ, zero, suc, ◌<◌, ◌≤◌, List, [], ◌∷◌, length, get_or, map, refl, ap, arith}
 use Rattle.flow_model.specs.declared.Arc.{Arc}
-use Rattle.flow_model.specs.Flows.{given, taken, IsWithin}
+use Rattle.flow_model.specs.Flows.{IsWithin}
 use Rattle.flow_arcs.specs.Ends.{no_arc}
-
--- one arc more, that leaves the node or doesn't
-pub given_hit : (arcs : List Arc) (flow : List ℕ) (i node : ℕ) → i < length arcs → length flow ≡ length arcs → (get_or arcs i no_arc).from ≡ node
-    → given (drop i arcs) (drop i flow) node ≡ get_or flow i 0 + given (drop (i + 1) arcs) (drop (i + 1) flow) node
-given_hit arcs flow i node h e f =
-    let k : i < length flow = omega arith in
-    rw (drop_more arcs i no_arc h, drop_more flow i 0 k, eq-eqb (get_or arcs i no_arc).from node f)
-
-pub given_miss : (arcs : List Arc) (flow : List ℕ) (i node : ℕ) → i < length arcs → length flow ≡ length arcs → (get_or arcs i no_arc).from ≢ node
-    → given (drop i arcs) (drop i flow) node ≡ given (drop (i + 1) arcs) (drop (i + 1) flow) node
-given_miss arcs flow i node h e f =
-    let k : i < length flow = omega arith in
-    rw (drop_more arcs i no_arc h, drop_more flow i 0 k, ne_eqb (get_or arcs i no_arc).from node f, zero-add)
-
--- one arc more, that enters the node or doesn't
-pub taken_hit : (arcs : List Arc) (flow : List ℕ) (i node : ℕ) → i < length arcs → length flow ≡ length arcs → (get_or arcs i no_arc).to ≡ node
-    → taken (drop i arcs) (drop i flow) node ≡ get_or flow i 0 + taken (drop (i + 1) arcs) (drop (i + 1) flow) node
-taken_hit arcs flow i node h e f =
-    let k : i < length flow = omega arith in
-    rw (drop_more arcs i no_arc h, drop_more flow i 0 k, eq-eqb (get_or arcs i no_arc).to node f)
-
-pub taken_miss : (arcs : List Arc) (flow : List ℕ) (i node : ℕ) → i < length arcs → length flow ≡ length arcs → (get_or arcs i no_arc).to ≢ node
-    → taken (drop i arcs) (drop i flow) node ≡ taken (drop (i + 1) arcs) (drop (i + 1) flow) node
-taken_miss arcs flow i node h e f =
-    let k : i < length flow = omega arith in
-    rw (drop_more arcs i no_arc h, drop_more flow i 0 k, ne_eqb (get_or arcs i no_arc).to node f, zero-add)
 
 -- flows within the capacities, arc by arc
 pub within_length : (arcs : List Arc) (flow : List ℕ) → IsWithin arcs flow → length flow ≡ length arcs

@@ -4,3 +4,6 @@ pub mod Faults
 pub mod Ends
 pub mod Chains
 pub mod Searches
+pub mod Pairs
+pub mod Ways
+pub mod Lists

@@ -2,7 +2,7 @@ ghost use Rattle.std.specs.Prelude.{◌≡◌, MatchResult};
 ghost use Rattle.flow_model.specs.Flows.{IsLegal};
 ghost use Rattle.flow_arcs.specs.Faults.{IsFirstFault};
 
-use crate::flow::{Flow, given_by, taken_by};
+use crate::flow::{Flow, sums_at};
 use crate::network::Network;
 
 /// What is wrong with a flow.
@@ -31,7 +31,8 @@ pub fn check_flow(net: &Network, flow: &Flow) -> Result<(), FlowFault>
         }
     }
     for node in 2..net.nodes() {
-        if taken_by(arcs, on, node) != given_by(arcs, on, node) {
+        let sums = sums_at(net, on, node);
+        if sums.taken != sums.given {
             return Err(FlowFault::Unbalanced(node));
         }
     }

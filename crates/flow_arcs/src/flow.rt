@@ -1,8 +1,8 @@
 ghost use Rattle.std.specs.Prelude.{◌≡◌, ◌<◌, ◌^◌, length};
 ghost use Rattle.flow_model.specs.Flows.{given, taken, value};
 
+use crate::lists::number_at;
 use crate::network::Network;
-use flow_model::Arc;
 use plain_data::Items;
 
 /// One number for each arc: what it carries.
@@ -23,36 +23,40 @@ impl Flow {
         requires { length self.now.on ≡ length net.now.arcs }
         ensures { result ≡ value net.now self.now.on }
     {
-        given_by(net.arcs(), self.on.as_slice(), 0)
+        sums_at(net, self.on.as_slice(), 0).given
     }
 }
 
-/// What the arcs that leave a node carry together.
-pub fn given_by(arcs: &[Arc], on: &[u64], node: u32) -> u128
-    requires same { length on.now ≡ length arcs.now }
-    requires few { length arcs.now < 2 ^ 32 }
-    ensures { result ≡ given arcs.now on.now node }
-{
-    let mut sum: u128 = 0;
-    for (i, arc) in arcs.iter().enumerate() {
-        if arc.from == node {
-            sum += u128::from(on[i]);
-        }
-    }
-    sum
+/// What a node's arcs carry together.
+#[derive(Clone, Copy)]
+pub struct Sums {
+    /// What those that leave it carry.
+    pub given: u128,
+    /// What those that enter it carry.
+    pub taken: u128,
 }
 
-/// What the arcs that enter a node carry together.
-pub fn taken_by(arcs: &[Arc], on: &[u64], node: u32) -> u128
-    requires same { length on.now ≡ length arcs.now }
-    requires few { length arcs.now < 2 ^ 32 }
-    ensures { result ≡ taken arcs.now on.now node }
+/// What a node's arcs carry together. Takes no memory.
+pub fn sums_at(net: &Network, on: &[u64], node: u32) -> Sums
+    requires { length on.now ≡ length net.now.arcs }
+    ensures given { result.given ≡ given net.now.arcs on.now node }
+    ensures taken { result.taken ≡ taken net.now.arcs on.now node }
 {
-    let mut sum: u128 = 0;
-    for (i, arc) in arcs.iter().enumerate() {
-        if arc.to == node {
-            sum += u128::from(on[i]);
+    let arcs = net.arcs();
+    prove!(on.len() == arcs.len());
+    let lists = net.lists();
+    let mut given = 0u128;
+    let mut taken = 0u128;
+    let mut place = number_at(&lists.first, node);
+    'arcs: while place > 0 {
+        let arc = place as usize - 1;
+        let amount = u128::from(on[arc / 2]);
+        if arc % 2 == 0 {
+            given += amount;
+        } else {
+            taken += amount;
         }
+        place = lists.next[arc];
     }
-    sum
+    Sums { given, taken }
 }

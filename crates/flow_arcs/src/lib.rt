@@ -1,18 +1,27 @@
 //! Greatest flows over a list of arcs, with a cut of the same capacity, and a check of a flow.
 //!
-//! A network is built arc by arc. `max_flow` and `max_flow_with_cut` push along shortest paths that have room, until the
-//! sink isn't reached; the nodes that are reached then are a cut whose capacity is the flow's value, so no flow is
-//! greater. `check_flow` says whether a flow is legal, and else its first fault.
+//! A network is built arc by arc; each arc has two directed ones, 2i along it and 2i + 1 back, and each node a list of those
+//! that leave it. `max_flow` and `max_flow_with_cut` first send flow down an order of the nodes, each amount going on from
+//! node to node as one; then down the distances to the sink, as long as that sends any; then along single shortest paths,
+//! until the sink isn't reached. The nodes that are reached then are a cut whose capacity is the flow's value, so no flow
+//! is greater: that rests on the last search alone, and each pass before it keeps the flow legal. `check_flow` says
+//! whether a flow is legal, and else its first fault, by one walk along each node's list.
 #![tactic(auto)]
 
 mod chains;
 mod check;
 mod ends;
+mod fast;
 mod flow;
+mod lists;
 mod network;
+mod pairs;
 mod push;
+mod ranks;
 mod search;
+mod send;
 mod solve;
+mod turns;
 
 pub use check::{FlowFault, check_flow};
 pub use flow::{Cut, Flow};

@@ -3,6 +3,7 @@ ghost use Rattle.flow_model.specs.Flows.{IsLegal, IsGreatest, IsCut, value, cut_
 ghost use Rattle.flow_arcs.specs.Sides.{side};
 
 use crate::chains::chain_arcs;
+use crate::fast::fast_flow;
 use crate::flow::{Cut, Flow};
 use crate::network::Network;
 use crate::push::push_along;
@@ -30,7 +31,7 @@ pub fn max_flow_with_cut(alloc: Global, net: &Network) -> Result<(Flow, Cut), Al
     let arcs = net.arcs();
     let leaving = chain_arcs(alloc, net.nodes(), arcs, true)?;
     let entering = chain_arcs(alloc, net.nodes(), arcs, false)?;
-    let mut on = vec![in alloc; 0u64; arcs.len()]?;
+    let mut on = fast_flow(alloc, net)?;
     loop {
         let search = search_room(alloc, net, &on, &leaving, &entering)?;
         if search.seen[1] == 0 {

@@ -88,6 +88,131 @@ fn greatest_values(rt: HostRuntime) -> Result<(), Fail> {
     Ok(())
 }
 
+/// The ends of a directed arc: 2i goes along arc i, and 2i + 1 back.
+fn ends(arcs: &[Arc], number: usize) -> (u32, u32) {
+    match arcs.get(number / 2) {
+        Some(arc) if number % 2 == 0 => (arc.from, arc.to),
+        Some(arc) => (arc.to, arc.from),
+        None => (0, 0),
+    }
+}
+
+/// The number at that place, and 0 behind the end.
+fn at(numbers: &[u64], place: usize) -> u64 {
+    match numbers.get(place) {
+        Some(number) => *number,
+        None => 0,
+    }
+}
+
+/// For each node that is reached from the source, one more than the number of the directed arc on a shortest path there;
+/// the source has itself.
+fn shortest_paths(
+    alloc: Global,
+    nodes: u32,
+    arcs: &[Arc],
+    rest: &[u64],
+) -> Result<Vec<u64>, AllocError> {
+    let mut round = vec![in alloc; 0u64; nodes as usize]?;
+    let mut via = vec![in alloc; 0u64; nodes as usize]?;
+    if let Some(first) = round.get_mut(0) {
+        *first = 1;
+    }
+    for step in 1..u64::from(nodes).saturating_add(1) {
+        for number in 0..rest.len() {
+            let (from, to) = ends(arcs, number);
+            if at(rest, number) > 0
+                && at(&round, from as usize) == step
+                && at(&round, to as usize) == 0
+            {
+                if let (Some(place), Some(last)) = (
+                    round.get_mut(to as usize),
+                    via.get_mut(to as usize),
+                ) {
+                    *place = step.saturating_add(1);
+                    *last = (number as u64).saturating_add(1);
+                }
+            }
+        }
+    }
+    Ok(via)
+}
+
+/// Pushes along the path to the sink as much as it has room for, and gives how much.
+fn push_path(arcs: &[Arc], rest: &mut [u64], via: &[u64]) -> u64 {
+    let mut room = u64::MAX;
+    for turn in 0..2u8 {
+        let mut node = 1u32;
+        for _ in 0..via.len() {
+            let number = (at(via, node as usize) as usize).wrapping_sub(1);
+            if turn == 0 {
+                room = room.min(at(rest, number));
+            } else {
+                if let Some(along) = rest.get_mut(number) {
+                    *along = along.saturating_sub(room);
+                }
+                if let Some(back) = rest.get_mut(number ^ 1) {
+                    *back = back.saturating_add(room);
+                }
+            }
+            let (from, _) = ends(arcs, number);
+            node = from;
+            if node == 0 {
+                break;
+            }
+        }
+    }
+    room
+}
+
+/// The value of a greatest flow by shortest augmenting paths, one by one.
+fn plain_value(alloc: Global, nodes: u32, arcs: &[Arc]) -> Result<u128, AllocError> {
+    let mut rest = Vec::new(alloc);
+    for arc in arcs {
+        rest.push(arc.capacity)?;
+        rest.push(0)?;
+    }
+    let mut value = 0u128;
+    for _ in 0..1_000u32 {
+        let via = shortest_paths(alloc, nodes, arcs, &rest)?;
+        if at(&via, 1) == 0 {
+            break;
+        }
+        value = value.saturating_add(u128::from(push_path(arcs, &mut rest, &via)));
+    }
+    Ok(value)
+}
+
+/// Numbers that look drawn, below `limit`.
+fn next_number(seed: &mut u64, limit: u64) -> u64 {
+    *seed = seed
+        .wrapping_mul(6364136223846793005)
+        .wrapping_add(1442695040888963407);
+    match (*seed >> 33).checked_rem(limit) {
+        Some(number) => number,
+        None => 0,
+    }
+}
+
+#[test]
+fn values_as_by_single_paths(rt: HostRuntime) -> Result<(), Fail> {
+    let alloc = rt.alloc();
+    let mut seed = 5u64;
+    for _ in 0..40u32 {
+        let mut arcs = Vec::new(alloc);
+        for _ in 0..24u32 {
+            let from = u32::try_from(next_number(&mut seed, 9)).unwrap_or(0);
+            let to = u32::try_from(next_number(&mut seed, 8)).unwrap_or(0);
+            let from = if from == 1 { 0 } else { from };
+            let to = to.saturating_add(1);
+            arcs.push(arc(from, to, next_number(&mut seed, 20)))?;
+        }
+        let wanted = plain_value(alloc, 9, &arcs)?;
+        has_value(&rt, alloc, 9, &arcs, wanted)?;
+    }
+    Ok(())
+}
+
 /// What is wrong with these numbers on the arcs.
 fn fault_of(
     rt: &impl Abort,

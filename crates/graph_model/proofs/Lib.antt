@@ -1,5 +1,5 @@
 pub mod Ascending
 pub mod Lookups
 pub mod Walking
-pub mod Faulty
 pub mod Needing
+pub mod Indexing

@@ -7,8 +7,6 @@ use Rattle.graph_model.specs.declared.graph.CellRecord.{CellRecord}
 use Rattle.graph_model.specs.declared.graph.Version.{Version}
 use Rattle.graph_model.specs.declared.graph.Graph.{Graph}
 use Rattle.graph_model.specs.Graphs.{CellAt, VersionAt}
-use Rattle.graph_model.specs.Faults.{IsNextWith}
-use Rattle.graph_model.proofs.Walking.{first_unique}
 
 pub same_version : (g : Graph) (v : ℕ) (x y : Version) → VersionAt g v x → VersionAt g v y → x ≡ y
 same_version g v x y h i = same_Some x y (sym h.1 ∙ i.1)
@@ -45,10 +43,3 @@ none_of_versions g P h u y at p =
     let same : u ≡ u - 1 + 1 = omega arith in
     let Q : ℕ → Type 0 = λ k. P k y in
     h (u - 1) y (omega arith) (subst (P (u - 1 + 1)) (sym (get_or_from_slice_get g.versions (u - 1) y y at.1)) (subst Q same p))
-
--- the next version with a name is one
-pub same_next : (g : Graph) (v : ℕ) (name : List ℕ) (u w : ℕ) (x y : Version) → IsNextWith g v name u → VersionAt g u x → IsNextWith g v name w → VersionAt g w y → x ≡ y
-same_next g v name u w x y h at i bt =
-    let e : w ≡ u = first_unique _ w u i h in
-    let P : ℕ → Type 0 = λ n. VersionAt g n y in
-    same_version g u x y at (subst P e bt)

@@ -40,8 +40,8 @@ marked_cases marks i w h = elim (cases_eq w i) [
 -- the writer of a version of a graph is one of its cells
 pub writer_within : (g : Graph) → IsGraph g → (v : ℕ) (x : Version) → VersionAt g v x → (0 < x.writer) × (x.writer ≤ length g.cells)
 writer_within g is v x at =
-    let zero_not : x.writer ≡ 0 → ⊥ = λ e. is.writers v (x, at, inl e) in
-    let over_not : length g.cells < x.writer → ⊥ = λ l. is.writers v (x, at, inr (inl l)) in (
+    let zero_not : x.writer ≡ 0 → ⊥ = λ e. is.writers v (x, at, inl (inl e)) in
+    let over_not : length g.cells < x.writer → ⊥ = λ l. is.writers v (x, at, inl (inr (inl l))) in (
       elim (cases_lt 0 x.writer) [ inl l ↦ l | inr l ↦ absurd (zero_not (omega arith)) ],
       elim (cases_lt (length g.cells) x.writer) [ inl l ↦ absurd (over_not l) | inr l ↦ l ],
     )
@@ -60,7 +60,7 @@ reads_old_before g is c w r = elim (cases_lt w c) [
   | inl l ↦ l
   | inr l ↦
       let P : ℕ → Type 0 = λ n. c ≤ n in
-      absurd (is.reads c (r.0, r.3, inr (inr (inl (r.1, r.2, r.4, r.5, inl (subst P (sym r.7) l))))))
+      absurd (is.reads c (r.0, r.3, inl (inr (r.1, r.4, inr (r.2, r.5, inl (subst P (sym r.7) l))))))
 ]
 
 -- `marks` are `old` and the writers of the replaced versions among the first i of `reads`

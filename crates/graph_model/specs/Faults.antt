@@ -27,23 +27,43 @@ abbrev pub least_name : List (List ℕ) → List ℕ
 least_name [] = []
 least_name (name ∷ names) = name
 
--- version v has a name, or none, that isn't as it should be
+-- some name is none that a program may bind
+abbrev pub HasNoVariable : List (List ℕ) → Type 0
+HasNoVariable names = (name : List ℕ) × Contains names name × (is_variable name ≡ false)
+
+-- some name is no identifier
+abbrev pub HasNoIdentifier : List (List ℕ) → Type 0
+HasNoIdentifier names = (name : List ℕ) × Contains names name × (is_identifier name ≡ false)
+
+-- a version has no name, or one that isn't as it should be
+abbrev pub NamesAreBad : Version → Type 0
+NamesAreBad x = (x.names ≡ []) ⊎ (¬ Ascends TextBelow x.names) ⊎ HasNoVariable x.names ⊎ ((x.absent ≡ true) × (1 < length x.names))
+
 abbrev pub HasBadNames : Graph → ℕ → Type 0
-HasBadNames g v = (x : Version) × VersionAt g v x ×
-    ((x.names ≡ []) ⊎ (¬ Ascends TextBelow x.names) ⊎ ((name : List ℕ) × Contains x.names name × (is_variable name ≡ false)) ⊎ ((x.absent ≡ true) × (1 < length x.names)))
+HasBadNames g v = (x : Version) × VersionAt g v x × NamesAreBad x
 
 -- x comes before y: its writer does, or they have one writer and its least name does
 abbrev pub ComesBefore : Version → Version → Type 0
 ComesBefore x y = (x.writer < y.writer) ⊎ ((x.writer ≡ y.writer) × TextBelow (least_name x.names) (least_name y.names))
 
--- version v has no writer, stands out of order, or is replaced by no later cell
-abbrev pub HasBadWriter : Graph → ℕ → Type 0
-HasBadWriter g v = (x : Version) × VersionAt g v x ×
-    ((x.writer ≡ 0) ⊎ (length g.cells < x.writer) ⊎ ((y : Version) × VersionAt g (v - 1) y × (¬ ComesBefore y x)) ⊎ ((x.replaced ≢ 0) × ((x.replaced ≤ x.writer) ⊎ (length g.cells < x.replaced))))
+-- among so many cells, a version has no writer or is replaced by no later cell
+abbrev pub CellsAreBad : ℕ → Version → Type 0
+CellsAreBad cells x = (x.writer ≡ 0) ⊎ (cells < x.writer) ⊎ ((x.replaced ≢ 0) × ((x.replaced ≤ x.writer) ⊎ (cells < x.replaced)))
 
--- u is the next version behind v with this name
+-- version v, which is x, doesn't come after the version before it
+abbrev pub StandsOutOfOrder : Graph → ℕ → Version → Type 0
+StandsOutOfOrder g v x = (y : Version) × VersionAt g (v - 1) y × (¬ ComesBefore y x)
+
+abbrev pub HasBadWriter : Graph → ℕ → Type 0
+HasBadWriter g v = (x : Version) × VersionAt g v x × (CellsAreBad (length g.cells) x ⊎ StandsOutOfOrder g v x)
+
+-- version u has this name
+abbrev pub HasName : Graph → List ℕ → ℕ → Type 0
+HasName g name u = (y : Version) × VersionAt g u y × Contains y.names name
+
+-- u is the next version after v with this name
 abbrev pub IsNextWith : Graph → ℕ → List ℕ → ℕ → Type 0
-IsNextWith g v name u = IsFirst (λ n. (v < n) × (y : Version) × VersionAt g n y × Contains y.names name) u
+IsNextWith g v name u = IsFirst (λ n. (v < n) × HasName g name n) u
 
 -- version v is not replaced exactly by the first later cell that wrote one of its names, or shares a name with a version of its own writer
 abbrev pub IsTwoActive : Graph → ℕ → Type 0
@@ -52,15 +72,36 @@ IsTwoActive g v = (x : Version) × VersionAt g v x ×
     ⊎ ((x.replaced ≢ 0) × (name : List ℕ) × Contains x.names name × ((u : ℕ) (y : Version) → VersionAt g u y → y.writer ≡ x.replaced → ¬ Contains y.names name))
     ⊎ ((name : List ℕ) × (u : ℕ) × (y : Version) × (u ≢ v) × Contains x.names name × VersionAt g u y × (y.writer ≡ x.writer) × Contains y.names name))
 
+-- cell c can't have read version v
+abbrev pub CannotRead : Graph → ℕ → ℕ → Type 0
+CannotRead g c v = ((y : Version) → ¬ VersionAt g v y) ⊎ ((y : Version) × VersionAt g v y × ((c ≤ y.writer) ⊎ ((y.replaced ≢ 0) × (y.replaced < c))))
+
+-- cell c can't have read some version of these
+abbrev pub ReadsAreBad : Graph → ℕ → List ℕ → Type 0
+ReadsAreBad g c reads = (v : ℕ) × Contains reads v × CannotRead g c v
+
+-- a cell before c wrote the name
+abbrev pub WrittenBefore : Graph → ℕ → List ℕ → Type 0
+WrittenBefore g c name = (u : ℕ) × (y : Version) × VersionAt g u y × Contains y.names name × (y.writer < c)
+
+-- a cell before c wrote some name of these
+abbrev pub MissesAreBad : Graph → ℕ → List (List ℕ) → Type 0
+MissesAreBad g c names = (name : List ℕ) × Contains names name × WrittenBefore g c name
+
+-- a list of versions that cell c read is not as it should be
+abbrev pub HasWrongReads : Graph → ℕ → List ℕ → Type 0
+HasWrongReads g c reads = (¬ Ascends (λ m n. m < n) reads) ⊎ ReadsAreBad g c reads
+
+-- a list of names that cell c missed is not as it should be
+abbrev pub HasWrongMisses : Graph → ℕ → List (List ℕ) → Type 0
+HasWrongMisses g c names = (¬ Ascends TextBelow names) ⊎ HasNoIdentifier names ⊎ MissesAreBad g c names
+
 -- cell c read what wasn't there, or missed what was
+abbrev pub RecordIsBad : Graph → ℕ → CellRecord → Type 0
+RecordIsBad g c x = HasWrongReads g c x.reads ⊎ HasWrongMisses g c x.missing
+
 abbrev pub HasBadRead : Graph → ℕ → Type 0
-HasBadRead g c = (x : CellRecord) × CellAt g c x ×
-    ((¬ Ascends (λ m n. m < n) x.reads)
-    ⊎ ((v : ℕ) × Contains x.reads v × ((y : Version) → ¬ VersionAt g v y))
-    ⊎ ((v : ℕ) × (y : Version) × Contains x.reads v × VersionAt g v y × ((c ≤ y.writer) ⊎ ((y.replaced ≢ 0) × (y.replaced < c))))
-    ⊎ (¬ Ascends TextBelow x.missing)
-    ⊎ ((name : List ℕ) × Contains x.missing name × (is_identifier name ≡ false))
-    ⊎ ((name : List ℕ) × (v : ℕ) × (y : Version) × Contains x.missing name × VersionAt g v y × Contains y.names name × (y.writer < c)))
+HasBadRead g c = (x : CellRecord) × CellAt g c x × RecordIsBad g c x
 
 abbrev pub Never : (ℕ → Type 0) → Type 0
 Never P = (n : ℕ) → ¬ P n

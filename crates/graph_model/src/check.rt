@@ -1,14 +1,17 @@
-ghost use Rattle.std.specs.Prelude.{ℕ, ◌≡◌, ◌≢◌, ◌<◌, ◌^◌, ◌↔◌, IsTrue, Contains, length, MatchOption, MatchResult};
+ghost use Rattle.std.specs.Prelude.{ℕ, ◌≡◌, ◌≢◌, ◌<◌, ◌^◌, ◌↔◌, IsTrue, Contains, length, IfOk, MatchOption, MatchResult};
 ghost use Rattle.flow_model.specs.First.{IsFirst};
 ghost use Rattle.graph_model.specs.declared.graph.Version.{Version};
 ghost use Rattle.graph_model.specs.Graphs.{VersionAt};
-ghost use Rattle.graph_model.specs.Faults.{ComesBefore, HasBadNames, HasBadWriter, IsTwoActive, HasBadRead, IsNextWith, Never, IsFault, IsGraph};
-ghost use Rattle.graph_model.specs.Walks.{HasName, WritesElsewhere, WrittenBefore, ClashesBy, CannotRead, HasNoVariable, HasNoIdentifier, NamesAreBad, CellsAreBad, StandsOutOfOrder, ReadsAreBad, MissesAreBad, IsReplacedOtherwise, SomeClashes, HasWrongReads, HasWrongMisses, RecordIsBad};
+ghost use Rattle.std.specs.FinMap as finite;
+ghost use Rattle.graph_model.specs.Faults.{ComesBefore, HasNoVariable, HasNoIdentifier, NamesAreBad, HasBadNames, CellsAreBad, StandsOutOfOrder, HasBadWriter, IsTwoActive, CannotRead, ReadsAreBad, WrittenBefore, MissesAreBad, HasWrongReads, HasWrongMisses, RecordIsBad, HasBadRead, Never, IsFault, IsGraph};
+ghost use Rattle.graph_model.specs.Walks.{IsIndex};
 
 use crate::graph::{CellRecord, Graph, GraphFault, Version};
-use crate::order::{has_name, is_below, least_name, numbers_ascend, texts_ascend};
-use plain_data::Text;
+use crate::index::Replacements;
+use crate::order::{is_below, least_name, numbers_ascend, texts_ascend};
+use plain_data::{Text, TextMap};
 use py_names::{is_identifier, is_variable};
+use std::alloc::{AllocError, Global};
 
 fn has_no_variable(names: &[Text]) -> bool
     ensures { IsTrue result ↔ HasNoVariable names.now }
@@ -88,100 +91,18 @@ impl Graph {
         }
     }
 
-    fn has_name(&self, v: u32, name: &Text) -> bool
-        ensures { IsTrue result ↔ HasName self.now name.now v }
-    {
-        match self.version(v) {
-            Some(version) => has_name(version.names.as_slice(), name),
-            None => false,
-        }
-    }
-
-    /// The next version behind `v` with this name.
-    fn next_with(&self, v: u32, name: &Text) -> Option<u32>
-        requires { length self.now.versions < 2 ^ 32 }
-        ensures { MatchOption result ((u : ℕ) → v < u → ¬ HasName self.now name.now u) (λ u. IsNextWith self.now v name.now u) }
-    {
-        for before in v..self.version_count() {
-            if self.has_name(before + 1, name) {
-                return Some(before + 1);
-            }
-        }
-        None
-    }
-
-    fn writes_elsewhere(&self, v: u32, writer: u32, name: &Text) -> bool
-        requires { length self.now.versions < 2 ^ 32 }
-        ensures { IsTrue result ↔ WritesElsewhere self.now v writer name.now }
-    {
-        for (before, version) in self.versions.as_slice().iter().enumerate() {
-            if before + 1 != v as usize
-                && version.writer == writer
-                && has_name(version.names.as_slice(), name)
-            {
-                return true;
-            }
-        }
-        false
-    }
-
-    fn written_before(&self, c: u32, name: &Text) -> bool
+    fn written_before(&self, index: &TextMap<u32>, c: u32, name: &Text) -> bool
+        requires writers { Never (HasBadWriter self.now) }
+        requires index { IsIndex self.now 0 index.now }
         ensures { IsTrue result ↔ WrittenBefore self.now c name.now }
     {
-        for version in self.versions.as_slice() {
-            if version.writer < c && has_name(version.names.as_slice(), name) {
-                return true;
-            }
-        }
-        false
-    }
-
-    fn clashes_by(&self, v: u32, version: &Version, name: &Text) -> bool
-        requires { length self.now.versions < 2 ^ 32 }
-        ensures { IsTrue result ↔ ClashesBy self.now v version.now name.now }
-    {
-        if self.is_replaced_otherwise(v, version.replaced, name) {
-            return true;
-        }
-        if version.replaced != 0 && !self.writes_elsewhere(0, version.replaced, name) {
-            return true;
-        }
-        self.writes_elsewhere(v, version.writer, name)
-    }
-
-    fn is_replaced_otherwise(&self, v: u32, replaced: u32, name: &Text) -> bool
-        requires { length self.now.versions < 2 ^ 32 }
-        ensures { IsTrue result ↔ IsReplacedOtherwise self.now v replaced name.now }
-    {
-        match self.next_with(v, name) {
-            Some(u) => match self.version(u) {
-                Some(next) => next.writer != replaced,
+        match index.look(name) {
+            Some(v) => match self.version(*v) {
+                Some(version) => version.writer < c,
                 None => false,
             },
             None => false,
         }
-    }
-
-    fn is_two_active(&self, v: u32) -> bool
-        requires { length self.now.versions < 2 ^ 32 }
-        ensures { IsTrue result ↔ IsTwoActive self.now v }
-    {
-        match self.version(v) {
-            Some(version) => self.some_clashes(v, version),
-            None => false,
-        }
-    }
-
-    fn some_clashes(&self, v: u32, version: &Version) -> bool
-        requires { length self.now.versions < 2 ^ 32 }
-        ensures { IsTrue result ↔ SomeClashes self.now v version.now }
-    {
-        for name in version.names.as_slice() {
-            if self.clashes_by(v, version, name) {
-                return true;
-            }
-        }
-        false
     }
 
     fn cannot_read(&self, c: u32, v: u32) -> bool
@@ -206,11 +127,13 @@ impl Graph {
         false
     }
 
-    fn misses_are_bad(&self, c: u32, names: &[Text]) -> bool
+    fn misses_are_bad(&self, index: &TextMap<u32>, c: u32, names: &[Text]) -> bool
+        requires writers { Never (HasBadWriter self.now) }
+        requires index { IsIndex self.now 0 index.now }
         ensures { IsTrue result ↔ MissesAreBad self.now c names.now }
     {
         for name in names {
-            if self.written_before(c, name) {
+            if self.written_before(index, c, name) {
                 return true;
             }
         }
@@ -223,24 +146,32 @@ impl Graph {
         !numbers_ascend(reads) || self.reads_are_bad(c, reads)
     }
 
-    fn has_wrong_misses(&self, c: u32, missing: &[Text]) -> bool
+    fn has_wrong_misses(&self, index: &TextMap<u32>, c: u32, missing: &[Text]) -> bool
+        requires writers { Never (HasBadWriter self.now) }
+        requires index { IsIndex self.now 0 index.now }
         ensures { IsTrue result ↔ HasWrongMisses self.now c missing.now }
     {
-        !texts_ascend(missing) || has_no_identifier(missing) || self.misses_are_bad(c, missing)
+        !texts_ascend(missing)
+            || has_no_identifier(missing)
+            || self.misses_are_bad(index, c, missing)
     }
 
-    fn record_is_bad(&self, c: u32, cell: &CellRecord) -> bool
+    fn record_is_bad(&self, index: &TextMap<u32>, c: u32, cell: &CellRecord) -> bool
+        requires writers { Never (HasBadWriter self.now) }
+        requires index { IsIndex self.now 0 index.now }
         ensures { IsTrue result ↔ RecordIsBad self.now c cell.now }
     {
         self.has_wrong_reads(c, cell.reads.as_slice())
-            || self.has_wrong_misses(c, cell.missing.as_slice())
+            || self.has_wrong_misses(index, c, cell.missing.as_slice())
     }
 
-    fn has_bad_read(&self, c: u32) -> bool
+    fn has_bad_read(&self, index: &TextMap<u32>, c: u32) -> bool
+        requires writers { Never (HasBadWriter self.now) }
+        requires index { IsIndex self.now 0 index.now }
         ensures { IsTrue result ↔ HasBadRead self.now c }
     {
         match self.cell(c) {
-            Some(cell) => self.record_is_bad(c, cell),
+            Some(cell) => self.record_is_bad(index, c, cell),
             None => false,
         }
     }
@@ -271,26 +202,15 @@ impl Graph {
         None
     }
 
-    /// The first version that isn't replaced as it should be.
-    fn first_two_active(&self) -> Option<u32>
-        requires { length self.now.versions < 2 ^ 32 }
-        ensures { MatchOption result (Never (IsTwoActive self.now)) (λ n. IsFirst (IsTwoActive self.now) n) }
-    {
-        for before in 0..self.version_count() {
-            if self.is_two_active(before + 1) {
-                return Some(before + 1);
-            }
-        }
-        None
-    }
-
     /// The first cell with a bad record.
-    fn first_bad_read(&self) -> Option<u32>
-        requires { length self.now.cells < 2 ^ 32 }
+    fn first_bad_read(&self, index: &TextMap<u32>) -> Option<u32>
+        requires few { length self.now.cells < 2 ^ 32 }
+        requires writers { Never (HasBadWriter self.now) }
+        requires index { IsIndex self.now 0 index.now }
         ensures { MatchOption result (Never (HasBadRead self.now)) (λ n. IsFirst (HasBadRead self.now) n) }
     {
         for before in 0..self.cell_count() {
-            if self.has_bad_read(before + 1) {
+            if self.has_bad_read(index, before + 1) {
                 return Some(before + 1);
             }
         }
@@ -299,24 +219,25 @@ impl Graph {
 
     /// Whether the graph is one: four walks, over the versions their names, their writers and order, their
     /// replacements; then over the cells what they read and missed. The first walk that meets a fault names it, at the
-    /// least number. Takes no memory.
-    pub fn check(&self) -> Result<(), GraphFault>
+    /// least number. The last two look names up in an index, for which memory may be wanting.
+    pub fn check(&self, alloc: Global) -> Result<Result<(), GraphFault>, AllocError>
         requires cells { length self.now.cells < 2 ^ 32 }
         requires versions { length self.now.versions < 2 ^ 32 }
-        ensures { MatchResult result (λ _. IsGraph self.now) (IsFault self.now) }
+        ensures { IfOk result (λ answer. MatchResult answer (λ _. IsGraph self.now) (IsFault self.now)) }
     {
         if let Some(v) = self.first_bad_names() {
-            return Err(GraphFault::BadNames(v));
+            return Ok(Err(GraphFault::BadNames(v)));
         }
         if let Some(v) = self.first_bad_writer() {
-            return Err(GraphFault::BadWriter(v));
+            return Ok(Err(GraphFault::BadWriter(v)));
         }
-        if let Some(v) = self.first_two_active() {
-            return Err(GraphFault::TwoActive(v));
+        let Replacements { index, clash } = self.replacements(alloc)?;
+        if let Some(v) = clash {
+            return Ok(Err(GraphFault::TwoActive(v)));
         }
-        match self.first_bad_read() {
-            Some(c) => Err(GraphFault::BadRead(c)),
-            None => Ok(()),
+        match self.first_bad_read(&index) {
+            Some(c) => Ok(Err(GraphFault::BadRead(c))),
+            None => Ok(Ok(())),
         }
     }
 }

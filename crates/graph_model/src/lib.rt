@@ -7,6 +7,7 @@
 
 mod check;
 mod graph;
+mod index;
 mod lookup;
 mod need;
 mod order;

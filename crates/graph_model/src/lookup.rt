@@ -1,7 +1,8 @@
-ghost use Rattle.std.specs.Prelude.{◌≡◌, ◌<◌, ◌^◌, length, MatchOption};
+ghost use Rattle.std.specs.Prelude.{◌≡◌, ◌<◌, ◌^◌, ◌↔◌, IsTrue, length, MatchOption};
 ghost use Rattle.graph_model.specs.declared.graph.CellRecord.{CellRecord};
 ghost use Rattle.graph_model.specs.declared.graph.Version.{Version};
-ghost use Rattle.graph_model.specs.Graphs.{CellAt, VersionAt};
+ghost use Rattle.graph_model.specs.Graphs.{CellAt, VersionAt, IsActive};
+ghost use Rattle.graph_model.specs.Networks.{is_active_at};
 
 use crate::graph::{CellRecord, Graph, Version};
 
@@ -41,6 +42,17 @@ impl Graph {
             None
         } else {
             self.versions.get(v as usize - 1)
+        }
+    }
+
+    /// Whether version `v` holds at the end.
+    pub fn is_active(&self, v: u32) -> bool
+        ensures active { IsTrue result ↔ ((x : Version) × IsActive self.now v x) }
+        ensures numbered { 0 < v → result ≡ is_active_at self.now v }
+    {
+        match self.version(v) {
+            Some(version) => version.replaced == 0,
+            None => false,
         }
     }
 }

@@ -72,14 +72,18 @@ struct Case {
     fault: GraphFault,
 }
 
-fn check(rt: &impl Abort, graph: &Graph) -> Result<(), GraphFault> {
+fn check(
+    rt: &impl Abort,
+    alloc: Global,
+    graph: &Graph,
+) -> Result<Result<(), GraphFault>, AllocError> {
     assert!(rt; graph.cells.len() < 10 && graph.versions.len() < 10);
-    graph.check()
+    graph.check(alloc)
 }
 
 fn need(rt: &impl Abort, alloc: Global, graph: &Graph, v: u32) -> Result<Vec<u32>, Fail> {
     assert!(rt; graph.cells.len() < 10 && graph.versions.len() < 10);
-    match (graph.check(), graph.version(v)) {
+    match (graph.check(alloc)?, graph.version(v)) {
         (Ok(()), Some(_)) => Ok(graph.need(alloc, v)?),
         _ => Err("no version of a graph")?,
     }
@@ -94,7 +98,7 @@ fn graphs_pass(rt: HostRuntime) -> Result<(), Fail> {
         version(alloc, &["a"], 1, 0)?,
         version(alloc, &["b"], 2, 0)?,
     )?;
-    assert_eq!(rt; check(&rt, &read), Ok(()));
+    assert_eq!(rt; check(&rt, alloc, &read)?, Ok(()));
     assert_eq!(rt; need(&rt, alloc, &read, 2)?.as_slice(), [2].as_slice());
     let rewritten = pair(
         alloc,
@@ -102,7 +106,7 @@ fn graphs_pass(rt: HostRuntime) -> Result<(), Fail> {
         version(alloc, &["x"], 1, 2)?,
         version(alloc, &["x"], 2, 0)?,
     )?;
-    assert_eq!(rt; check(&rt, &rewritten), Ok(()));
+    assert_eq!(rt; check(&rt, alloc, &rewritten)?, Ok(()));
     assert_eq!(rt;
         need(&rt, alloc, &rewritten, 2)?.as_slice(),
         [1, 2].as_slice()
@@ -402,7 +406,7 @@ fn said(rt: &impl Abort, alloc: Global, case: &Case) -> Result<Result<(), GraphF
         cells: Items::from_vec(cells),
         versions: Items::from_vec(versions),
     };
-    Ok(check(rt, &graph))
+    check(rt, alloc, &graph)
 }
 
 #[test]

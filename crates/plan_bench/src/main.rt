@@ -1,35 +1,66 @@
-//! Plans a session of n cells, of the shape of a notebook session, and prints what its plan costs.
+//! Plans a graph of n cells of some shape, and prints what its plan costs, or the graph, or how long each step takes.
 //!
-//! The argument is n; it is 100 where there is none. The graph is made by a rule, so it is checked before it is planned.
+//! The arguments are the shape (session, chain, star, comb, bipartite, layered, random, handles or dense), n, and one of
+//! the words `cost`, `graph` and `times`; `session 100 cost` where there are none. The graph is made by a rule, so it is
+//! checked before it is planned.
 #![tactic(auto)]
 
 use anyhow::{Result, anyhow};
-use cut_network::{PlanFault, plan};
-use graph_model::{Certified, Graph, Node, Weights};
-use plan_model::check_weights;
+use graph_model::{CellRecord, Certified, Graph, Node, Version};
 use session::make_session;
+use shape::{Shape, make_shape};
 use std::env;
 use std::rt::Env;
+use steps::{planned, timed};
 
 mod session;
+mod shape;
+mod steps;
 
 /// The most cells that are planned.
 const MOST: u32 = 100_000;
 
-const WEIGHTS: Weights = Weights {
-    copy_base: 1,
-    per_byte: 1,
-    run_base: 1,
-    per_step: 1,
-};
+/// What the command line asks for.
+#[derive(Drop)]
+struct Wanted {
+    shape: String,
+    count: u32,
+    shown: String,
+}
 
-/// How many cells the command line asks for.
-fn cells_wanted(rt: &(impl Env + AllocGlobal)) -> Result<u32> {
+/// The word at that place of the command line, and a default where there is none.
+fn words_given(rt: &(impl Env + AllocGlobal)) -> Result<Wanted> {
+    let alloc = rt.alloc();
     let mut words = env::args(rt)?;
     let _program = words.next();
-    match words.next() {
-        Some(word) => Ok(word.as_str().parse::<u32>()?.min(MOST)),
-        None => Ok(100),
+    let shape = match words.next() {
+        Some(word) => word,
+        None => String::from_str(alloc, "session")?,
+    };
+    let count = match words.next() {
+        Some(word) => word.as_str().parse::<u32>()?.min(MOST),
+        None => 100,
+    };
+    let shown = match words.next() {
+        Some(word) => word,
+        None => String::from_str(alloc, "cost")?,
+    };
+    Ok(Wanted {
+        shape,
+        count,
+        shown,
+    })
+}
+
+/// The graph of that shape.
+fn made(rt: &impl AllocGlobal, shape: &str, count: u32) -> Result<Graph> {
+    let alloc = rt.alloc();
+    if shape == "session" {
+        return Ok(make_session(alloc, count)?);
+    }
+    match Shape::named(shape) {
+        Some(shape) => Ok(make_shape(alloc, shape, count)?),
+        None => Err(anyhow!("no such shape")),
     }
 }
 
@@ -44,32 +75,60 @@ fn flow_shown(best: &Certified) -> u128 {
     sum
 }
 
-/// A least-cost plan of the graph, which is checked first.
-fn planned(rt: &impl AllocGlobal, graph: &Graph) -> Result<Certified> {
-    if graph.cells.len() > MOST as usize || graph.versions.len() > MOST as usize {
-        return Err(anyhow!("too many cells"));
+/// A line of a cell: its steps, and the versions that it read.
+fn cell_line(rt: &impl AllocGlobal, cell: &CellRecord) -> Result<String> {
+    let alloc = rt.alloc();
+    let mut line = format!(in alloc; "cell {}", cell.steps)?;
+    for v in cell.reads.as_slice() {
+        let read = format!(in alloc; " {v}")?;
+        line.push_str(read.as_str())?;
     }
-    if graph.check().is_err() {
-        return Err(anyhow!("no graph"));
+    Ok(line)
+}
+
+/// A line of a version: its writer, what replaced it, its size, and 1 where it holds a handle.
+fn version_line(rt: &impl AllocGlobal, version: &Version) -> Result<String> {
+    let alloc = rt.alloc();
+    Ok(format!(in alloc;
+        "version {} {} {} {}",
+        version.writer,
+        version.replaced,
+        version.size,
+        u8::from(version.handle)
+    )?)
+}
+
+fn print_graph(rt: &HostRuntime, graph: &Graph) -> Result<()> {
+    for cell in graph.cells.as_slice() {
+        let line = cell_line(rt, cell)?;
+        println!(rt; "{}", line.as_str())?;
     }
-    if check_weights(graph, &WEIGHTS).is_err() {
-        return Err(anyhow!("too much weight"));
+    for version in graph.versions.as_slice() {
+        let line = version_line(rt, version)?;
+        println!(rt; "{}", line.as_str())?;
     }
-    match plan(rt.alloc(), graph, &WEIGHTS) {
-        Ok(best) => Ok(best),
-        Err(PlanFault::OutOfMemory) => Err(anyhow!("out of memory")),
-        Err(PlanFault::Stuck { version, cell }) => {
-            Err(anyhow!("version {version} is stuck with cell {cell}"))
-        }
-    }
+    Ok(())
 }
 
 fn main(rt: HostRuntime) -> Result<()> {
-    let count = cells_wanted(&rt)?;
-    let graph = make_session(rt.alloc(), count)?;
-    let best = planned(&rt, &graph)?;
-    let flow = flow_shown(&best);
-    let cost = best.cost;
-    println!(rt; "cells {count} cost {cost} flow {flow}")?;
+    let Wanted {
+        shape,
+        count,
+        shown,
+    } = words_given(&rt)?;
+    let graph = made(&rt, shape.as_str(), count)?;
+    match shown.as_str() {
+        "graph" => print_graph(&rt, &graph)?,
+        "times" => {
+            let times = timed(&rt, &graph)?;
+            println!(rt; "check {} plan {}", times.check, times.plan)?;
+        }
+        _ => {
+            let best = planned(&rt, &graph)?;
+            let flow = flow_shown(&best);
+            let cost = best.cost;
+            println!(rt; "cells {count} cost {cost} flow {flow}")?;
+        }
+    }
     Ok(())
 }

@@ -8,3 +8,4 @@ pub mod Cutting
 pub mod Duality
 pub mod Uncut
 pub mod Flowing
+pub mod Stuck

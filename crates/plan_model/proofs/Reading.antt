@@ -90,9 +90,9 @@ pub read_there : (g : Graph) → IsGraph g → (c v : ℕ) (x : CellRecord) → 
 read_there g is c v x at r = elim (cases_lt 0 v) [
   | inl p ↦ elim (slice_get_cases g.versions (v - 1)).1 [
     | inl h ↦ (h.0, (p, h.2))
-    | inr h ↦ absurd (is.reads c (x, at, inr (inl (v, r, λ y a. none y (sym h.1 ∙ a.1)))))
+    | inr h ↦ absurd (is.reads c (x, at, inl (inr (v, r, inl (λ y a. none y (sym h.1 ∙ a.1))))))
   ]
-  | inr z ↦ absurd (is.reads c (x, at, inr (inl (v, r, λ y a. let l : 0 < v = a.0 in omega arith))))
+  | inr z ↦ absurd (is.reads c (x, at, inl (inr (v, r, inl (λ y a. let l : 0 < v = a.0 in omega arith)))))
 ]
   where
     none : (y : Version) → None ≡ Some y → ⊥

@@ -4,6 +4,7 @@ ghost use Rattle.graph_model.specs.declared.graph.Graph.{Graph};
 ghost use Rattle.graph_model.specs.declared.plan.Plan.{Plan};
 ghost use Rattle.graph_model.specs.declared.plan.Weights.{Weights};
 ghost use Rattle.graph_model.specs.declared.plan.Certified.{Certified};
+ghost use Rattle.graph_model.specs.Graphs.{IsStuck};
 ghost use Rattle.graph_model.specs.Faults.{IsGraph};
 ghost use Rattle.graph_model.specs.Plans.{NamesOf, IsFeasible, AreAdmitted, cost};
 ghost use Rattle.graph_model.specs.Networks.{IsCertified, net_of, plan_of_cut};
@@ -20,4 +21,9 @@ pub fn a_least_cut_is_a_feasible_plan()
         → cut_capacity side (net_of g w).arcs < 2 ^ 63
         → NamesOf g (plan_of_cut g side) × IsFeasible g (plan_of_cut g side)
         × (cost g w (plan_of_cut g side) ≡ cut_capacity side (net_of g w).arcs) }
+{}
+
+/// A graph with a stuck pair has no feasible plan.
+pub fn a_stuck_pair_forbids_every_plan()
+    ensures { (g : Graph) (v c : ℕ) (p : Plan) → IsStuck g v c → ¬ IsFeasible g p }
 {}

@@ -12,7 +12,7 @@ pub use certainty::{PlanCheck, check_plan};
 pub use costs::cost;
 pub use feasibility::{Item, feasible};
 pub use names::is_plan_of;
-pub use weights::{Weight, WeightFault, check_weights};
+pub use weights::{Weight, WeightFault, check_weights, copy_weight, rerun_weight};
 
 #[cfg(test)]
 mod tests;

@@ -6,15 +6,6 @@ ghost use Rattle.graph_model.specs.Plans.{NamesOf};
 
 use graph_model::{Graph, Plan, numbers_ascend};
 
-fn is_active(graph: &Graph, v: u32) -> bool
-    ensures { IsTrue result ↔ ((x : Version) × IsActive graph.now v x) }
-{
-    match graph.version(v) {
-        Some(version) => version.replaced == 0,
-        None => false,
-    }
-}
-
 fn is_cell(graph: &Graph, c: u32) -> bool
     ensures { IsTrue result ↔ ((x : CellRecord) × CellAt graph.now c x) }
 {
@@ -28,7 +19,7 @@ fn all_active(graph: &Graph, copied: &[u32]) -> bool
     ensures { IsTrue result ↔ ((v : ℕ) → Contains copied.now v → (x : Version) × IsActive graph.now v x) }
 {
     for v in copied {
-        if !is_active(graph, *v) {
+        if !graph.is_active(*v) {
             return false;
         }
     }

@@ -57,11 +57,11 @@ fn small(alloc: Global, drew: bool, second: Version) -> Result<Graph, AllocError
     })
 }
 
-fn cost_of(rt: &impl Abort, graph: &Graph, plan: &Plan) -> Result<u64, Item> {
+fn cost_of(rt: &(impl Abort + AllocGlobal), graph: &Graph, plan: &Plan) -> Result<u64, Item> {
     assert!(rt; graph.cells.len() < 10 && graph.versions.len() < 10);
     assert!(rt; is_plan_of(graph, plan));
-    match (graph.check(), check_weights(graph, &WEIGHTS)) {
-        (Ok(()), Ok(())) => {
+    match (graph.check(rt.alloc()), check_weights(graph, &WEIGHTS)) {
+        (Ok(Ok(())), Ok(())) => {
             feasible(graph, plan)?;
             Ok(cost(graph, &WEIGHTS, plan))
         }
@@ -146,7 +146,11 @@ static CASES: [Case; 8] = [
     },
 ];
 
-fn answer(rt: &impl Abort, alloc: Global, case: &Case) -> Result<Result<u64, Item>, AllocError> {
+fn answer(
+    rt: &(impl Abort + AllocGlobal),
+    alloc: Global,
+    case: &Case,
+) -> Result<Result<u64, Item>, AllocError> {
     let mut second = version(alloc, "y", 2, 0)?;
     second.absent = case.absent;
     second.handle = case.handle;
@@ -289,8 +293,8 @@ fn judged(
         per_step: 7,
     };
     assert!(rt; is_plan_of(&graph, &plan));
-    match (graph.check(), check_weights(&graph, &weights)) {
-        (Ok(()), Ok(())) => Ok(check_plan(&graph, &weights, &plan, &net, &flow)),
+    match (graph.check(alloc), check_weights(&graph, &weights)) {
+        (Ok(Ok(())), Ok(())) => Ok(check_plan(&graph, &weights, &plan, &net, &flow)),
         _ => panic!(rt; "no graph, or no weights"),
     }
 }

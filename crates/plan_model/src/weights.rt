@@ -26,10 +26,11 @@ pub enum WeightFault {
 }
 
 /// What copying the version costs.
-pub(crate) fn copy_weight(weights: &Weights, version: &Version) -> u64
+pub fn copy_weight(weights: &Weights, version: &Version) -> u64
     requires base { weights.now.copy_base ≤ 1000000 }
     requires per { weights.now.per_byte ≤ 1000000 }
-    ensures { result ≡ copy_weight weights.now version.now }
+    ensures value { result ≡ copy_weight weights.now version.now }
+    ensures bound { result < 2 ^ 56 }
 {
     if version.absent {
         0
@@ -39,17 +40,19 @@ pub(crate) fn copy_weight(weights: &Weights, version: &Version) -> u64
 }
 
 /// What running the cell again costs.
-pub(crate) fn rerun_weight(weights: &Weights, cell: &CellRecord) -> u64
+pub fn rerun_weight(weights: &Weights, cell: &CellRecord) -> u64
     requires base { weights.now.run_base ≤ 1000000 }
     requires per { weights.now.per_step ≤ 1000000 }
-    ensures { result ≡ rerun_weight weights.now cell.now }
+    ensures value { result ≡ rerun_weight weights.now cell.now }
+    ensures bound { result < 2 ^ 56 }
 {
     weights.run_base + weights.per_step * u64::from(cell.steps)
 }
 
 fn finite_copy(weights: &Weights, version: &Version) -> u64
     requires { AreSmall weights.now }
-    ensures { result ≡ finite_copy weights.now version.now }
+    ensures value { result ≡ finite_copy weights.now version.now }
+    ensures bound { result < 2 ^ 56 }
 {
     if version.replaced == 0 && !version.handle {
         copy_weight(weights, version)
@@ -60,7 +63,8 @@ fn finite_copy(weights: &Weights, version: &Version) -> u64
 
 fn finite_rerun(weights: &Weights, cell: &CellRecord) -> u64
     requires { AreSmall weights.now }
-    ensures { result ≡ finite_rerun weights.now cell.now }
+    ensures value { result ≡ finite_rerun weights.now cell.now }
+    ensures bound { result < 2 ^ 56 }
 {
     if cell.drew {
         0
@@ -70,10 +74,9 @@ fn finite_rerun(weights: &Weights, cell: &CellRecord) -> u64
 }
 
 fn all_copies(weights: &Weights, versions: &[Version]) -> u128
-    requires small { AreSmall weights.now }
-    requires few { length versions.now < 2 ^ 32 }
+    requires { AreSmall weights.now }
     ensures value { result ≡ sum_by (finite_copy weights.now) versions.now }
-    ensures bound { result < 2 ^ 96 }
+    ensures bound { result < 2 ^ 120 }
 {
     let mut total = 0u128;
     for version in versions {
@@ -83,10 +86,9 @@ fn all_copies(weights: &Weights, versions: &[Version]) -> u128
 }
 
 fn all_reruns(weights: &Weights, cells: &[CellRecord]) -> u128
-    requires small { AreSmall weights.now }
-    requires few { length cells.now < 2 ^ 32 }
+    requires { AreSmall weights.now }
     ensures value { result ≡ sum_by (finite_rerun weights.now) cells.now }
-    ensures bound { result < 2 ^ 96 }
+    ensures bound { result < 2 ^ 120 }
 {
     let mut total = 0u128;
     for cell in cells {
@@ -97,9 +99,7 @@ fn all_reruns(weights: &Weights, cells: &[CellRecord]) -> u128
 
 /// The sum of the weights of the active versions without a handle and of the cells that didn't draw.
 fn total_weight(graph: &Graph, weights: &Weights) -> u128
-    requires small { AreSmall weights.now }
-    requires cells { length graph.now.cells < 2 ^ 32 }
-    requires versions { length graph.now.versions < 2 ^ 32 }
+    requires { AreSmall weights.now }
     ensures { result ≡ total_weight graph.now weights.now }
 {
     all_copies(weights, graph.versions.as_slice()) + all_reruns(weights, graph.cells.as_slice())
@@ -126,8 +126,6 @@ fn first_over(weights: &Weights) -> Option<Weight>
 /// a handle and of the cells that didn't draw sum below 2^63. Else the first that is too great, or else that sum. Takes
 /// no memory.
 pub fn check_weights(graph: &Graph, weights: &Weights) -> Result<(), WeightFault>
-    requires cells { length graph.now.cells < 2 ^ 32 }
-    requires versions { length graph.now.versions < 2 ^ 32 }
     ensures { MatchResult result (λ _. AreAdmitted graph.now weights.now) (IsWeightFault graph.now weights.now) }
 {
     if let Some(weight) = first_over(weights) {

@@ -12,10 +12,10 @@ loop-before-preserved c =
     let items : Vec ℕ Global → List ℕ = λ v. v.items in
     elim c.if-is_active.branch [
       | then-is_active+in_ok-push w ↦
-          let t = sym c.is_active.ensures ∙ w.if-is_active.true in
+          let t = sym (c.is_active.ensures.numbered (omega arith)) ∙ w.if-is_active.true in
           ap items w.active-is ∙ (w.in_ok-push.ensures.items ∙ (ap (λ (xs : List ℕ). xs ++ (k + 1) ∷ []) c.loop-before.invariant ∙ sym (filter-next_yes p k t)))
       | else-is_active w ↦
-          let t = sym c.is_active.ensures ∙ w.if-is_active.false in
+          let t = sym (c.is_active.ensures.numbered (omega arith)) ∙ w.if-is_active.false in
           ap items w.active-is ∙ (c.loop-before.invariant ∙ sym (filter-next_no p k t))
     ]
 

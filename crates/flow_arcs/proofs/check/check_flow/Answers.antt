@@ -10,13 +10,13 @@ within_seen : (arcs arcs' : List Arc) (on on' : List ℕ) (i : ℕ) → arcs ≡
     → ((k : ℕ) → k < i → get_or on k 0 ≤ (get_or arcs k no_arc).capacity) → IsWithin arcs' on'
 within_seen arcs arcs' on on' i a o e l h = rw (← a, ← o) (within_each arcs on e (λ k q. h k (omega arith)))
 
-pub returns-then-taken_by-given_by : goal.returns-then-taken_by-given_by
-returns-then-taken_by-given_by c =
+pub returns-then-sums : goal.returns-then-sums
+returns-then-sums c =
     let a = c.arcs-arcs.ensures.value in
     let o = c.as_slice-on.ensures in
-    let t = rw (a, o) at c.taken_by.ensures in
-    let g = rw (a, o) at c.given_by.ensures in
-    let w = c.if-taken_by-given_by.true in (
+    let t = rw o at c.sums_at-sums.ensures.taken in
+    let g = rw o at c.sums_at-sums.ensures.given in
+    let w = c.if-sums.true in (
       within_seen _ _ _ _ c.loop-i.i a o (omega arith) (omega arith) c.loop-i.invariant,
       (
         (omega arith, omega arith, λ e. w (t ∙ (e ∙ sym g))),

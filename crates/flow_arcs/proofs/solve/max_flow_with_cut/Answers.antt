@@ -1,15 +1,11 @@
-use Rattle.std.proofs.Common.{◌≡◌, ℕ, ◌-◌, ◌<◌, Bool, List, length, get_or, replicate, subst, sym, ◌∙◌, arith}
+use Rattle.std.proofs.Common.{◌≡◌, ℕ, ◌-◌, ◌<◌, Bool, List, length, get_or, subst, sym, ◌∙◌, arith}
 use Rattle.std.proofs.lemmas.List.{get_or_read, with_items_is}
-use Rattle.flow_model.specs.declared.Arc.{Arc}
 use Rattle.flow_model.specs.Flows.{Net, IsNet, IsLegal, IsGreatest, value, cut_capacity}
 use Rattle.flow_arcs.specs.declared.search.Reached.{Reached}
 use Rattle.flow_arcs.specs.Sides.{side}
 use Rattle.flow_arcs.specs.Searches.{IsSearch, IsClosed}
-use Rattle.flow_arcs.proofs.Solving.{idle_legal, total_capacity, given_bound, reached, cut_reached, capacity_reached, greatest_from_cut}
+use Rattle.flow_arcs.proofs.Solving.{total_capacity, given_bound, reached, cut_reached, capacity_reached, greatest_from_cut}
 use Rattle.flow_arcs.proofs.solve.max_flow_with_cut.Goals as goal
-
-idle_from : (net : Net) (arcs : List Arc) (on : List ℕ) → arcs ≡ net.arcs → on ≡ replicate (length arcs) 0 → IsLegal net on
-idle_from net arcs on a o = rw (o, a) (idle_legal net)
 
 least_from : (net : Net) (on on' on'' : List ℕ) (tree : List Reached) (seen seen' : List ℕ) (inside inside' : List Bool) (mark : ℕ) → IsNet net → IsLegal net on → on' ≡ on → IsSearch net.arcs on' tree seen
     → (get_or seen 1 0 ≡ 0 → IsClosed net.arcs on' seen) → 1 < length seen → mark ≡ get_or seen 1 mark → mark ≡ 0 → seen' ≡ seen → inside ≡ reached seen' → inside' ≡ inside → on'' ≡ on
@@ -27,9 +23,6 @@ greatest_from net on on' on'' tree seen seen' inside inside' mark n l o h c b r 
 
 smaller_from : (net : Net) (on on' on'' : List ℕ) → on' ≡ on → IsLegal net on'' → value net on' < value net on'' → total_capacity net.arcs - value net on'' < total_capacity net.arcs - value net on
 smaller_from net on on' on'' e l h = let k = rw e at h in let b = given_bound net.arcs on'' 0 l.within in omega arith
-
-pub loop-on-init : goal.loop-on-init
-loop-on-init c = idle_from c.args.net.now c.arcs-arcs.result.now _ c.arcs-arcs.ensures.value (c.in_ok-on.ensures.items_if_clones_equal (λ y h. h))
 
 pub returns-then-index-eq0-clause-least : goal.returns-then-index-eq0-clause-least
 returns-then-index-eq0-clause-least c =

@@ -7,7 +7,7 @@ use Rattle.plan_model.proofs.names.all_active.Goals as goal
 pub loop-v-preserved : goal.loop-v-preserved
 loop-v-preserved c =
     let P : ℕ → Type 0 = λ n. (x : Version) × IsActive c.args.graph.now n x in
-    all_more P c.args.copied.now c.loop-v.v-index c.loop-v-test.true c.loop-v.invariant (c.is_active.ensures.0 c.if-not-is_active.false)
+    all_more P c.args.copied.now c.loop-v.v-index c.loop-v-test.true c.loop-v.invariant (c.is_active.ensures.active.0 c.if-not-is_active.false)
 
 pub returns : goal.returns
 returns c =

@@ -1,4 +1,4 @@
-use Rattle.graph_model.specs.Walks.{NamesAreBad}
+use Rattle.graph_model.specs.Faults.{NamesAreBad}
 use Rattle.graph_model.proofs.Lookups.{of_version}
 use Rattle.graph_model.proofs.graph.Graph.has_bad_names.Goals as goal
 

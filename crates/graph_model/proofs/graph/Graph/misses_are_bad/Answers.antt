@@ -1,6 +1,6 @@
 use Rattle.std.proofs.Common.{arith}
 use Rattle.std.proofs.lemmas.Bool.{false≢true}
-use Rattle.graph_model.specs.Walks.{WrittenBefore}
+use Rattle.graph_model.specs.Faults.{WrittenBefore}
 use Rattle.graph_model.proofs.Walking.{none_more, none_contained}
 use Rattle.graph_model.proofs.graph.Graph.misses_are_bad.Goals as goal
 

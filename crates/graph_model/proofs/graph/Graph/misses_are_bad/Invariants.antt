@@ -1,5 +1,5 @@
 use Rattle.std.proofs.Common.{ℕ, ◌<◌, List, get_or}
-use Rattle.graph_model.specs.Walks.{WrittenBefore}
+use Rattle.graph_model.specs.Faults.{WrittenBefore}
 use Rattle.graph_model.proofs.graph.Graph.misses_are_bad.Given as goal
 
 abbrev pub invariant-loop-name : goal.invariant-loop-name

@@ -1,7 +1,7 @@
 use Rattle.std.proofs.Common.{get_or, arith}
 use Rattle.std.proofs.lemmas.Bool.{false≢true}
 use Rattle.std.proofs.lemmas.List.{get_or_default}
-use Rattle.graph_model.specs.Walks.{CannotRead}
+use Rattle.graph_model.specs.Faults.{CannotRead}
 use Rattle.graph_model.proofs.Walking.{none_more, none_contained}
 use Rattle.graph_model.proofs.graph.Graph.reads_are_bad.Goals as goal
 

@@ -1,5 +1,5 @@
 use Rattle.std.proofs.Common.{ℕ, ◌<◌, get_or}
-use Rattle.graph_model.specs.Walks.{CannotRead}
+use Rattle.graph_model.specs.Faults.{CannotRead}
 use Rattle.graph_model.proofs.graph.Graph.reads_are_bad.Given as goal
 
 abbrev pub invariant-loop-v : goal.invariant-loop-v

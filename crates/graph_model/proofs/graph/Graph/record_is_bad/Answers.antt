@@ -1,6 +1,6 @@
 use Rattle.std.proofs.Common.{ℕ, List, inl, inr, sym, subst}
 use Rattle.std.proofs.lemmas.Bool.{false≢true}
-use Rattle.graph_model.specs.Walks.{HasWrongReads, HasWrongMisses}
+use Rattle.graph_model.specs.Faults.{HasWrongReads, HasWrongMisses}
 use Rattle.graph_model.proofs.graph.Graph.record_is_bad.Goals as goal
 
 pub returns-then-has_wrong_reads : goal.returns-then-has_wrong_reads

@@ -1,26 +1,9 @@
-use Rattle.std.proofs.Common.{ℕ, ◌+◌, ◌<◌, length, refl, ap, subst, arith}
-use Rattle.std.specs.Prelude.{List, Contains}
-use Rattle.std.proofs.lemmas.Bool.{false≢true}
-use Rattle.graph_model.proofs.Lookups.{version_read, none_of_versions}
+use Rattle.std.proofs.Common.{sym}
+use Rattle.graph_model.proofs.Indexing.{written_some, written_none}
 use Rattle.graph_model.proofs.graph.Graph.written_before.Goals as goal
 
-pub returns-then-has_name : goal.returns-then-has_name
-returns-then-has_name c =
-    let P : List (List ℕ) → Type 0 = λ names. Contains names c.args.name.now in (
-      λ t. (
-        c.loop-version.version-index + 1,
-        c.version-item.result,
-        version_read c.args.self.now _ c.loop-version.version-index c.version-item.result c.as_slice-version-items.ensures c.loop-version-test.true c.version-item.is,
-        subst P c.as_slice.ensures (c.has_name.ensures.0 c.if-has_name.true),
-        c.if-version-c.true,
-      ),
-      λ h. refl,
-    )
+pub returns-in-Some-version : goal.returns-in-Some-version
+returns-in-Some-version c = written_some c.args.self.now c.args.c c.args.name.now _ _ c.in-Some-version.version.now c.requires.writers (sym c.in-Some.ensures) (c.requires.index c.args.name.now) c.in-Some-version.ensures
 
-pub returns : goal.returns
-returns c =
-    let e = ap length c.as_slice-version-items.ensures in (
-      λ e. absurd (false≢true e),
-      λ h. absurd (none_of_versions c.args.self.now (λ u y. (y.writer < c.args.c) × Contains y.names c.args.name.now)
-          (λ k d l p. c.loop-version.invariant k d (omega (arith, e)) p.0 p.1) h.0 h.1 h.2 (h.4, h.3)),
-    )
+pub returns-in-None : goal.returns-in-None
+returns-in-None c = written_none c.args.self.now c.args.c c.args.name.now _ (sym c.in-None.ensures) (c.requires.index c.args.name.now)

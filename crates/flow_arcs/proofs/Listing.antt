@@ -1,0 +1,255 @@
+-- One arc more in the lists, and what a walk along a node's list adds up.
+use Rattle.std.proofs.Common.{◌≡◌, ◌≢◌, ℕ, zero, suc, ◌+◌, ◌-◌, ◌*◌, ◌^◌, ◌/◌, ◌%◌, ◌<◌, ◌≤◌, cond, ◌==◌, Bool, true, false, List, [], ◌∷◌, ◌++◌, length, get_or, set, refl, sym, ap, ◌∙◌, inl, inr, arith}
+use Rattle.std.proofs.lemmas.Bool.{cases_eq, eq-eqb, ne_eqb}
+use Rattle.std.proofs.lemmas.List.{get_or_append_left, get_or_push, get_or-set_same, get_or-set_other, length-set, length_push}
+use Rattle.std.specs.List.{AllByRecursion}
+use Rattle.flow_model.specs.declared.Arc.{Arc}
+use Rattle.flow_model.specs.Flows.{Joins, given, taken}
+use Rattle.flow_arcs.specs.Pairs.{tails}
+use Rattle.flow_arcs.specs.Lists.{IsLists, IsListed}
+use Rattle.flow_arcs.proofs.Partners.{length_heads, length_tails}
+
+-- one directed arc more
+module _ (ts first next : List ℕ) (node : ℕ) (h : IsLists ts first next) (within : node < length first) where
+  more_tails : List ℕ
+  more_tails = ts ++ node ∷ []
+
+  old_tail : (e : ℕ) → e < length ts → get_or (ts ++ node ∷ []) e 0 ≡ get_or ts e 0
+  old_tail e l = get_or_append_left ts (node ∷ []) 0 e l
+
+  new_tail : (e : ℕ) → length ts ≡ e → get_or (ts ++ node ∷ []) e 0 ≡ node
+  new_tail e l = get_or_push ts node 0 e l
+
+  new_first : get_or (set first node (length next + 1)) node 0 ≡ length next + 1
+  new_first = get_or-set_same first node (length next + 1) 0 within
+
+  old_first : (n : ℕ) → n ≢ node → get_or (set first node (length next + 1)) n 0 ≡ get_or first n 0
+  old_first n ne = get_or-set_other first node n (length next + 1) 0 ne
+
+  old_next : (d : ℕ) → d < length next → get_or (next ++ get_or first node 0 ∷ []) d 0 ≡ get_or next d 0
+  old_next d l = get_or_append_left next (get_or first node 0 ∷ []) 0 d l
+
+  new_next : (d : ℕ) → length next ≡ d → get_or (next ++ get_or first node 0 ∷ []) d 0 ≡ get_or first node 0
+  new_next d l = get_or_push next (get_or first node 0) 0 d l
+
+  pub lists_more : IsLists (ts ++ node ∷ []) (set first node (length next + 1)) (next ++ get_or first node 0 ∷ [])
+  lists_more =
+      let k = h.nexts in
+      let l = length_push ts node in
+      let m = length_push next (get_or first node 0) in
+      record {
+        nexts = omega arith;
+        first_low = λ n. elim (cases_eq n node) [
+          | inl q ↦ rw (q, new_first) (omega arith)
+          | inr q ↦ (let a = h.first_low n in rw (old_first n q) (omega arith))
+        ];
+        first_leaves = λ n e f. elim (cases_eq n node) [
+          | inl q ↦ (let a = new_first in let g = rw q at f in new_tail e (omega arith) ∙ sym q)
+          | inr q ↦ (let g = old_first n q in let a = h.first_low n in old_tail e (omega arith) ∙ h.first_leaves n e (sym g ∙ f))
+        ];
+        first_skips = λ n e f b. elim (cases_eq n node) [
+          | inl q ↦ absurd (let a = new_first in let g = rw q at f in omega arith)
+          | inr q ↦ (let g = old_first n q in
+              elim (cases_eq e (length ts)) [
+                | inl s ↦ (λ z. q (sym z ∙ new_tail e (sym s)))
+                | inr s ↦ (λ z. h.first_skips n e (omega arith) (omega arith) (sym (old_tail e (omega arith)) ∙ z))
+              ])
+        ];
+        next_low = λ d b. elim (cases_eq d (length next)) [
+          | inl q ↦ (let a = h.first_low node in rw (new_next d (sym q)) (omega arith))
+          | inr q ↦ (let a = h.next_low d (omega arith) in rw (old_next d (omega arith)) a)
+        ];
+        next_leaves = λ d e b f. elim (cases_eq d (length next)) [
+          | inl q ↦ (let g = new_next d (sym q) in let a = h.first_low node in
+              old_tail e (omega arith) ∙ (h.first_leaves node e (sym g ∙ f) ∙ sym (new_tail d (omega arith))))
+          | inr q ↦ (let g = old_next d (omega arith) in let a = h.next_low d (omega arith) in
+              old_tail e (omega arith) ∙ (h.next_leaves d e (omega arith) (sym g ∙ f) ∙ sym (old_tail d (omega arith))))
+        ];
+        next_skips = λ d e b f c. elim (cases_eq d (length next)) [
+          | inl q ↦ (let g = new_next d (sym q) in
+              λ z. h.first_skips node e (omega arith) (omega arith) (sym (old_tail e (omega arith)) ∙ (z ∙ new_tail d (omega arith))))
+          | inr q ↦ (let g = old_next d (omega arith) in
+              λ z. h.next_skips d e (omega arith) (omega arith) c (sym (old_tail e (omega arith)) ∙ (z ∙ old_tail d (omega arith))))
+        ];
+      }
+
+-- another list of firsts that reads the same
+pub lists_read : (ts first first' next : List ℕ) → ((n : ℕ) → get_or first' n 0 ≡ get_or first n 0) → IsLists ts first next → IsLists ts first' next
+lists_read ts first first' next r h = record {
+  nexts = h.nexts;
+  first_low = λ n. rw (r n) (h.first_low n);
+  first_leaves = λ n e f. h.first_leaves n e (sym (r n) ∙ f);
+  first_skips = λ n e f b. h.first_skips n e (rw (r n) at f) b;
+  next_low = h.next_low;
+  next_leaves = h.next_leaves;
+  next_skips = h.next_skips;
+}
+
+pub no_lists : IsLists [] [] []
+no_lists = record {
+  nexts = refl;
+  first_low = λ n. omega arith;
+  first_leaves = λ n e f. absurd (omega arith);
+  first_skips = λ n e f b. absurd (omega arith);
+  next_low = λ d b. absurd (omega arith);
+  next_leaves = λ d e b f. absurd (omega arith);
+  next_skips = λ d e b f c. absurd (omega arith);
+}
+
+pub tails_push : (arcs : List Arc) (arc : Arc) → tails (arcs ++ arc ∷ []) ≡ (tails arcs ++ arc.from ∷ []) ++ arc.to ∷ []
+tails_push [] arc = refl
+tails_push (x ∷ arcs) arc = ap (λ r. x.from ∷ x.to ∷ r) (tails_push arcs arc)
+
+-- what each directed arc adds to what its node gives, and to what it takes
+abbrev pub outs : List ℕ → List ℕ
+outs [] = []
+outs (x ∷ on) = x ∷ 0 ∷ outs on
+
+abbrev pub ins : List ℕ → List ℕ
+ins [] = []
+ins (x ∷ on) = 0 ∷ x ∷ ins on
+
+-- the amounts of the first p directed arcs that leave the node
+abbrev pub below : ℕ → List ℕ → List ℕ → ℕ → ℕ
+below zero ts xs node = 0
+below (suc p) [] xs node = 0
+below (suc p) (t ∷ ts) [] node = 0
+below (suc p) (t ∷ ts) (x ∷ xs) node = cond (t == node) x 0 + below p ts xs node
+
+cond_none : (b : Bool) → ◌≡◌ {A = ℕ} (cond b 0 0) 0
+cond_none true = refl
+cond_none false = refl
+
+pub below_step : (p : ℕ) (ts xs : List ℕ) (node : ℕ) → p < length ts → length xs ≡ length ts → below (suc p) ts xs node ≡ below p ts xs node + cond (get_or ts p 0 == node) (get_or xs p 0) 0
+below_step p [] xs node l e = absurd (omega arith)
+below_step p (t ∷ ts) [] node l e = absurd (omega arith)
+below_step zero (t ∷ ts) (x ∷ xs) node l e = omega arith
+below_step (suc p) (t ∷ ts) (x ∷ xs) node l e = let r = below_step p ts xs node (omega arith) (omega arith) in omega arith
+
+pub below_skip : (d p q : ℕ) (ts xs : List ℕ) (node : ℕ) → q ≡ d + p → q ≤ length ts → length xs ≡ length ts → ((e : ℕ) → p ≤ e → e < q → get_or ts e 0 ≢ node) → below q ts xs node ≡ below p ts xs node
+below_skip zero p q ts xs node e l m f = let z : q ≡ p = omega arith in ap (λ k. below k ts xs node) z
+below_skip (suc d) p zero ts xs node e l m f = absurd (omega arith)
+below_skip (suc d) p (suc q) ts xs node e l m f =
+    let s = below_step q ts xs node (omega arith) m in
+    let n = rw (ne_eqb (get_or ts q 0) node (f q (omega arith) (omega arith))) at s in
+    let r = below_skip d p q ts xs node (omega arith) (omega arith) m (λ k a b. f k a (omega arith)) in
+    omega arith
+
+pub length_outs : (on : List ℕ) → length (outs on) ≡ 2 * length on
+length_outs [] = refl
+length_outs (x ∷ on) = let e = length_outs on in omega arith
+
+pub length_ins : (on : List ℕ) → length (ins on) ≡ 2 * length on
+length_ins [] = refl
+length_ins (x ∷ on) = let e = length_ins on in omega arith
+
+pub given_all : (arcs : List Arc) (on : List ℕ) (p node : ℕ) → length on ≡ length arcs → p ≡ length (tails arcs) → below p (tails arcs) (outs on) node ≡ given arcs on node
+given_all [] on zero node e l = refl
+given_all [] on (suc p) node e l = refl
+given_all (arc ∷ arcs) [] p node e l = absurd (omega arith)
+given_all (arc ∷ arcs) (x ∷ on) zero node e l = absurd (omega arith)
+given_all (arc ∷ arcs) (x ∷ on) (suc zero) node e l = absurd (omega arith)
+given_all (arc ∷ arcs) (x ∷ on) (suc (suc p)) node e l =
+    let r = given_all arcs on p node (omega arith) (omega arith) in
+    let z = cond_none (arc.to == node) in
+    omega arith
+
+pub taken_all : (arcs : List Arc) (on : List ℕ) (p node : ℕ) → length on ≡ length arcs → p ≡ length (tails arcs) → below p (tails arcs) (ins on) node ≡ taken arcs on node
+taken_all [] on zero node e l = refl
+taken_all [] on (suc p) node e l = refl
+taken_all (arc ∷ arcs) [] p node e l = absurd (omega arith)
+taken_all (arc ∷ arcs) (x ∷ on) zero node e l = absurd (omega arith)
+taken_all (arc ∷ arcs) (x ∷ on) (suc zero) node e l = absurd (omega arith)
+taken_all (arc ∷ arcs) (x ∷ on) (suc (suc p)) node e l =
+    let r = taken_all arcs on p node (omega arith) (omega arith) in
+    let z = cond_none (arc.from == node) in
+    omega arith
+
+-- an even number goes along its arc, an odd one back
+pub even_amount : (on : List ℕ) (e i : ℕ) → e ≡ 2 * i → (get_or (outs on) e 0 ≡ get_or on i 0) × (get_or (ins on) e 0 ≡ 0)
+even_amount [] e i q = (refl, refl)
+even_amount (x ∷ on) zero zero q = (refl, refl)
+even_amount (x ∷ on) zero (suc i) q = absurd (omega arith)
+even_amount (x ∷ on) (suc zero) i q = absurd (omega arith)
+even_amount (x ∷ on) (suc (suc e)) zero q = absurd (omega arith)
+even_amount (x ∷ on) (suc (suc e)) (suc i) q = even_amount on e i (omega arith)
+
+pub odd_amount : (on : List ℕ) (e i : ℕ) → e ≡ 2 * i + 1 → (get_or (ins on) e 0 ≡ get_or on i 0) × (get_or (outs on) e 0 ≡ 0)
+odd_amount [] e i q = (refl, refl)
+odd_amount (x ∷ on) zero i q = absurd (omega arith)
+odd_amount (x ∷ on) (suc zero) zero q = (refl, refl)
+odd_amount (x ∷ on) (suc zero) (suc i) q = absurd (omega arith)
+odd_amount (x ∷ on) (suc (suc e)) zero q = absurd (omega arith)
+odd_amount (x ∷ on) (suc (suc e)) (suc i) q = odd_amount on e i (omega arith)
+
+-- the sums fit 128 bits
+pub given_small : (arcs : List Arc) (on : List ℕ) (node : ℕ) → ((k : ℕ) → get_or on k 0 < 2 ^ 64) → given arcs on node ≤ length arcs * 2 ^ 64
+given_small [] on node h = omega arith
+given_small (arc ∷ arcs) [] node h = omega arith
+given_small (arc ∷ arcs) (x ∷ on) node h =
+    let r = given_small arcs on node (λ k. h (suc k)) in
+    let b = h 0 in
+    elim (arc.from == node) as (λ c. cond c x 0 + given arcs on node ≤ (suc (length arcs)) * 2 ^ 64) [ true ↦ omega arith | false ↦ omega arith ]
+
+pub taken_small : (arcs : List Arc) (on : List ℕ) (node : ℕ) → ((k : ℕ) → get_or on k 0 < 2 ^ 64) → taken arcs on node ≤ length arcs * 2 ^ 64
+taken_small [] on node h = omega arith
+taken_small (arc ∷ arcs) [] node h = omega arith
+taken_small (arc ∷ arcs) (x ∷ on) node h =
+    let r = taken_small arcs on node (λ k. h (suc k)) in
+    let b = h 0 in
+    elim (arc.to == node) as (λ c. cond c x 0 + taken arcs on node ≤ (suc (length arcs)) * 2 ^ 64) [ true ↦ omega arith | false ↦ omega arith ]
+
+-- a walk begins where no later arc leaves the node
+pub walk_begins : (ts xs : List ℕ) (node place : ℕ) → length xs ≡ length ts → place ≤ length ts → ((e : ℕ) → place ≤ e → e < length ts → get_or ts e 0 ≢ node)
+    → below (length ts) ts xs node ≡ below place ts xs node
+walk_begins ts xs node place l b f = below_skip (length ts - place) place (length ts) ts xs node (omega arith) (omega arith) l f
+
+-- an arc of the walk
+pub walk_holds : (ts xs : List ℕ) (node e place : ℕ) → place ≡ suc e → e < length ts → length xs ≡ length ts → get_or ts e 0 ≡ node → get_or xs e 0 ≤ below place ts xs node
+walk_holds ts xs node e place q l m t =
+    let s = below_step e ts xs node l m in
+    let h = rw (eq-eqb (get_or ts e 0) node t) at s in
+    rw q (omega arith)
+
+-- and the next one
+pub walk_step : (ts xs : List ℕ) (node e q place : ℕ) → place ≡ suc e → e < length ts → length xs ≡ length ts → get_or ts e 0 ≡ node → q ≤ e → ((k : ℕ) → q ≤ k → k < e → get_or ts k 0 ≢ node)
+    → below place ts xs node ≡ below q ts xs node + get_or xs e 0
+walk_step ts xs node e q place p l m t b f =
+    let s = below_step e ts xs node l m in
+    let h = rw (eq-eqb (get_or ts e 0) node t) at s in
+    let r = below_skip (e - q) q e ts xs node (omega arith) (omega arith) m f in
+    rw p (omega arith)
+
+pub halves_even : (e : ℕ) → e % 2 ≡ 0 → e ≡ 2 * (e / 2)
+halves_even e h = omega arith
+
+pub halves_odd : (e : ℕ) → e % 2 ≢ 0 → e ≡ 2 * (e / 2) + 1
+halves_odd e h = omega arith
+
+pub half_below : (e n : ℕ) → e < 2 * n → e / 2 < n
+half_below e n h = omega arith
+
+joined_more : (nodes : ℕ) (arcs : List Arc) (arc : Arc) → AllByRecursion (Joins nodes) arcs → Joins nodes arc → AllByRecursion (Joins nodes) (arcs ++ arc ∷ [])
+joined_more nodes [] arc h j = (j, tt)
+joined_more nodes (x ∷ arcs) arc h j = (h.0, joined_more nodes arcs arc h.1 j)
+
+-- a network with one arc more
+pub listed_more : (nodes : ℕ) (arcs : List Arc) (arc : Arc) (first first' next : List ℕ) → IsListed (record { nodes = nodes; arcs = arcs }) first next → Joins nodes arc → length arcs + 1 < 2 ^ 31
+    → ((n : ℕ) → get_or first' n 0 ≡ get_or first n 0) → arc.from < length first' → arc.to < length first'
+    → IsListed (record { nodes = nodes; arcs = arcs ++ arc ∷ [] })
+    (set (set first' arc.from (length next + 1)) arc.to (length (next ++ get_or first' arc.from 0 ∷ []) + 1))
+    ((next ++ get_or first' arc.from 0 ∷ []) ++ get_or (set first' arc.from (length next + 1)) arc.to 0 ∷ [])
+listed_more nodes arcs arc first first' next h j f r a b = record {
+  numbered = record {
+    legal = record { ends = h.numbered.legal.ends; joined = joined_more nodes arcs arc h.numbered.legal.joined j };
+    few = let l = length_push arcs arc in omega arith;
+  };
+  lists = rw (tails_push arcs arc)
+      (lists_more (tails arcs ++ arc.from ∷ []) (set first' arc.from (length next + 1)) (next ++ get_or first' arc.from 0 ∷ []) arc.to
+      (lists_more (tails arcs) first' next arc.from (lists_read (tails arcs) first first' next r h.lists) a)
+      (let l = length-set first' arc.from (length next + 1) in omega arith));
+}
+
+-- the lists have two places for each arc
+pub listed_length : (nodes : ℕ) (arcs : List Arc) (first next : List ℕ) → IsListed (record { nodes = nodes; arcs = arcs }) first next → length next ≡ 2 * length arcs
+listed_length nodes arcs first next h = h.lists.nexts ∙ (length_tails arcs ∙ length_heads arcs)

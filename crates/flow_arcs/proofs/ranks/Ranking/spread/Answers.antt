@@ -1,0 +1,6 @@
+use Rattle.std.proofs.Common.{◌-◌, arith}
+use Rattle.flow_arcs.proofs.Partners.{partner_near}
+use Rattle.flow_arcs.proofs.ranks.Ranking.spread.Goals as goal
+
+pub partner-requires : goal.partner-requires
+partner-requires c = let n = partner_near (c.arcs.place - 1) in omega arith

@@ -1,0 +1,154 @@
+ghost use Rattle.std.specs.Prelude.{◌≡◌, length, IfOk, OnOk};
+
+use crate::lists::number_at;
+use crate::network::Network;
+use crate::pairs::partner;
+use crate::send::{SHUT, SINK, Turns};
+use std::alloc::{AllocError, Global};
+
+/// Ranks of nodes, and the nodes in the order in which they got them.
+#[derive(Drop)]
+struct Ranking {
+    rank: Vec<u32>,
+    order: Vec<u32>,
+}
+
+/// Whether a directed arc may carry more.
+fn has_room(rest: &[u64], arc: u32) -> bool {
+    match rest.get(arc as usize) {
+        Some(room) => *room > 0,
+        None => false,
+    }
+}
+
+impl Ranking {
+    /// No node has a rank.
+    fn new(alloc: Global, nodes: u32) -> Result<Ranking, AllocError>
+        ensures { IfOk result (λ it. length it.rank.items ≡ nodes) }
+    {
+        let rank = vec![in alloc; SHUT; nodes as usize]?;
+        Ok(Ranking {
+            rank,
+            order: Vec::new(alloc),
+        })
+    }
+
+    /// Gives a node a rank, if it has none.
+    fn give(&mut self, node: u32, value: u32) -> Result<(), AllocError>
+        ensures { OnOk result (length self.new.rank.items ≡ length self.old.rank.items) }
+    {
+        if let Some(place) = self.rank.get_mut(node as usize) {
+            if *place == SHUT {
+                *place = value;
+                self.order.push(node)?;
+            }
+        }
+        Ok(())
+    }
+
+    /// Gives the nodes that have an arc with room to this one, and no rank yet, a rank that is one more.
+    fn spread(&mut self, turns: &Turns, rest: &[u64], node: u32) -> Result<(), AllocError>
+        ensures { OnOk result (length self.new.rank.items ≡ length self.old.rank.items) }
+    {
+        let farther = number_at(&self.rank, node).saturating_add(1);
+        let mut place = number_at(&turns.first, node);
+        'arcs: for _ in 0..rest.len() {
+            if place == 0 {
+                break;
+            }
+            let arc = place - 1;
+            if has_room(rest, partner(arc)) {
+                self.give(number_at(&turns.to, arc), farther)?;
+            }
+            place = number_at(&turns.next, arc);
+        }
+        Ok(())
+    }
+
+    /// Counts this node out of those that its arcs come from, and gives a rank to those of which it was the last.
+    fn count_out(
+        &mut self,
+        turns: &Turns,
+        degree: &mut [u32],
+        node: u32,
+        value: u32,
+    ) -> Result<(), AllocError>
+        ensures { OnOk result (length self.new.rank.items ≡ length self.old.rank.items) }
+    {
+        let mut place = number_at(&turns.first, node);
+        'arcs: for _ in 0..turns.next.len() {
+            if place == 0 {
+                break;
+            }
+            let arc = place - 1;
+            if arc % 2 == 1 {
+                let from = number_at(&turns.to, arc);
+                if let Some(count) = degree.get_mut(from as usize) {
+                    *count = count.saturating_sub(1);
+                    if *count == 0 {
+                        self.give(from, value)?;
+                    }
+                }
+            }
+            place = number_at(&turns.next, arc);
+        }
+        Ok(())
+    }
+}
+
+/// How far each node is from the sink along arcs that may carry more; shut where it doesn't reach the sink.
+pub fn distances(
+    alloc: Global,
+    net: &Network,
+    turns: &Turns,
+    rest: &[u64],
+) -> Result<Vec<u32>, AllocError>
+    ensures { IfOk result (λ rank. length rank.items ≡ net.now.nodes) }
+{
+    let mut ranking = Ranking::new(alloc, net.nodes())?;
+    ranking.give(SINK, 0)?;
+    'nodes: for done in 0..net.nodes() {
+        match ranking.order.get(done as usize) {
+            Some(node) => {
+                let node = *node;
+                ranking.spread(turns, rest, node)?;
+            }
+            None => break,
+        }
+    }
+    Ok(ranking.rank)
+}
+
+/// How many arcs leave each node.
+fn degrees(alloc: Global, net: &Network) -> Result<Vec<u32>, AllocError> {
+    let mut degree = vec![in alloc; 0u32; net.nodes() as usize]?;
+    for arc in net.arcs() {
+        if let Some(count) = degree.get_mut(arc.from as usize) {
+            *count = count.saturating_add(1);
+        }
+    }
+    Ok(degree)
+}
+
+/// An order of the nodes in which each arc goes to a lower rank; shut where arcs run in a circle.
+pub fn downward(alloc: Global, net: &Network, turns: &Turns) -> Result<Vec<u32>, AllocError>
+    ensures { IfOk result (λ rank. length rank.items ≡ net.now.nodes) }
+{
+    let mut ranking = Ranking::new(alloc, net.nodes())?;
+    let mut degree = degrees(alloc, net)?;
+    'ends: for node in 0..net.nodes() {
+        if number_at(&degree, node) == 0 {
+            ranking.give(node, 0)?;
+        }
+    }
+    'nodes: for done in 0..net.nodes() {
+        match ranking.order.get(done as usize) {
+            Some(node) => {
+                let node = *node;
+                ranking.count_out(turns, &mut degree, node, done.saturating_add(1))?;
+            }
+            None => break,
+        }
+    }
+    Ok(ranking.rank)
+}

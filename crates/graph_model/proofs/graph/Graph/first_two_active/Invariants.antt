@@ -1,6 +1,0 @@
-use Rattle.std.proofs.Common.{ℕ, ◌+◌, ◌<◌}
-use Rattle.graph_model.specs.Faults.{IsTwoActive}
-use Rattle.graph_model.proofs.graph.Graph.first_two_active.Given as goal
-
-abbrev pub invariant-loop-before : goal.invariant-loop-before
-invariant-loop-before l = (m : ℕ) → m < l.before + 1 → IsTwoActive l.self m → ⊥
