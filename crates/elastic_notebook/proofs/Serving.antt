@@ -33,11 +33,7 @@ pub record ServesSoFar (old now : Option (List ℕ)) (name : List ℕ) (all : Li
   pub done : List ℕ
   pub adds : Adds old now done
   pub parts : whole ≡ done ++ cell_frames name s running (cells n kernel rest).0
-  pub behind : all.1 ≡ (cells n kernel rest).1
-
-pub nothing_served : (old : Option (List ℕ)) (name : List ℕ) (n kernel : ℕ) (s : State) (running : ℕ) (rest : List ℕ)
-    → ServesSoFar old old name (cells n kernel rest) (cell_frames name s running (cells n kernel rest).0) n kernel s running rest
-nothing_served old name n kernel s running rest = record { done = []; adds = Adds-none old; parts = refl; behind = refl }
+  pub unserved : all.1 ≡ (cells n kernel rest).1
 
 module _ (old now : Option (List ℕ)) (name : List ℕ) (all : List Cell × List ℕ) (whole : List ℕ) (n kernel : ℕ) (s : State) (running : ℕ) (rest : List ℕ) where
   -- the cells end here
@@ -45,7 +41,7 @@ module _ (old now : Option (List ℕ)) (name : List ℕ) (all : List Cell × Lis
   unfolding cell_frames
   served_all h e = (
     subst (Adds old now) (sym (h.parts ∙ ap (λ c. h.done ++ cell_frames name s running c.0) e ∙ append-nil h.done)) h.adds,
-    sym (h.behind ∙ ap (λ c. c.1) e),
+    sym (h.unserved ∙ ap (λ c. c.1) e),
   )
 
   -- the writing ends here
@@ -54,7 +50,7 @@ module _ (old now : Option (List ℕ)) (name : List ℕ) (all : List Cell × Lis
 
 module _ (old now : Option (List ℕ)) (name : List ℕ) (all : List Cell × List ℕ) (whole : List ℕ) (n m kernel : ℕ) (s : State) (running : ℕ) (rest more : List ℕ) (cell : Cell)
     (h : ServesSoFar old now name all whole n kernel s running rest) (e : n ≡ suc m) (some : cell_at kernel rest ≡ Some (cell, more)) where
-  -- the frames of the cells behind this one
+  -- the frames of the cells after this one
   abbrev others : List ℕ
   others = cell_frames name (next_state cell.code s) (running + length (ran cell.code (answer cell.code s))) (cells m kernel more).0
 
@@ -71,7 +67,7 @@ module _ (old now : Option (List ℕ)) (name : List ℕ) (all : List Cell × Lis
     done = h.done ++ this_cell name s running cell;
     adds = Adds-both old now new h.done (this_cell name s running cell) h.adds adds;
     parts = cell_parts ∙ sym (append_assoc h.done (this_cell name s running cell) others);
-    behind = h.behind ∙ ap (λ (c : List Cell × List ℕ). c.1) rest_is;
+    unserved = h.unserved ∙ ap (λ (c : List Cell × List ℕ). c.1) rest_is;
   }
 
   pub cell_front : (new : Option (List ℕ)) → AddsFront now new (this_cell name s running cell) → AddsFront old new whole

@@ -7,14 +7,6 @@ use Rattle.elastic_notebook.specs.Served.{AddsFront}
 
 -- ---- counts
 
-pub risen_then : (a b c : ℕ) → HasRisen a b → b ≤ c → HasRisen a c
-risen_then a b c (inl h) k = inl (omega arith)
-risen_then a b c (inr h) k = inr (omega arith)
-
-pub then_risen : (a b c : ℕ) → a ≤ b → HasRisen b c → HasRisen a c
-then_risen a b c k (inl h) = inl (omega arith)
-then_risen a b c k (inr h) = inr h
-
 -- ---- writing
 
 pub Adds-none : (old : Option (List ℕ)) → Adds old old []
@@ -44,13 +36,6 @@ more_written old mid new bytes rest n w a = record {
   adds = Adds-both old mid new w.done (take n rest) w.adds a;
 }
 
-pub all_written : (old new : Option (List ℕ)) (bytes : List ℕ) → WritesSoFar old new bytes [] → Adds old new bytes
-all_written old new bytes w = subst (Adds old new) (sym (w.parts ∙ append-nil w.done)) w.adds
-
-pub front_written : (old mid new : Option (List ℕ)) (bytes rest : List ℕ) → WritesSoFar old mid bytes rest → Adds mid new [] → AddsFront old new bytes
-front_written old mid new bytes rest w none =
-    (w.done, rest, w.parts, subst (Adds old new) (append-nil w.done) (Adds-both old mid new w.done [] w.adds none))
-
 -- ---- reading
 
 -- what was taken so far is what was added
@@ -79,9 +64,6 @@ more_read old mid new before now then more r t e = record {
   takes = Takes-both old mid new r.taken more r.takes t;
   added = e ∙ ap (λ ys. ys ++ more) r.added ∙ append_assoc before r.taken more;
 }
-
-pub risen_by_none : (a : ℕ) → HasRisenBy 0 a a
-risen_by_none a = inl (omega arith)
 
 pub risen_by_one_more : (n a b c : ℕ) → HasRisenBy n a b → HasRisenBy 1 b c → HasRisenBy (n + 1) a c
 risen_by_one_more n a b c (inl h) (inl k) = inl (omega arith)

@@ -1,4 +1,4 @@
--- The messages of a stream of bytes: an opening, cells, and what stands behind them.
+-- The messages of a stream of bytes: an opening, cells, and what stands after them.
 use Rattle.std.specs.Prelude.{ℕ, zero, suc, ◌+◌, ◌&&◌, Bool, cond, ◌==◌, nat_lt, nat_le, List, [], ◌∷◌, length, take, drop, Option, Some, None, option_map, option_and_then}
 use Rattle.std.specs.Int.{w32, from_be_bytes}
 use Rattle.jupyter_messages.specs.declared.message.Header.{Header}
@@ -18,13 +18,13 @@ length_of bytes = from_be_bytes w32 (take 4 bytes)
 abbrev pub begins_frame : List ℕ → Bool
 begins_frame bytes = nat_le 4 (length bytes) && (nat_lt 0 (length_of bytes) && (nat_le (length_of bytes) 1048576 && nat_le (4 + length_of bytes) (length bytes)))
 
--- the body of the whole frame at the front, and what stands behind it
+-- the body of the whole frame at the front, and what stands after it
 unfoldable pub frame_at : List ℕ → Option (List ℕ × List ℕ)
 frame_at bytes = cond (begins_frame bytes) (Some (take (length_of bytes) (drop 4 bytes), drop (4 + length_of bytes) bytes)) None
 
 -- ---- messages
 
--- the built message at the front, and what stands behind it
+-- the supported message at the front, and what stands after it
 unfoldable pub message_at : List ℕ → Option (Message × List ℕ)
 message_at bytes = option_and_then (λ f. option_map (λ m. (m, f.1)) (message_in f.0)) (frame_at bytes)
 
@@ -49,7 +49,7 @@ cell_at kernel bytes = option_and_then (λ p. as_cell (p.0.kernel == kernel) p.0
 abbrev pub with_cell : Cell → List Cell × List ℕ → List Cell × List ℕ
 with_cell cell taken = (cell ∷ taken.0, taken.1)
 
--- The cells at the front, at most so many, and what stands behind them.
+-- The cells at the front, at most so many, and what stands after them.
 abbrev pub cells_from : Option (Cell × List ℕ) → (List ℕ → List Cell × List ℕ) → List ℕ → List Cell × List ℕ
 cells_from None more bytes = ([], bytes)
 cells_from (Some found) more bytes = with_cell found.0 (more found.1)

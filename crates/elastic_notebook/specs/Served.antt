@@ -25,7 +25,7 @@ cell_frames kernel s first (cell ∷ more) =
 unfoldable pub session_frames : Message → List Cell → List ℕ
 session_frames request taken = frames (kernel_name request.kernel) request.header 1 (opened request.channel) ++ cell_frames (kernel_name request.kernel) empty 4 taken
 
--- what is written for a stream, and what stands behind its last built message
+-- what is written for a stream, and what stands after its last supported message
 abbrev pub outcome_from : Option (Message × List ℕ) → List ℕ → List ℕ × List ℕ
 outcome_from None bytes = ([], bytes)
 outcome_from (Some found) bytes =
@@ -39,9 +39,9 @@ outcome bytes = outcome_from (opening_at bytes) bytes
 abbrev pub output : List ℕ → List ℕ
 output bytes = (outcome bytes).0
 
--- what stands from the first place on where no built message stands
-abbrev pub behind : List ℕ → List ℕ
-behind bytes = (outcome bytes).1
+-- what stands from the first place on where no supported message stands
+abbrev pub unserved : List ℕ → List ℕ
+unserved bytes = (outcome bytes).1
 
 -- ---- statuses
 
@@ -68,9 +68,9 @@ pub record Serves (status : ℕ) (taken left : List ℕ) (sink_old sink_new : Op
   pub cut : IsTrue (is_cut status) → AddsFront sink_old sink_new (output taken)
   -- at 0 and 2 nothing is left in the source
   pub complete : IsTrue (is_complete status) → left ≡ []
-  -- at 0 the last built message ends the input; at 2 something stands behind it that is none
-  pub done : status ≡ 0 → behind taken ≡ []
-  pub unbuilt : status ≡ 2 → behind taken ≢ []
+  -- at 0 the last supported message ends the input; at 2 something stands after it that is none
+  pub done : status ≡ 0 → unserved taken ≡ []
+  pub unsupported : status ≡ 2 → unserved taken ≢ []
 
 -- a run over a source that tells what it had and has left
 abbrev pub ServesTold : ℕ → Option (List ℕ) → Option (List ℕ) → Option (List ℕ) → Option (List ℕ) → Type 0

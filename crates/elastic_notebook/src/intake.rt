@@ -15,7 +15,7 @@ pub struct Cell {
 /// The most bytes of a frame's body.
 const MAX_BODY: usize = 1_048_576;
 
-/// The body of the whole frame at the front, and what stands behind it.
+/// The body of the whole frame at the front, and what stands after it.
 #[tactic(auto, unfolding(crate::specs::Intake::frame_at))]
 fn next_frame(bytes: &[u8]) -> Option<(&[u8], &[u8])>
     ensures frame { MatchOption result (spec.frame_at bytes.now ≡ None) (λ f. spec.frame_at bytes.now ≡ Some (f.0.now, f.1.now)) }
@@ -31,7 +31,7 @@ fn next_frame(bytes: &[u8]) -> Option<(&[u8], &[u8])>
     Some(rest.split_at(body))
 }
 
-/// The built message at the front, and what stands behind it.
+/// The supported message at the front, and what stands after it.
 #[tactic(auto, unfolding(crate::specs::Intake::message_at))]
 fn next_message(alloc: Global, bytes: &[u8]) -> Result<Option<(Message, &[u8])>, AllocError>
     ensures { IfOk result (λ next. MatchOption next (spec.message_at bytes.now ≡ None) (λ p. spec.message_at bytes.now ≡ Some (p.0, p.1.now))) }
@@ -46,7 +46,7 @@ fn next_message(alloc: Global, bytes: &[u8]) -> Result<Option<(Message, &[u8])>,
     }
 }
 
-/// The opening of a kernel at the front, and what stands behind it.
+/// The opening of a kernel at the front, and what stands after it.
 #[tactic(auto, unfolding(crate::specs::Intake::opening_at))]
 pub fn next_opening(alloc: Global, bytes: &[u8]) -> Result<Option<(Message, &[u8])>, AllocError>
     ensures { IfOk result (λ next. MatchOption next (spec.opening_at bytes.now ≡ None) (λ p. spec.opening_at bytes.now ≡ Some (p.0, p.1.now))) }
@@ -67,7 +67,7 @@ fn is_opening(message: &Message) -> bool
     matches!(message.kind, MessageKind::Open)
 }
 
-/// The cell of this kernel at the front, and what stands behind it.
+/// The cell of this kernel at the front, and what stands after it.
 #[tactic(auto, unfolding(crate::specs::Intake::cell_at))]
 pub fn next_cell(
     alloc: Global,

@@ -4,10 +4,10 @@
 //! sink, calls it, and ends with its status.
 #![tactic(auto)]
 
+mod fault;
 mod intake;
 pub mod run;
 mod serve;
-mod stop;
 mod streams;
 #[cfg(test)]
 mod tests;
@@ -19,7 +19,13 @@ use std::env::Env;
 use std::process::ExitCode;
 use std::{env, io};
 
-/// The words of the command line behind the program's name.
+/// The status if the words are no command, as words that are no text.
+const NO_COMMAND: u8 = 1;
+
+/// The status if memory runs out.
+const OUT_OF_MEMORY: u8 = 5;
+
+/// The words of the command line after the program's name.
 fn words_of<R: Env + AllocGlobal>(rt: &R) -> io::Result<Vec<String>> {
     let mut words = Vec::new(rt.alloc());
     for word in env::args(rt)?.skip(1) {
@@ -28,9 +34,15 @@ fn words_of<R: Env + AllocGlobal>(rt: &R) -> io::Result<Vec<String>> {
     Ok(words)
 }
 
-fn main(rt: HostRuntime) -> io::Result<ExitCode> {
-    let words = words_of(&rt)?;
+fn main(rt: HostRuntime) -> ExitCode {
+    let words = match words_of(&rt) {
+        Ok(words) => words,
+        Err(error) if error.kind() == io::ErrorKind::OutOfMemory => {
+            return ExitCode::from(OUT_OF_MEMORY);
+        }
+        Err(_) => return ExitCode::from(NO_COMMAND),
+    };
     let mut source = StdSource::new(rt.stdin());
     let mut sink = StdSink::new(rt.stdout());
-    Ok(ExitCode::from(top(&rt, words.as_slice(), &mut source, &mut sink)))
+    ExitCode::from(top(&rt, words.as_slice(), &mut source, &mut sink))
 }

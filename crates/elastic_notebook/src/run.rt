@@ -2,8 +2,8 @@ ghost use Rattle.std.specs.Prelude.{◌≡◌, ◌≢◌, [], ◌∷◌, map, co
 ghost use Rattle.nb_outside.specs.Counts.{HasRisen, HasRisenBy};
 ghost use Rattle.elastic_notebook.specs.Served.{ServesTold, IsStatus};
 
+use crate::fault::ServeFault;
 use crate::serve::serve;
-use crate::stop::Stop;
 use crate::streams::{ReadingEnd, read_all};
 use nb_outside::{Sink, Source};
 use std::alloc::Global;
@@ -22,8 +22,8 @@ fn run<S: Source, K: Sink>(alloc: Global, source: &mut S, sink: &mut K) -> u8
         return 5;
     }
     match serve(alloc, sink, bytes.as_slice()) {
-        Err(Stop::SinkFault) => 4,
-        Err(Stop::OutOfMemory) => 5,
+        Err(ServeFault::Sink) => 4,
+        Err(ServeFault::OutOfMemory) => 5,
         Ok(rest) => match reading {
             ReadingEnd::End if rest.is_empty() => 0,
             ReadingEnd::End => 2,
@@ -51,8 +51,8 @@ fn is_run(words: &[String]) -> bool
 ///
 /// - 0: the input was read to its end, and everything was written.
 /// - 1: the words are no command. Nothing is read or written.
-/// - 2: the input was read to its end, and behind the last built message stands something that is none: a frame that is no
-///   built message, a length outside 1 to 1,048,576, or a begun frame. What stands before it is served and written.
+/// - 2: the input was read to its end, and after the last supported message stands something that is none: a frame that is no
+///   supported message, a length outside 1 to 1,048,576, or a begun frame. What stands before it is served and written.
 /// - 3: the source met a fault. What it gave before is served and written.
 /// - 4: the sink met a fault. What is out is a prefix of what was to be written.
 /// - 5: memory ran out. What is out is a prefix of what was to be written.

@@ -10,12 +10,13 @@ ghost use Rattle.elastic_notebook.specs.Intake as intake;
 ghost use Rattle.elastic_notebook.specs.Served as spec;
 ghost use Rattle.elastic_notebook.specs.Served.{AddsFront};
 
+use crate::fault::ServeFault;
 use crate::intake::{Cell, next_cell, next_opening};
-use crate::stop::Stop;
 use crate::streams::write_all;
 use jupyter_messages::Message;
 use nb_outside::Sink;
 use plain_data::Items;
+use py_answer::answer;
 use py_kernel::Kernel;
 use reply_frames::Outbox;
 use std::alloc::{AllocError, Global};
@@ -25,17 +26,17 @@ use std::mem;
 const MOST_REQUESTS: u32 = 65_536;
 
 /// Writes the frames of an outbox, and leaves it without frames. After an error the first of their bytes are written.
-fn send<K: Sink>(alloc: Global, sink: &mut K, outbox: &mut Outbox) -> Result<(), Stop>
+fn send<K: Sink>(alloc: Global, sink: &mut K, outbox: &mut Outbox) -> Result<(), ServeFault>
     ensures ok { OnOk result (Adds (K.written sink.old) (K.written sink.new) outbox.old.bytes) }
     ensures err { OnErr result (AddsFront (K.written sink.old) (K.written sink.new) outbox.old.bytes) }
-    ensures fault { result ≡ Err Stop.SinkFault → HasRisen (K.faults sink.old) (K.faults sink.new) }
+    ensures fault { result ≡ Err ServeFault.Sink → HasRisen (K.faults sink.old) (K.faults sink.new) }
     ensures faults_stay { K.faults sink.old ≤ K.faults sink.new }
     ensures outbox { outbox.new ≡ record outbox.old { bytes = [] } }
 {
     let bytes = mem::replace(&mut outbox.bytes, Items::new(alloc));
     match write_all(sink, bytes.as_slice()) {
         Ok(()) => Ok(()),
-        Err(_) => Err(Stop::SinkFault),
+        Err(_) => Err(ServeFault::Sink),
     }
 }
 
@@ -55,11 +56,11 @@ fn answer_cell(
     ensures counted { OnOk result (kernel.new.state.count ≡ kernel.old.state.count + 1) }
 {
     let code = cell.code.as_str();
-    let reply = kernel.answer(alloc, code)?;
+    let reply = answer(alloc, kernel, code)?;
     outbox.ran(alloc, &cell.request, code, &reply)
 }
 
-/// Serves the cells of a kernel at the front of the bytes, and gives what stands behind them. After an error the first
+/// Serves the cells of a kernel at the front of the bytes, and gives what stands after them. After an error the first
 /// bytes of what was to be written are written.
 fn serve_cells<'a, K: Sink>(
     alloc: Global,
@@ -67,14 +68,14 @@ fn serve_cells<'a, K: Sink>(
     outbox: &mut Outbox,
     kernel: u128,
     bytes: &'a [u8],
-) -> Result<&'a [u8], Stop>
+) -> Result<&'a [u8], ServeFault>
     requires { outbox.old.bytes ≡ [] }
     ensures rest { IfOk result (λ rest. rest.now ≡ (intake.cells spec.most_requests kernel bytes.now).1) }
     ensures ok { OnOk result (Adds (K.written sink.old) (K.written sink.new)
         (spec.cell_frames outbox.old.kernel empty outbox.old.running (intake.cells spec.most_requests kernel bytes.now).0)) }
     ensures err { OnErr result (AddsFront (K.written sink.old) (K.written sink.new)
         (spec.cell_frames outbox.old.kernel empty outbox.old.running (intake.cells spec.most_requests kernel bytes.now).0)) }
-    ensures fault { result ≡ Err Stop.SinkFault → HasRisen (K.faults sink.old) (K.faults sink.new) }
+    ensures fault { result ≡ Err ServeFault.Sink → HasRisen (K.faults sink.old) (K.faults sink.new) }
     ensures faults_stay { K.faults sink.old ≤ K.faults sink.new }
 {
     let mut session = Kernel::new(alloc);
@@ -83,11 +84,11 @@ fn serve_cells<'a, K: Sink>(
         let (cell, more) = match next_cell(alloc, kernel, rest) {
             Ok(Some(found)) => found,
             Ok(None) => return Ok(rest),
-            Err(_) => return Err(Stop::OutOfMemory),
+            Err(_) => return Err(ServeFault::OutOfMemory),
         };
         match answer_cell(alloc, outbox, &mut session, &cell) {
             Ok(()) => {}
-            Err(_) => return Err(Stop::OutOfMemory),
+            Err(_) => return Err(ServeFault::OutOfMemory),
         }
         match send(alloc, sink, outbox) {
             Ok(()) => {}
@@ -109,7 +110,7 @@ fn opened(alloc: Global, opening: &Message) -> Result<Outbox, AllocError>
     Ok(outbox)
 }
 
-/// Serves an opened kernel, whose cells stand at the front of the bytes, and gives what stands behind them. After an error
+/// Serves an opened kernel, whose cells stand at the front of the bytes, and gives what stands after them. After an error
 /// the first bytes of what was to be written are written.
 #[tactic(auto, unfolding(crate::specs::Served::session_frames))]
 fn serve_session<'a, K: Sink>(
@@ -117,18 +118,18 @@ fn serve_session<'a, K: Sink>(
     sink: &mut K,
     opening: &Message,
     bytes: &'a [u8],
-) -> Result<&'a [u8], Stop>
+) -> Result<&'a [u8], ServeFault>
     ensures rest { IfOk result (λ rest. rest.now ≡ (intake.cells spec.most_requests opening.now.kernel bytes.now).1) }
     ensures ok { OnOk result (Adds (K.written sink.old) (K.written sink.new)
         (spec.session_frames opening.now (intake.cells spec.most_requests opening.now.kernel bytes.now).0)) }
     ensures err { OnErr result (AddsFront (K.written sink.old) (K.written sink.new)
         (spec.session_frames opening.now (intake.cells spec.most_requests opening.now.kernel bytes.now).0)) }
-    ensures fault { result ≡ Err Stop.SinkFault → HasRisen (K.faults sink.old) (K.faults sink.new) }
+    ensures fault { result ≡ Err ServeFault.Sink → HasRisen (K.faults sink.old) (K.faults sink.new) }
     ensures faults_stay { K.faults sink.old ≤ K.faults sink.new }
 {
     let mut outbox = match opened(alloc, opening) {
         Ok(outbox) => outbox,
-        Err(_) => return Err(Stop::OutOfMemory),
+        Err(_) => return Err(ServeFault::OutOfMemory),
     };
     match send(alloc, sink, &mut outbox) {
         Ok(()) => {}
@@ -137,19 +138,23 @@ fn serve_session<'a, K: Sink>(
     serve_cells(alloc, sink, &mut outbox, opening.kernel, bytes)
 }
 
-/// Serves a stream of bytes, and gives what stands behind its last built message. After an error the first bytes of what
+/// Serves a stream of bytes, and gives what stands after its last supported message. After an error the first bytes of what
 /// was to be written are written.
 #[tactic(auto, unfolding(crate::specs::Served::outcome))]
-pub fn serve<'a, K: Sink>(alloc: Global, sink: &mut K, bytes: &'a [u8]) -> Result<&'a [u8], Stop>
-    ensures rest { IfOk result (λ rest. rest.now ≡ spec.behind bytes.now) }
+pub fn serve<'a, K: Sink>(
+    alloc: Global,
+    sink: &mut K,
+    bytes: &'a [u8],
+) -> Result<&'a [u8], ServeFault>
+    ensures rest { IfOk result (λ rest. rest.now ≡ spec.unserved bytes.now) }
     ensures ok { OnOk result (Adds (K.written sink.old) (K.written sink.new) (spec.output bytes.now)) }
     ensures err { OnErr result (AddsFront (K.written sink.old) (K.written sink.new) (spec.output bytes.now)) }
-    ensures fault { result ≡ Err Stop.SinkFault → HasRisen (K.faults sink.old) (K.faults sink.new) }
+    ensures fault { result ≡ Err ServeFault.Sink → HasRisen (K.faults sink.old) (K.faults sink.new) }
     ensures faults_stay { K.faults sink.old ≤ K.faults sink.new }
 {
     match next_opening(alloc, bytes) {
         Ok(Some((opening, rest))) => serve_session(alloc, sink, &opening, rest),
         Ok(None) => Ok(bytes),
-        Err(_) => Err(Stop::OutOfMemory),
+        Err(_) => Err(ServeFault::OutOfMemory),
     }
 }

@@ -93,7 +93,7 @@ fn faults_of_the_outside(rt: HostRuntime) -> Result<(), Fail> {
 }
 
 #[test]
-fn unbuilt_input(rt: HostRuntime) -> Result<(), Fail> {
+fn unsupported_input(rt: HostRuntime) -> Result<(), Fail> {
     let (status, written) = served(&rt, &[], &[], &[])?;
     assert_eq!(rt; status, 0);
     assert_eq!(rt; written.len(), 0);

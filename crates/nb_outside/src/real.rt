@@ -1,11 +1,44 @@
-ghost use Rattle.std.specs.Prelude.{None};
+ghost use Rattle.std.specs.Prelude.{None, ◌≤◌, length};
+ghost use Rattle.std.specs.Option.{IfSome};
 ghost use Rattle.nb_outside.specs.Real.{IsNewSource, IsNewSink};
 
 use crate::sink::{Sink, WriteEnd};
 use crate::source::{ReadEnd, Source};
-use std::io::{Read, Write};
+use std::io::{ErrorKind, Read, Write};
 
-/// A source over any reader, as standard input. It doesn't tell what it has left.
+/// How often a call that a signal interrupts is made again before that counts as a fault.
+const MOST_RETRIES: u32 = u32::MAX;
+
+/// How many bytes a read gave, made again if a signal interrupts it. `None` if reading fails.
+fn read_retrying<R: Read>(reader: &mut R, into: &mut [u8]) -> Option<usize>
+    ensures { IfSome result (λ count. count ≤ length into.old) }
+{
+    for _ in 0..MOST_RETRIES {
+        match reader.read(into) {
+            Ok(count) => return Some(count),
+            Err(error) if error.kind() == ErrorKind::Interrupted => {}
+            Err(_) => return None,
+        }
+    }
+    None
+}
+
+/// How many bytes a write took, made again if a signal interrupts it. `None` if writing fails.
+fn write_retrying<W: Write>(writer: &mut W, bytes: &[u8]) -> Option<usize>
+    ensures { IfSome result (λ count. count ≤ length bytes.now) }
+{
+    for _ in 0..MOST_RETRIES {
+        match writer.write(bytes) {
+            Ok(count) => return Some(count),
+            Err(error) if error.kind() == ErrorKind::Interrupted => {}
+            Err(_) => return None,
+        }
+    }
+    None
+}
+
+/// A source over any reader, as standard input. It doesn't tell what it has left. A call that a signal interrupts is made
+/// again; a reader that would block, as one set not to wait, has met a fault.
 #[derive(Drop)]
 pub struct StdSource<R: Read + Drop> {
     reader: R,
@@ -34,14 +67,14 @@ impl<R: Read + Drop> Source for StdSource<R> {
     ghost left = { λ _. None };
 
     fn read(&mut self, into: &mut [u8]) -> ReadEnd {
-        match self.reader.read(into) {
-            Ok(count) => {
+        match read_retrying(&mut self.reader, into) {
+            Some(count) => {
                 if 0 < count {
                     self.reads = self.reads.saturating_add(1);
                 }
                 ReadEnd::Bytes(count)
             }
-            Err(_) => {
+            None => {
                 self.faults = self.faults.saturating_add(1);
                 ReadEnd::Failed
             }
@@ -49,7 +82,8 @@ impl<R: Read + Drop> Source for StdSource<R> {
     }
 }
 
-/// A sink over any writer, as standard output. It doesn't tell what was written.
+/// A sink over any writer, as standard output. It doesn't tell what was written. A call that a signal interrupts is made
+/// again; a writer that would block, as one set not to wait, has met a fault.
 #[derive(Drop)]
 pub struct StdSink<W: Write + Drop> {
     writer: W,
@@ -71,8 +105,8 @@ impl<W: Write + Drop> Sink for StdSink<W> {
     ghost written = { λ _. None };
 
     fn write(&mut self, bytes: &[u8]) -> WriteEnd {
-        match self.writer.write(bytes) {
-            Ok(count) if 0 < count || bytes.is_empty() => WriteEnd::Wrote(count),
+        match write_retrying(&mut self.writer, bytes) {
+            Some(count) if 0 < count || bytes.is_empty() => WriteEnd::Wrote(count),
             _ => {
                 self.faults = self.faults.saturating_add(1);
                 WriteEnd::Failed
@@ -84,7 +118,31 @@ impl<W: Write + Drop> Sink for StdSink<W> {
 #[cfg(test)]
 mod tests {
     use crate::{ReadEnd, Sink, Source, StdSink, StdSource, WriteEnd};
+    use std::io::{self, ErrorKind, Read};
     use std::test::Fail;
+
+    // A reader whose first call a signal interrupts.
+    #[derive(Drop)]
+    struct Interrupted {
+        called: bool,
+    }
+
+    impl Read for Interrupted {
+        fn read(&mut self, into: &mut [u8]) -> io::Result<usize> {
+            if self.called {
+                return Ok(into.len());
+            }
+            self.called = true;
+            Err(io::Error::from(ErrorKind::Interrupted))
+        }
+    }
+
+    #[test]
+    fn an_interrupted_read_is_made_again(rt: HostRuntime) {
+        let mut source = StdSource::new(Interrupted { called: false });
+        let mut piece = [0u8; 2];
+        assert_eq!(rt; source.read(&mut piece), ReadEnd::Bytes(2));
+    }
 
     #[test]
     fn reads_a_reader_to_its_end(rt: HostRuntime) {

@@ -76,7 +76,7 @@ impl<T> Items<T> {
         self.items.get(at)
     }
 
-    /// Takes the element at that place out; those behind it move down.
+    /// Takes the element at that place out; those after it move down.
     pub fn remove(&mut self, at: usize) -> T
         requires { at < length self.old }
         ensures value { slice_get self.old at ≡ Some result }

@@ -13,8 +13,8 @@ use Rattle.py_token.specs.declared.kinds.Kind.{Kind}
 use Rattle.py_token.specs.declared.kinds.Kind.TheVariants as t
 use Rattle.py_token.specs.declared.kinds.Keyword as keyword
 use Rattle.py_token.specs.declared.kinds.Keyword.TheVariants as k
-use Rattle.py_token.specs.declared.kinds.Op as operator
-use Rattle.py_token.specs.declared.kinds.Op.TheVariants as o
+use Rattle.py_token.specs.declared.kinds.Symbol as operator
+use Rattle.py_token.specs.declared.kinds.Symbol.TheVariants as o
 use Rattle.py_token.specs.declared.kinds.Token.{Token}
 use Rattle.py_token.specs.Spellings.{word, sign, are_digits, is_quote, SpellsText, Spells}
 use Rattle.py_token.specs.Lexemes.{next_is}
@@ -108,7 +108,7 @@ word_ascii k.While = refl
 word_ascii k.With = refl
 word_ascii k.Yield = refl
 
-sign_ascii : (o : operator.Op) → list_all is_ascii (sign o) ≡ true
+sign_ascii : (o : operator.Symbol) → list_all is_ascii (sign o) ≡ true
 sign_ascii o.FloorAssign = refl
 sign_ascii o.PlusAssign = refl
 sign_ascii o.MinusAssign = refl
@@ -178,7 +178,7 @@ spelled_last (t.Keyword k) bytes s = rw s (ascii_last (word k) (word_ascii k))
 spelled_last (t.Number (pos n)) bytes s = ascii_last bytes (digits_ascii bytes s.digits)
 spelled_last (t.Number (negsuc n)) bytes s = absurd s
 spelled_last (t.Text value) bytes s = text_last bytes value s
-spelled_last (t.Op o) bytes s = rw s (ascii_last (sign o) (sign_ascii o))
+spelled_last (t.Symbol o) bytes s = rw s (ascii_last (sign o) (sign_ascii o))
 spelled_last t.Newline bytes s = ⊎_elim (λ is. rw is (omega arith)) (nil_last bytes) s
 spelled_last t.Indent bytes s = nil_last bytes s
 spelled_last t.Dedent bytes s = nil_last bytes s
@@ -229,7 +229,7 @@ blank_cut code p utf8 (comment words {gap} {rest} all stop b) fits is cut =
     let fits_more : p + suc (length words) ≤ length code = omega arith in
     moved code (p + suc (length words) + length gap) _ (omega arith) (blank_cut code (p + suc (length words)) utf8 b fits_more behind (cut_before code _ (gap ++ rest) fits_more behind stop))
 
--- behind bytes whose last is ASCII
+-- after bytes whose last is ASCII
 spelling_cut : (code : List ℕ) (i j : ℕ) → IsUtf8 code → i ≤ j → j ≤ length code → LastAscii (slice_range code i j) → IsCharBoundary code i → IsCharBoundary code j
 spelling_cut code i j utf8 ordered within last cut = choose (nat_lt i j) refl
   where
@@ -257,20 +257,20 @@ pub record Cut (code : List ℕ) (t : Token) : Type 0 where
 
 pub token_cut : (code : List ℕ) (from : ℕ) (t : Token) → IsUtf8 code → Stands code from t → IsCharBoundary code from → Cut code t
 token_cut code from t utf8 s cut =
-    let split : drop from code ≡ slice_range code from t.start ++ drop t.start code = sym (take-append-drop (t.start - from) (drop from code)) ∙ ap (λ b. slice_range code from t.start ++ b) (drop-drop (t.start - from) from code ∙ ap (λ n. drop n code) (let h = s.behind in omega arith)) in
-    let fits : from ≤ length code = (let h = s.behind in let k = s.ordered in let m = s.within in omega arith) in
-    let gap : length (slice_range code from t.start) ≡ t.start - from = (let h = s.behind in let k = s.ordered in let m = s.within in simp (length-take, length-drop) (omega arith)) in
-    let start : IsCharBoundary code t.start = moved code _ _ (let h = s.behind in omega arith) (blank_cut code from utf8 s.blank fits split cut) in
+    let split : drop from code ≡ slice_range code from t.start ++ drop t.start code = sym (take-append-drop (t.start - from) (drop from code)) ∙ ap (λ b. slice_range code from t.start ++ b) (drop-drop (t.start - from) from code ∙ ap (λ n. drop n code) (let h = s.after in omega arith)) in
+    let fits : from ≤ length code = (let h = s.after in let k = s.ordered in let m = s.within in omega arith) in
+    let gap : length (slice_range code from t.start) ≡ t.start - from = (let h = s.after in let k = s.ordered in let m = s.within in simp (length-take, length-drop) (omega arith)) in
+    let start : IsCharBoundary code t.start = moved code _ _ (let h = s.after in omega arith) (blank_cut code from utf8 s.blank fits split cut) in
     record { before = start; after = spelling_cut code t.start t.end utf8 s.ordered s.within (spelled_last t.kind _ s.spelled) start }
 
--- tokens that begin and end between characters, one behind the other
+-- tokens that begin and end between characters, one after the other
 abbrev pub Along : List ℕ → ℕ → List Token → Type 0
 Along code at [] = Unit {0}
 Along code at (t ∷ ts) = (at ≤ t.start) × (t.start ≤ t.end) × IsCharBoundary code t.start × IsCharBoundary code t.end × Along code t.end ts
 
 pub covered : (code : List ℕ) (at : ℕ) (ts : List Token) → IsUtf8 code → Cover code at ts → IsCharBoundary code at → Along code at ts
 covered code at [] utf8 c cut = tt
-covered code at (t ∷ ts) utf8 c cut = let both = token_cut code at t utf8 c.0 cut in (c.0.behind, c.0.ordered, both.before, both.after, covered code t.end ts utf8 c.1 both.after)
+covered code at (t ∷ ts) utf8 c cut = let both = token_cut code at t utf8 c.0 cut in (c.0.after, c.0.ordered, both.before, both.after, covered code t.end ts utf8 c.1 both.after)
 
 along_take : (n : ℕ) (code : List ℕ) (at : ℕ) (ts : List Token) → Along code at ts → Along code at (take n ts)
 along_take zero code at ts a = tt
@@ -304,7 +304,7 @@ each_found P test (x ∷ xs) t h is = found (test x) is (each_found P test xs t 
     found true e inner = let same : x ≡ t = cc in subst P same h.0
     found false e inner = inner e
 
--- a token behind a place ends between characters
+-- a token after a place ends between characters
 record Ends (code : List ℕ) (from : ℕ) (t : Token) : Type 0 where
   pub later : from ≤ t.end
   pub after : IsCharBoundary code t.end

@@ -8,7 +8,7 @@ use Rattle.py_tree.specs.declared.expressions.Operand.{Operand}
 use Rattle.py_tree.specs.declared.expressions.Pair.{Pair}
 use Rattle.py_tree.specs.declared.expressions.Relation.{Relation}
 use Rattle.py_tree.specs.declared.expressions.Relation.TheVariants as relation
-use Rattle.py_grammar.specs.Expressions.{Expression, plain, pick, Ors, ors_one, ors_more, Ands, ands_one, ands_more, Negation, compared, negated, Compares, compares_one, compares_more, compares_none, compares_not_none, Relational, equal, not_equal, less, at_most, greater, at_least, within, not_within, Sums, sums_one, sums_more, Additive, plus, minus, Products, products_one, products_more, Multiplicative, times, floor, modulo, Signed, unsigned, signed, Primary, name, number, text, nothing, truth, falsity, group, display, dict, call, index, slice, function, method, unbounded, bounded, Args, no_args, args, args_comma, Elements, elements_one, elements_more, Entries, no_entries, entries, entries_comma, Pairs, pairs_one, pairs_more, spell_relational, additive_sign, multiplicative_sign, spell_expression, spell_ors, spell_ands, spell_negation, spell_sums, spell_products, spell_signed, spell_args}
+use Rattle.py_grammar.specs.Expressions.{Expression, plain, conditional, Ors, ors_one, ors_more, Ands, ands_one, ands_more, Negation, compared, negated, Compares, compares_one, compares_more, compares_none, compares_not_none, Relational, equal, not_equal, less, at_most, greater, at_least, within, not_within, Sums, sums_one, sums_more, Additive, plus, minus, Products, products_one, products_more, Multiplicative, times, floor, modulo, Signed, unsigned, signed, Primary, name, number, text, nothing, truth, falsity, group, display, dict, call, index, slice, function, method, unbounded, bounded, Args, no_args, args, args_comma, Elements, elements_one, elements_more, Entries, no_entries, entries, entries_comma, Pairs, pairs_one, pairs_more, spell_relational, additive_sign, multiplicative_sign, spell_expression, spell_ors, spell_ands, spell_negation, spell_sums, spell_products, spell_signed, spell_args}
 use Rattle.py_grammar.specs.Words.{and_word, or_word, not_word, if_word, else_word, is_word, none_word, open_parenthesis, close_parenthesis, open_bracket, close_bracket, close_brace, colon, comma, dot}
 use Rattle.py_grammar.specs.Trees as tree
 use Rattle.py_grammar.specs.Trees.{Source}
@@ -93,7 +93,7 @@ module _ (source : Source) (items : List Item) where
   mutual
     pub expression-built : (a : Expression) (rest : List Kind) (es : List Entry) → run source (post_expression a rest es) items ≡ i.Expr (tree.tree_expression a) ∷ run source es items
     expression-built (plain a) rest es = ors-built a rest es
-    expression-built (pick a test b) rest es =
+    expression-built (conditional a test b) rest es =
         let behind_test = else_word ∷ spell_expression b rest in
         let behind_first = if_word ∷ spell_ors test behind_test in
         on_three build.choice (expression-built b rest (post_ors test behind_test (post_ors a behind_first es))) (ors-built test behind_test (post_ors a behind_first es)) (ors-built a behind_first es)

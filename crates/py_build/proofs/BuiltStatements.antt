@@ -8,7 +8,7 @@ use Rattle.py_tree.specs.declared.statements.Stmt.TheVariants as s
 use Rattle.py_tree.specs.declared.statements.Arm.{Arm}
 use Rattle.py_grammar.specs.Words.{else_word, elif_word, assign_sign, open_bracket, close_bracket, colon}
 use Rattle.py_grammar.specs.Expressions.{Expression, spell_expression}
-use Rattle.py_grammar.specs.Statements.{Place, to_name, to_item, Augmentation, by_plus, by_minus, by_times, by_floor, by_modulo, Names, names_one, names_more, idle, stop, skip, Simple, word, leave, give, declare, delete, assign, augment, show, Params, no_params, params, params_comma, Statement, simple, compound, choose, otherwise, while_true, for_each, define, Condition, if_true, else_if, Branches, branches, Block, inline, indented, Statements, statements_one, statements_more, augmentation_sign, spell_statement, spell_block, Around, statement_stands, condition_stands, branches_stand, block_stands, statements_stand}
+use Rattle.py_grammar.specs.Statements.{Target, to_name, to_item, Augmentation, by_plus, by_minus, by_times, by_floor, by_modulo, Names, names_one, names_more, pass_, break_, continue_, Simple, word, return_, give, declare, delete, assign, augment, show, Params, no_params, params, params_comma, Statement, simple, compound, choose, otherwise, while_true, for_each, define, Condition, if_true, else_if, Branches, branches, Block, inline, indented, Statements, statements_one, statements_more, augmentation_sign, spell_statement, spell_block, Around, statement_stands, condition_stands, branches_stand, block_stands, statements_stand}
 use Rattle.py_grammar.specs.Trees as tree
 use Rattle.py_grammar.specs.Trees.{Source}
 use Rattle.py_postfix.specs.declared.entries.Node.TheVariants as n
@@ -33,7 +33,7 @@ with_block body items = i.Block (block_on items ++ body) ∷ below items
 abbrev pub with_names : List (List ℕ) → List Item → List Item
 with_names names items = i.Names (names_on items ++ names) ∷ below items
 
--- one more branch, and a block behind `else`, of an `if` that was stated
+-- one more branch, and a block after `else`, of an `if` that was stated
 widened-more : (before : List Arm) (arm : Arm) (items : List Item) → i.Block (front (block_on items ++ s.If before [] ∷ []) ++ s.If (last_arms (block_on items ++ s.If before [] ∷ []) ++ arm ∷ []) [] ∷ []) ∷ below items ≡ stated (s.If (before ++ arm ∷ []) []) items
 widened-more before arm items = rw (front-append (block_on items) (s.If before []), last_arms-append (block_on items) (s.If before []), arms_of-if before []) refl
 
@@ -44,7 +44,7 @@ nowhere : (a : Around) → a.top ≡ false → IsTrue a.top → ⊥
 nowhere a low top = cc
 
 -- the operators of the postfix form are those of the tree
-augment-same : (to : Place) (by : Augmentation) (a : Expression) → s.Augment (tree.tree_place to) (augmentation_op by) (tree.tree_expression a) ≡ tree.tree_simple (augment to by a)
+augment-same : (to : Target) (by : Augmentation) (a : Expression) → s.Augment (tree.tree_target to) (augmentation_op by) (tree.tree_expression a) ≡ tree.tree_simple (augment to by a)
 augment-same to by_plus a = refl
 augment-same to by_minus a = refl
 augment-same to by_times a = refl
@@ -57,11 +57,11 @@ on_condition (if_true a) items = i.Expr (tree.tree_expression a) ∷ items
 on_condition (else_if bs a) items = i.Expr (tree.tree_expression a) ∷ stated (s.If (tree.arms bs) []) items
 
 module _ (source : Source) (items : List Item) where
-  place-built : (to : Place) (rest : List Kind) (es : List Entry) → run source (post_place to rest es) items ≡ i.Place (tree.tree_place to) ∷ run source es items
+  place-built : (to : Target) (rest : List Kind) (es : List Entry) → run source (post_place to rest es) items ≡ i.Target (tree.tree_target to) ∷ run source es items
   place-built (to_name m) rest es = refl
   place-built (to_item p a) rest es =
       let behind = open_bracket ∷ spell_expression a (close_bracket ∷ rest) in
-      on_two build.item_place (expression-built source items a (close_bracket ∷ rest) (post_primary p behind es)) (primary-built source items p behind es)
+      on_two build.item_target (expression-built source items a (close_bracket ∷ rest) (post_primary p behind es)) (primary-built source items p behind es)
 
   names-built : (ns : Names) (es : List Entry) → run source (post_names ns es) items ≡ with_names (tree.tree_names ns) (run source es items)
   names-built (names_one m) es = refl
@@ -73,10 +73,10 @@ module _ (source : Source) (items : List Item) where
   params-built (params_comma ns) es = names-built ns (post.mark n.NoNames es)
 
   simple-built : (x : Simple) (rest : List Kind) (es : List Entry) → run source (post_simple x rest es) items ≡ stated (tree.tree_simple x) (run source es items)
-  simple-built (word idle) rest es = refl
-  simple-built (word stop) rest es = refl
-  simple-built (word skip) rest es = refl
-  simple-built leave rest es = refl
+  simple-built (word pass_) rest es = refl
+  simple-built (word break_) rest es = refl
+  simple-built (word continue_) rest es = refl
+  simple-built return_ rest es = refl
   simple-built (give a) rest es = ap (build.return_of true) (expression-built source items a rest es)
   simple-built (declare ns) rest es = ap build.global_of (names-built ns (post.mark n.NoNames es))
   simple-built (delete to) rest es = ap build.delete_of (place-built to rest es)

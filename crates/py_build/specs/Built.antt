@@ -4,7 +4,7 @@ use Rattle.py_token.specs.declared.kinds.Kind.{Kind}
 use Rattle.py_token.specs.declared.kinds.Token.{Token}
 use Rattle.py_tree.specs.declared.expressions.Expr.TheVariants as e
 use Rattle.py_tree.specs.declared.expressions.Relation.TheVariants as relation
-use Rattle.py_tree.specs.declared.expressions.Place.TheVariants as place
+use Rattle.py_tree.specs.declared.expressions.Target.TheVariants as target
 use Rattle.py_tree.specs.declared.statements.Stmt.{Stmt}
 use Rattle.py_tree.specs.declared.statements.Stmt.TheVariants as s
 use Rattle.py_postfix.specs.declared.entries.Entry.{Entry}
@@ -12,16 +12,16 @@ use Rattle.py_postfix.specs.declared.entries.Node.{Node}
 use Rattle.py_postfix.specs.declared.entries.Node.TheVariants as n
 use Rattle.py_grammar.specs.Trees.{Source}
 use Rattle.py_build.specs.declared.items.Item.{Item}
-use Rattle.py_build.specs.declared.items.Item.TheVariants.{Expr as an_expression, Terms, Pairs, Place as a_place, Names, Target, Block}
+use Rattle.py_build.specs.declared.items.Item.TheVariants.{Expr as an_expression, Terms, Pairs, Target as a_target, Names, Name as a_name, Block}
 use Rattle.py_build.specs.Items.{block_on}
 use Rattle.py_build.specs.Expressions.{first_term, next_term, next_pair, list_display, dict_display, call, method_call, or_chain, and_chain, first_compared, related, next_compared, comparison, first_operand, next_operand, sum_of, product_of, sign_of, negation, choice, index_of, slice_of}
-use Rattle.py_build.specs.Statements.{stated, item_place, next_name, return_of, global_of, delete_of, assign_of, augment_of, show_of, if_of, elif_of, else_of, while_of, for_of, function_of}
+use Rattle.py_build.specs.Statements.{stated, item_target, next_name, return_of, global_of, delete_of, assign_of, augment_of, show_of, if_of, elif_of, else_of, while_of, for_of, function_of}
 use Rattle.py_build.specs.Source.{source_of}
 
--- what an entry of a place, of names or of a statement makes of the items
+-- what an entry of a target, of names or of a statement makes of the items
 abbrev pub applied_statement : Node → List Item → List Item
-applied_statement (n.ToName name) items = a_place (place.Name name) ∷ items
-applied_statement n.ToItem items = item_place items
+applied_statement (n.ToName name) items = a_target (target.Name name) ∷ items
+applied_statement n.ToItem items = item_target items
 applied_statement n.Pass items = stated s.Pass items
 applied_statement n.Break items = stated s.Break items
 applied_statement n.Continue items = stated s.Continue items
@@ -33,7 +33,7 @@ applied_statement n.Delete items = delete_of items
 applied_statement n.Assign items = assign_of items
 applied_statement (n.Augment op) items = augment_of op items
 applied_statement n.Show items = show_of items
-applied_statement (n.Target name) items = Target name ∷ items
+applied_statement (n.Target name) items = a_name name ∷ items
 applied_statement n.Block items = Block [] ∷ items
 applied_statement n.If items = if_of items
 applied_statement n.Elif items = elif_of items

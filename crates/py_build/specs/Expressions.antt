@@ -67,7 +67,7 @@ first_compared items = Compared (record { first = expr_on items; rest = [] }) �
 abbrev pub related : Relation → List Item → List Item
 related step items = Compared (record { first = (compared_on items).first; rest = (compared_on items).rest ++ step ∷ [] }) ∷ below items
 
--- the chain with the expression above it at its end, behind this operator
+-- the chain with the expression above it at its end, after this operator
 abbrev pub next_compared : Op → List Item → List Item
 next_compared op items = related (relation.With op (expr_on items)) (below items)
 
@@ -79,7 +79,7 @@ comparison items = for_one (e.Compare (compared_on items).first (compared_on ite
 abbrev pub first_operand : List Item → List Item
 first_operand items = Operated (record { first = expr_on items; rest = [] }) ∷ below items
 
--- the sum or product with the expression above it at its end, behind this operator
+-- the sum or product with the expression above it at its end, after this operator
 abbrev pub next_operand : Op → List Item → List Item
 next_operand op items = Operated (record { first = (operated_on (below items)).first; rest = (operated_on (below items)).rest ++ record { op = op; value = expr_on items } ∷ [] }) ∷ below (below items)
 
@@ -103,7 +103,7 @@ negation items = for_one (e.Not (expr_on items)) items
 
 -- what is chosen, the test and what is chosen else, from below up
 abbrev pub choice : List Item → List Item
-choice items = for_three (e.Pick (expr_on (below items)) (expr_on (below (below items))) (expr_on items)) items
+choice items = for_three (e.Conditional (expr_on (below items)) (expr_on (below (below items))) (expr_on items)) items
 
 -- the item of the lower expression at the upper
 abbrev pub index_of : List Item → List Item

@@ -4,11 +4,11 @@ use Rattle.py_tree.specs.declared.expressions.Expr.{Expr}
 use Rattle.py_tree.specs.declared.expressions.Expr.TheVariants as e
 use Rattle.py_tree.specs.declared.expressions.Literal.TheVariants as literal
 use Rattle.py_tree.specs.declared.expressions.Pair.{Pair}
-use Rattle.py_tree.specs.declared.expressions.Place.{Place}
-use Rattle.py_tree.specs.declared.expressions.Place.TheVariants as place
+use Rattle.py_tree.specs.declared.expressions.Target.{Target}
+use Rattle.py_tree.specs.declared.expressions.Target.TheVariants as target
 use Rattle.py_tree.specs.declared.statements.Stmt.{Stmt}
 use Rattle.py_build.specs.declared.items.Item.{Item}
-use Rattle.py_build.specs.declared.items.Item.TheVariants.{Expr as an_expression, Terms, Pairs, Compared, Operated, Place as a_place, Names, Target, Block}
+use Rattle.py_build.specs.declared.items.Item.TheVariants.{Expr as an_expression, Terms, Pairs, Compared, Operated, Target as a_target, Names, Name as a_name, Block}
 use Rattle.py_build.specs.declared.items.Comparison.{Comparison}
 use Rattle.py_build.specs.declared.items.Operation.{Operation}
 
@@ -46,10 +46,10 @@ abbrev pub operated_on : List Item → Operation
 operated_on (Operated chain ∷ items) = chain
 operated_on _ = record { first = no_expr; rest = [] }
 
--- the place on the top
-abbrev pub place_on : List Item → Place
-place_on (a_place to ∷ items) = to
-place_on _ = place.Name []
+-- the target on the top
+abbrev pub target_on : List Item → Target
+target_on (a_target to ∷ items) = to
+target_on _ = target.Name []
 
 -- the names on the top
 abbrev pub names_on : List Item → List (List ℕ)
@@ -57,9 +57,9 @@ names_on (Names names ∷ items) = names
 names_on _ = []
 
 -- the name of a function or loop on the top
-abbrev pub target_on : List Item → List ℕ
-target_on (Target name ∷ items) = name
-target_on _ = []
+abbrev pub name_on : List Item → List ℕ
+name_on (a_name name ∷ items) = name
+name_on _ = []
 
 -- the block on the top
 abbrev pub block_on : List Item → List Stmt

@@ -15,25 +15,25 @@ use crate::expressions::{
     negation, next_pair, next_term, or_chain, push_expr, sign_of, slice_of,
 };
 use crate::items::{Item, pop_block};
-use crate::places::{item_place, name_place, next_name};
 use crate::source::source_text;
 use crate::statements::{
     assign_of, augment_of, delete_of, elif_of, else_of, for_of, function_of, global_of, if_of,
     return_of, show_of, state, while_of,
 };
+use crate::targets::{item_target, name_target, next_name};
 use plain_data::{Items, Stack, Text};
 use py_postfix::{Entry, Node};
 use py_token::Token;
 use py_tree::{Expr, Relation, Stmt};
 use std::alloc::{AllocError, Global};
 
-/// What an entry of a place, of names or of a statement makes of the items.
+/// What an entry of a target, of names or of a statement makes of the items.
 fn apply_statement(alloc: Global, node: Node, items: &mut Stack<Item>) -> Result<(), AllocError>
     ensures { OnOk result (items.new ≡ applied_statement node items.old) }
 {
     match node {
-        Node::ToName(name) => name_place(name, items),
-        Node::ToItem => item_place(items),
+        Node::ToName(name) => name_target(name, items),
+        Node::ToItem => item_target(items),
         Node::Pass => state(alloc, Stmt::Pass, items),
         Node::Break => state(alloc, Stmt::Break, items),
         Node::Continue => state(alloc, Stmt::Continue, items),
@@ -45,7 +45,7 @@ fn apply_statement(alloc: Global, node: Node, items: &mut Stack<Item>) -> Result
         Node::Assign => assign_of(alloc, items),
         Node::Augment(op) => augment_of(alloc, op, items),
         Node::Show => show_of(alloc, items),
-        Node::Target(name) => items.push(Item::Target(name)),
+        Node::Target(name) => items.push(Item::Name(name)),
         Node::Block => items.push(Item::Block(Items::new(alloc))),
         Node::If => if_of(alloc, items),
         Node::Elif => elif_of(alloc, items),

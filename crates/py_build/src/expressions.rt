@@ -117,7 +117,7 @@ pub fn choice(alloc: Global, items: &mut Stack<Item>) -> Result<(), AllocError>
     let no = pop_boxed(alloc, items)?;
     let test = pop_boxed(alloc, items)?;
     let yes = pop_boxed(alloc, items)?;
-    push_expr(items, Expr::Pick { test, yes, no })
+    push_expr(items, Expr::Conditional { test, yes, no })
 }
 
 pub fn index_of(alloc: Global, items: &mut Stack<Item>) -> Result<(), AllocError>

@@ -1,8 +1,8 @@
 ghost use Rattle.std.specs.Prelude.{◌≡◌, [], ◌∷◌};
-ghost use Rattle.py_build.specs.Items.{below, expr_on, terms_on, pairs_on, compared_on, operated_on, place_on, names_on, target_on, block_on};
+ghost use Rattle.py_build.specs.Items.{below, expr_on, terms_on, pairs_on, compared_on, operated_on, target_on, names_on, name_on, block_on};
 
 use plain_data::{Items, Stack, Text};
-use py_tree::{Expr, Literal, Operand, Pair, Place, Relation, Stmt};
+use py_tree::{Expr, Literal, Operand, Pair, Relation, Stmt, Target};
 use std::alloc::Global;
 
 /// A chain of comparisons that may go on.
@@ -19,7 +19,7 @@ pub struct Operation {
     pub rest: Items<Operand>,
 }
 
-/// What an entry leaves for those behind it.
+/// What an entry leaves for those after it.
 #[derive(Drop)]
 pub enum Item {
     Expr(Expr),
@@ -27,9 +27,9 @@ pub enum Item {
     Pairs(Items<Pair>),
     Compared(Comparison),
     Operated(Operation),
-    Place(Place),
+    Target(Target),
     Names(Items<Text>),
-    Target(Text),
+    Name(Text),
     Block(Items<Stmt>),
 }
 
@@ -106,15 +106,15 @@ pub fn pop_operated(alloc: Global, items: &mut Stack<Item>) -> Operation
     }
 }
 
-pub fn pop_place(alloc: Global, items: &mut Stack<Item>) -> Place
-    ensures value { result ≡ place_on items.old }
+pub fn pop_target(alloc: Global, items: &mut Stack<Item>) -> Target
+    ensures value { result ≡ target_on items.old }
     ensures rest { items.new ≡ below items.old }
 {
     match items.pop() {
-        Some(Item::Place(place)) => place,
+        Some(Item::Target(target)) => target,
         other => {
             drop(other);
-            Place::Name(Text::from_string(String::new(alloc)))
+            Target::Name(Text::from_string(String::new(alloc)))
         }
     }
 }
@@ -132,12 +132,12 @@ pub fn pop_names(alloc: Global, items: &mut Stack<Item>) -> Items<Text>
     }
 }
 
-pub fn pop_target(alloc: Global, items: &mut Stack<Item>) -> Text
-    ensures value { result ≡ target_on items.old }
+pub fn pop_name(alloc: Global, items: &mut Stack<Item>) -> Text
+    ensures value { result ≡ name_on items.old }
     ensures rest { items.new ≡ below items.old }
 {
     match items.pop() {
-        Some(Item::Target(name)) => name,
+        Some(Item::Name(name)) => name,
         other => {
             drop(other);
             Text::from_string(String::new(alloc))

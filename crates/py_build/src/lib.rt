@@ -9,11 +9,9 @@ mod cells;
 mod chains;
 mod expressions;
 mod items;
-mod places;
 mod source;
 mod statements;
-#[cfg(test)]
-mod tests;
+mod targets;
 
 pub use cells::{build, listed};
 pub use source::{last_word, source_text};

@@ -3,7 +3,7 @@ ghost use Rattle.py_tree.specs.declared.statements.Arm.{Arm};
 ghost use Rattle.py_build.specs.Items.{below};
 ghost use Rattle.py_build.specs.Statements.{stated, return_of, global_of, delete_of, assign_of, augment_of, show_of, arm_on, if_of, arms_of, last_arms, front, widened, elif_of, else_of, while_of, for_of, function_of};
 
-use crate::items::{Item, pop_block, pop_expr, pop_names, pop_place, pop_target};
+use crate::items::{Item, pop_block, pop_expr, pop_name, pop_names, pop_target};
 use plain_data::{Items, Shared, Stack, Text};
 use py_tree::{Arm, Def, Op, Stmt};
 use std::alloc::{AllocError, Global};
@@ -40,24 +40,24 @@ pub fn global_of(alloc: Global, items: &mut Stack<Item>) -> Result<(), AllocErro
 pub fn delete_of(alloc: Global, items: &mut Stack<Item>) -> Result<(), AllocError>
     ensures { OnOk result (items.new ≡ delete_of items.old) }
 {
-    let place = pop_place(alloc, items);
-    state(alloc, Stmt::Delete(place), items)
+    let target = pop_target(alloc, items);
+    state(alloc, Stmt::Delete(target), items)
 }
 
 pub fn assign_of(alloc: Global, items: &mut Stack<Item>) -> Result<(), AllocError>
     ensures { OnOk result (items.new ≡ assign_of items.old) }
 {
     let value = pop_expr(items);
-    let place = pop_place(alloc, items);
-    state(alloc, Stmt::Assign { place, value }, items)
+    let target = pop_target(alloc, items);
+    state(alloc, Stmt::Assign { target, value }, items)
 }
 
 pub fn augment_of(alloc: Global, op: Op, items: &mut Stack<Item>) -> Result<(), AllocError>
     ensures { OnOk result (items.new ≡ augment_of op items.old) }
 {
     let value = pop_expr(items);
-    let place = pop_place(alloc, items);
-    state(alloc, Stmt::Augment { place, op, value }, items)
+    let target = pop_target(alloc, items);
+    state(alloc, Stmt::Augment { target, op, value }, items)
 }
 
 /// An expression by itself.
@@ -65,7 +65,7 @@ pub fn show_of(alloc: Global, items: &mut Stack<Item>) -> Result<(), AllocError>
     ensures { OnOk result (items.new ≡ show_of items.old) }
 {
     let value = pop_expr(items);
-    state(alloc, Stmt::Show(value), items)
+    state(alloc, Stmt::Expression(value), items)
 }
 
 /// Takes the block on the top and the test below it off.
@@ -124,7 +124,7 @@ pub fn elif_of(alloc: Global, items: &mut Stack<Item>) -> Result<(), AllocError>
     items.push(Item::Block(body))
 }
 
-/// The block behind the `else` of the last statement of the block below.
+/// The block after the `else` of the last statement of the block below.
 pub fn else_of(alloc: Global, items: &mut Stack<Item>) -> Result<(), AllocError>
     ensures { OnOk result (items.new ≡ else_of items.old) }
 {
@@ -148,7 +148,7 @@ pub fn for_of(alloc: Global, items: &mut Stack<Item>) -> Result<(), AllocError>
 {
     let body = pop_block(alloc, items);
     let source = pop_expr(items);
-    let name = pop_target(alloc, items);
+    let name = pop_name(alloc, items);
     state(alloc, Stmt::For { name, source, body }, items)
 }
 
@@ -158,7 +158,7 @@ pub fn function_of(alloc: Global, source: Text, items: &mut Stack<Item>) -> Resu
 {
     let body = pop_block(alloc, items);
     let params = pop_names(alloc, items);
-    let name = pop_target(alloc, items);
+    let name = pop_name(alloc, items);
     let def = Shared::new(
         alloc,
         Def {

@@ -6,7 +6,7 @@ use Rattle.std.specs.Prelude.{pos}
 use Rattle.py_grammar.specs.declared.constructs.Construct.{Construct}
 use Rattle.py_grammar.specs.declared.constructs.Construct.TheVariants.{NestedFunction}
 use Rattle.py_grammar.specs.Words.{if_word, pass_word, return_word, def_word, assign_sign, open_parenthesis, close_parenthesis, colon}
-use Rattle.py_grammar.specs.Statements.{word, idle, no_params, inline}
+use Rattle.py_grammar.specs.Statements.{word, pass_, no_params, inline}
 use Rattle.py_grammar.specs.States.{State, done, start}
 use Rattle.py_grammar.specs.Outside.{outside}
 use Rattle.py_definition.specs.Alone.{alone}
@@ -30,7 +30,7 @@ x = 120 ∷ []
 abbrev function : List Kind → List Kind
 function rest = def_word ∷ t.Name f ∷ open_parenthesis ∷ close_parenthesis ∷ colon ∷ pass_word ∷ t.Newline ∷ rest
 
-one : run_alone start (function (t.End ∷ [])) ≡ Some (done (alone f no_params (inline (word idle))))
+one : run_alone start (function (t.End ∷ [])) ≡ Some (done (alone f no_params (inline (word pass_))))
 one = refl
 
 -- no text

@@ -5,7 +5,7 @@ use Rattle.py_token.specs.declared.kinds.Kind.TheVariants as t
 use Rattle.py_grammar.specs.Words.{if_word, else_word, elif_word, while_word, for_word, in_word, pass_word, break_word, continue_word, return_word, global_word, del_word, def_word, floor_assign_sign, plus_assign_sign, minus_assign_sign, times_assign_sign, mod_assign_sign, assign_sign, open_parenthesis, close_parenthesis, colon, comma}
 use Rattle.py_grammar.specs.Expressions.{Expression}
 use Rattle.py_grammar.specs.Readings.{Reading, begun, read, whole, narrow}
-use Rattle.py_grammar.specs.Statements.{Place, Augmentation, by_plus, by_minus, by_times, by_floor, by_modulo, Names, Word, stop, skip, Simple, word, declare, Params, compound, Head, choose, otherwise, while_true, for_each, define, Branches, Block, inline, indented, Statements, statements_one}
+use Rattle.py_grammar.specs.Statements.{Target, Augmentation, by_plus, by_minus, by_times, by_floor, by_modulo, Names, Word, break_, continue_, Simple, word, declare, Params, compound, Head, choose, otherwise, while_true, for_each, define, Branches, Block, inline, indented, Statements, statements_one}
 use Rattle.py_grammar.specs.States.{Outer, outer, Spot, own, behind_head, Purpose, showing, giving, deleting, Lead, lead_if, lead_elif, lead_while, lead_for, State, line, in_simple, after_word, in_global, has_global, in_test, after_for, after_for_name, after_else, after_def, after_def_name, in_params, has_params, after_params, after_colon, after_newline, done, spot_around, spot_heard, add_name, close, ended, place_read, finished, head_of, Continued, continued, last_branches, if_allowed, then_simple, begins, elif_at, else_at, dedent_at, on_line, ends, assigns, augments, on_simple, on_word, is_new_name, on_global, on_global_name, tested, then_test, on_for, on_for_name, on_else, on_def, on_def_name, on_params, on_param, on_params_end, on_colon, on_newline, step}
 use Rattle.py_definition.specs.Machine.{on_first, on_last, step_alone}
 
@@ -103,11 +103,11 @@ ends-same : (os : List Outer) (at : Spot) (s : Option Simple) → Same (spot_wit
 ends-same os at None = tt
 ends-same os at (Some s) = ended-same os at s
 
-assigns-same : (os : List Outer) (at : Spot) (u : Purpose) (to : Option Place) → Same (spot_within os at) (assigns os at u to)
+assigns-same : (os : List Outer) (at : Spot) (u : Purpose) (to : Option Target) → Same (spot_within os at) (assigns os at u to)
 assigns-same os at showing (Some to) = refl
 assigns-same os at _ _ = tt
 
-augments-same : (os : List Outer) (at : Spot) (by : Augmentation) (u : Purpose) (to : Option Place) → Same (spot_within os at) (augments os at by u to)
+augments-same : (os : List Outer) (at : Spot) (by : Augmentation) (u : Purpose) (to : Option Target) → Same (spot_within os at) (augments os at by u to)
 augments-same os at by showing (Some to) = refl
 augments-same os at by _ _ = tt
 
@@ -118,8 +118,8 @@ then_simple-same os at _ (Some r) = refl
 
 begins-same : (os : List Outer) (at : Spot) (k : Kind) → Same (spot_within os at) (begins os at k)
 begins-same os at pass_word = refl
-begins-same os at break_word = allowed-same (spot_around os at).in_loop (after_word os at stop) (spot_within os at) refl
-begins-same os at continue_word = allowed-same (spot_around os at).in_loop (after_word os at skip) (spot_within os at) refl
+begins-same os at break_word = allowed-same (spot_around os at).in_loop (after_word os at break_) (spot_within os at) refl
+begins-same os at continue_word = allowed-same (spot_around os at).in_loop (after_word os at continue_) (spot_within os at) refl
 begins-same os at return_word = allowed-same (spot_around os at).in_function (in_simple os at giving begun) (spot_within os at) refl
 begins-same os at global_word = allowed-same (spot_around os at).in_function (in_global os at None) (spot_within os at) refl
 begins-same os at del_word = refl

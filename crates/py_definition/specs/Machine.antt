@@ -1,4 +1,4 @@
--- Reading a text that is one function alone: as a cell, but only `def` begins it, and only the end stands behind the function.
+-- Reading a text that is one function alone: as a cell, but only `def` begins it, and only the end stands after the function.
 use Rattle.std.specs.Prelude.{List, [], ◌∷◌, Option, Some, None}
 use Rattle.py_token.specs.declared.kinds.Kind.{Kind}
 use Rattle.py_token.specs.declared.kinds.Kind.TheVariants as t
@@ -11,7 +11,7 @@ abbrev pub on_first : Kind → Option State
 on_first def_word = Some (after_def None)
 on_first _ = None
 
--- the token behind what has ended
+-- the token after what has ended
 abbrev pub on_last : Statements → Kind → Option State
 on_last ss t.End = Some (done (Some ss))
 on_last ss _ = None

@@ -1,4 +1,4 @@
--- One more token behind a whole comparison is read and written as its forms are.
+-- One more token after a whole comparison is read and written as its forms are.
 use Rattle.std.proofs.Common.{◌≡◌, zero, List, ◌∷◌, length, Option, Some, None, is_some, refl, ap, ◌∙◌}
 use Rattle.py_token.specs.declared.kinds.Kind.{Kind}
 use Rattle.py_token.specs.declared.kinds.Kind.TheVariants as t
@@ -134,5 +134,5 @@ behind-seen os u b close_bracket rest es = close_bracket_after-seen os u b rest 
 behind-seen os u b close_brace rest es = close_brace_after-seen os u b rest es
 behind-seen os u b comma rest es = comma_after-seen os u b rest es
 behind-seen os u b colon rest es = colon_after-seen os u b rest es
-behind-seen os u b (t.Op sign) rest es = at_sign-none sign os u b rest es (λ left below top ds. refl)
+behind-seen os u b (t.Symbol sign) rest es = at_sign-none sign os u b rest es (λ left below top ds. refl)
 behind-seen os u b _ rest es = refl

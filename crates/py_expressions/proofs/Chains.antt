@@ -3,7 +3,7 @@ use Rattle.std.proofs.Common.{◌≡◌, ℕ, zero, suc, List, [], ◌∷◌, le
 use Rattle.py_token.specs.declared.kinds.Kind.{Kind}
 use Rattle.py_postfix.specs.declared.entries.Node.TheVariants as node
 use Rattle.py_postfix.specs.declared.entries.Entry.{Entry}
-use Rattle.py_grammar.specs.Expressions.{Expression, pick, Negation, compared, negated, Compares, compares_one, compares_more, compares_none, compares_not_none, Sums, Additive, Signed, unsigned, signed, Primary, name, index, spell_relational, spell_expression, spell_negation, spell_compares, spell_sums, spell_signed, spell_primary}
+use Rattle.py_grammar.specs.Expressions.{Expression, conditional, Negation, compared, negated, Compares, compares_one, compares_more, compares_none, compares_not_none, Sums, Additive, Signed, unsigned, signed, Primary, name, index, spell_relational, spell_expression, spell_negation, spell_compares, spell_sums, spell_signed, spell_primary}
 use Rattle.py_grammar.specs.Readings.{Picked, picked, Related, related, Added, added, Scaled, scaled, Lower, lower, add_signs, add_scaled, add_added, add_related, add_nots, add_picked, compares_of}
 use Rattle.py_grammar.specs.Open.{nots, front_added, front_scaled, signs}
 use Rattle.py_postfix.specs.Expressions.{post_expression, post_negation, post_compares, relations, post_sums, post_signed, post_primary}
@@ -67,7 +67,7 @@ pub last-add_related : (r : Option Related) (a : Sums) → compared_of (relation
 last-add_related None a = refl
 last-add_related (Some (related b r)) a = refl
 
--- the sum ends behind its last operand
+-- the sum ends after its last operand
 sums-before_last : (r : Option Related) (a : Option Added) (m : Option Scaled) (s : Signed) (rest : List Kind) (es : List Entry)
     → operated node.Sum (addition_of a) (length (front_added a (front_scaled m (spell_signed s rest)))) (length rest) (operated node.Product (multiplication_of m) (length (front_scaled m (spell_signed s rest))) (length rest)
     (post_signed s rest (written_scaled m (spell_signed s rest) (written_added a (front_scaled m (spell_signed s rest)) (written_related r (front_added a (front_scaled m (spell_signed s rest))) es)))))
@@ -109,4 +109,4 @@ with_nots n b rest f g = ap (λ ds. f (nots n (spell_compares b rest)) (nots_end
 pub picks_ended-expression : (ps : List Picked) (a : Expression) (rest : List Kind) (es : List Entry)
     → picks_ended (held_picks ps (spell_expression a rest)) (length rest) (post_expression a rest (written_picked ps (spell_expression a rest) es)) ≡ post_expression (add_picked ps a) rest es
 picks_ended-expression [] a rest es = refl
-picks_ended-expression (picked b test ∷ ps) a rest es = picks_ended-expression ps (pick b test a) rest es
+picks_ended-expression (picked b test ∷ ps) a rest es = picks_ended-expression ps (conditional b test a) rest es

@@ -1,10 +1,10 @@
--- A bracket that ends or goes on behind a whole expression is read and written as its forms are.
+-- A bracket that ends or goes on after a whole expression is read and written as its forms are.
 use Rattle.std.proofs.Common.{◌≡◌, ℕ, List, [], ◌∷◌, length, Option, Some, None, is_some, refl, ap, ◌∙◌, sym}
 use Rattle.std.specs.Option.{option_map}
 use Rattle.py_token.specs.declared.kinds.Kind.{Kind}
 use Rattle.py_token.specs.declared.kinds.Kind.TheVariants as t
-use Rattle.py_token.specs.declared.kinds.Op as sign_of
-use Rattle.py_token.specs.declared.kinds.Op.TheVariants as s
+use Rattle.py_token.specs.declared.kinds.Symbol as sign_of
+use Rattle.py_token.specs.declared.kinds.Symbol.TheVariants as s
 use Rattle.py_postfix.specs.declared.entries.Node.TheVariants as node
 use Rattle.py_postfix.specs.declared.entries.Entry.{Entry}
 use Rattle.py_grammar.specs.Words.{close_parenthesis, close_bracket, close_brace, comma, colon}
@@ -106,7 +106,7 @@ expression_ended-post ps o a n b rest es =
     ∙ choices ps o a (add_nots n (compared b)) rest es
 
 -- the bracket, by its law
-closed : (sign : sign_of.Op) (os : List Opened) (ps : List Picked) (o : Option Ors) (a : Option Ands) (n : ℕ) (b : Compares) (all rest : List Kind) (es : List Entry) (expected : Step)
+closed : (sign : sign_of.Symbol) (os : List Opened) (ps : List Picked) (o : Option Ors) (a : Option Ands) (n : ℕ) (b : Compares) (all rest : List Kind) (es : List Entry) (expected : Step)
     → innermost_goes_on (length rest) (held_opened os (spell_expression (add_picked ps (plain (add_or o (add_and a (add_nots n (compared b)))))) all)) sign
     (post_expression (add_picked ps (plain (add_or o (add_and a (add_nots n (compared b)))))) all (written_opened os (spell_expression (add_picked ps (plain (add_or o (add_and a (add_nots n (compared b)))))) all) es)) ≡ expected
     → innermost_goes_on (length rest) (held_opened os (spell_upper (upper ps None o a n) (spell_compares b all))) sign
@@ -117,9 +117,9 @@ closed sign os ps o a n b all rest es expected law =
     ∙ law
 
 -- what the token of that sign gives
-abbrev pub at_sign : sign_of.Op → List Opened → Upper → Compares → List Kind → List Entry → Step
-at_sign sign os u b rest es = behind_expression (length (t.Op sign ∷ rest)) (length rest) (held_opened os (spell_upper u (spell_compares b (t.Op sign ∷ rest)))) (held_upper u (spell_compares b (t.Op sign ∷ rest))) (length (spell_compares b (t.Op sign ∷ rest))) (last b) sign
-    (before_last b (t.Op sign ∷ rest) (written_around os u (spell_compares b (t.Op sign ∷ rest)) es))
+abbrev pub at_sign : sign_of.Symbol → List Opened → Upper → Compares → List Kind → List Entry → Step
+at_sign sign os u b rest es = behind_expression (length (t.Symbol sign ∷ rest)) (length rest) (held_opened os (spell_upper u (spell_compares b (t.Symbol sign ∷ rest)))) (held_upper u (spell_compares b (t.Symbol sign ∷ rest))) (length (spell_compares b (t.Symbol sign ∷ rest))) (last b) sign
+    (before_last b (t.Symbol sign ∷ rest) (written_around os u (spell_compares b (t.Symbol sign ∷ rest)) es))
 
 close_parenthesis_after-none : (os : List Opened) → close_parenthesis_after os None ≡ None
 close_parenthesis_after-none [] = refl
@@ -127,7 +127,7 @@ close_parenthesis_after-none (opened u w in_group ∷ os) = refl
 close_parenthesis_after-none (opened u w _ ∷ os) = refl
 
 pub close_parenthesis_after-seen : (os : List Opened) (u : Upper) (b : Compares) (rest : List Kind) (es : List Entry) → at_sign s.CloseParenthesis os u b rest es ≡ seen rest es (close_parenthesis_after os (expression_of u b))
-close_parenthesis_after-seen os (upper ps None o a n) b rest es = closed s.CloseParenthesis os ps o a n b (t.Op s.CloseParenthesis ∷ rest) rest es _ (parenthesis os _ rest es)
+close_parenthesis_after-seen os (upper ps None o a n) b rest es = closed s.CloseParenthesis os ps o a n b (t.Symbol s.CloseParenthesis ∷ rest) rest es _ (parenthesis os _ rest es)
 close_parenthesis_after-seen os (upper ps (Some x) o a n) b rest es = ap (seen rest es) (sym (close_parenthesis_after-none os))
 
 close_bracket_after-none : (os : List Opened) → close_bracket_after os None ≡ None
@@ -136,7 +136,7 @@ close_bracket_after-none (opened u w in_group ∷ os) = refl
 close_bracket_after-none (opened u w _ ∷ os) = refl
 
 pub close_bracket_after-seen : (os : List Opened) (u : Upper) (b : Compares) (rest : List Kind) (es : List Entry) → at_sign s.CloseBracket os u b rest es ≡ seen rest es (close_bracket_after os (expression_of u b))
-close_bracket_after-seen os (upper ps None o a n) b rest es = closed s.CloseBracket os ps o a n b (t.Op s.CloseBracket ∷ rest) rest es _ (bracket os _ rest es)
+close_bracket_after-seen os (upper ps None o a n) b rest es = closed s.CloseBracket os ps o a n b (t.Symbol s.CloseBracket ∷ rest) rest es _ (bracket os _ rest es)
 close_bracket_after-seen os (upper ps (Some x) o a n) b rest es = ap (seen rest es) (sym (close_bracket_after-none os))
 
 close_brace_after-none : (os : List Opened) → close_brace_after os None ≡ None
@@ -145,7 +145,7 @@ close_brace_after-none (opened u w in_group ∷ os) = refl
 close_brace_after-none (opened u w _ ∷ os) = refl
 
 pub close_brace_after-seen : (os : List Opened) (u : Upper) (b : Compares) (rest : List Kind) (es : List Entry) → at_sign s.CloseBrace os u b rest es ≡ seen rest es (close_brace_after os (expression_of u b))
-close_brace_after-seen os (upper ps None o a n) b rest es = closed s.CloseBrace os ps o a n b (t.Op s.CloseBrace ∷ rest) rest es _ (brace os _ rest es)
+close_brace_after-seen os (upper ps None o a n) b rest es = closed s.CloseBrace os ps o a n b (t.Symbol s.CloseBrace ∷ rest) rest es _ (brace os _ rest es)
 close_brace_after-seen os (upper ps (Some x) o a n) b rest es = ap (seen rest es) (sym (close_brace_after-none os))
 
 comma_after-none : (os : List Opened) → comma_after os None ≡ None
@@ -154,7 +154,7 @@ comma_after-none (opened u w in_group ∷ os) = refl
 comma_after-none (opened u w _ ∷ os) = refl
 
 pub comma_after-seen : (os : List Opened) (u : Upper) (b : Compares) (rest : List Kind) (es : List Entry) → at_sign s.Comma os u b rest es ≡ seen rest es (comma_after os (expression_of u b))
-comma_after-seen os (upper ps None o a n) b rest es = closed s.Comma os ps o a n b (t.Op s.Comma ∷ rest) rest es _ (next os _ rest es)
+comma_after-seen os (upper ps None o a n) b rest es = closed s.Comma os ps o a n b (t.Symbol s.Comma ∷ rest) rest es _ (next os _ rest es)
 comma_after-seen os (upper ps (Some x) o a n) b rest es = ap (seen rest es) (sym (comma_after-none os))
 
 colon_after-none : (os : List Opened) → colon_after os None ≡ None
@@ -163,11 +163,11 @@ colon_after-none (opened u w in_group ∷ os) = refl
 colon_after-none (opened u w _ ∷ os) = refl
 
 pub colon_after-seen : (os : List Opened) (u : Upper) (b : Compares) (rest : List Kind) (es : List Entry) → at_sign s.Colon os u b rest es ≡ seen rest es (colon_after os (expression_of u b))
-colon_after-seen os (upper ps None o a n) b rest es = closed s.Colon os ps o a n b (t.Op s.Colon ∷ rest) rest es _ (following os _ rest es)
+colon_after-seen os (upper ps None o a n) b rest es = closed s.Colon os ps o a n b (t.Symbol s.Colon ∷ rest) rest es _ (following os _ rest es)
 colon_after-seen os (upper ps (Some x) o a n) b rest es = ap (seen rest es) (sym (colon_after-none os))
 
 -- no other sign
-pub at_sign-none : (sign : sign_of.Op) (os : List Opened) (u : Upper) (b : Compares) (rest : List Kind) (es : List Entry) → ((left : ℕ) (below : List opened_of.Opened) (top : opened_of.Opened) (ds : List Entry) → bracket_goes_on left below top sign ds ≡ None) → at_sign sign os u b rest es ≡ None
+pub at_sign-none : (sign : sign_of.Symbol) (os : List Opened) (u : Upper) (b : Compares) (rest : List Kind) (es : List Entry) → ((left : ℕ) (below : List opened_of.Opened) (top : opened_of.Opened) (ds : List Entry) → bracket_goes_on left below top sign ds ≡ None) → at_sign sign os u b rest es ≡ None
 at_sign-none sign [] (upper ps None o a n) b rest es e = refl
 at_sign-none sign (opened v w k ∷ os) (upper ps None o a n) b rest es e = e _ _ _ _
 at_sign-none sign os (upper ps (Some x) o a n) b rest es e = refl

@@ -3,8 +3,8 @@ use Rattle.std.proofs.Common.{◌≡◌, ℕ, Bool, true, false, if◌then◌els
 use Rattle.std.specs.Option.{option_map}
 use Rattle.py_token.specs.declared.kinds.Kind.{Kind}
 use Rattle.py_token.specs.declared.kinds.Kind.TheVariants as t
-use Rattle.py_token.specs.declared.kinds.Op as sign_of
-use Rattle.py_token.specs.declared.kinds.Op.TheVariants as s
+use Rattle.py_token.specs.declared.kinds.Symbol as sign_of
+use Rattle.py_token.specs.declared.kinds.Symbol.TheVariants as s
 use Rattle.py_postfix.specs.declared.entries.Node.TheVariants as node
 use Rattle.py_postfix.specs.declared.entries.Entry.{Entry}
 use Rattle.py_postfix.specs.Entries.{additive_op, multiplicative_op}
@@ -38,7 +38,7 @@ opens-seen : (os : List Opened) (u : Upper) (w : Lower) (outer before rest : Lis
 opens-seen os u w outer before rest left bracket from es =
     ap (λ b. Some (steps.fresh left (record { upper = held_upper u before; lower = held_lower w rest; bracket = bracket; from = from; narrow = b } ∷ held_opened os outer), es)) (narrow_below-held os u w outer before rest)
 
--- ---- behind an operand
+-- ---- after an operand
 
 last-compares_of : (w : Lower) (q : Primary) (rest : List Kind) → compared_of (held_lower w rest).relation ≡ last (compares_of w q)
 last-compares_of (lower r a m ss) q rest = last-add_related r _
@@ -174,40 +174,40 @@ colon_at-seen (opened u w (in_call (method f m) xs) ∷ os) rest es = refl
 colon_at-seen (opened u w _ ∷ os) rest es = refl
 
 -- what a sign gives that ends a bracket, or none
-abbrev nothing_at : List Opened → Upper → Lower → sign_of.Op → List Kind → List Entry → Step
-nothing_at os u w sign rest es = steps.at_nothing (length rest) (held_opened os (spell_upper u (spell_lower w (t.Op sign ∷ rest)))) (held_upper u (spell_lower w (t.Op sign ∷ rest))) (held_lower w (t.Op sign ∷ rest)) sign
-    (written_lower w (t.Op sign ∷ rest) (written_around os u (spell_lower w (t.Op sign ∷ rest)) es))
+abbrev nothing_at : List Opened → Upper → Lower → sign_of.Symbol → List Kind → List Entry → Step
+nothing_at os u w sign rest es = steps.at_nothing (length rest) (held_opened os (spell_upper u (spell_lower w (t.Symbol sign ∷ rest)))) (held_upper u (spell_lower w (t.Symbol sign ∷ rest))) (held_lower w (t.Symbol sign ∷ rest)) sign
+    (written_lower w (t.Symbol sign ∷ rest) (written_around os u (spell_lower w (t.Symbol sign ∷ rest)) es))
 
-abbrev Nothing : List Opened → sign_of.Op → Option Reading → List Kind → List Entry → Upper → Lower → Type 0
-Nothing os sign r rest es u w = (if bare u w then steps.innermost_goes_on_at (length rest) (held_opened os (spell_upper u (spell_lower w (t.Op sign ∷ rest)))) sign (written_lower w (t.Op sign ∷ rest) (written_around os u (spell_lower w (t.Op sign ∷ rest)) es)) else None)
+abbrev Nothing : List Opened → sign_of.Symbol → Option Reading → List Kind → List Entry → Upper → Lower → Type 0
+Nothing os sign r rest es u w = (if bare u w then steps.innermost_goes_on_at (length rest) (held_opened os (spell_upper u (spell_lower w (t.Symbol sign ∷ rest)))) sign (written_lower w (t.Symbol sign ∷ rest) (written_around os u (spell_lower w (t.Symbol sign ∷ rest)) es)) else None)
     ≡ seen rest es (if_nothing u w r)
 
-nothing-cases : (b : Bool) (os : List Opened) (u : Upper) (w : Lower) (sign : sign_of.Op) (r : Option Reading) (rest : List Kind) (es : List Entry) → bare u w ≡ b
-    → steps.innermost_goes_on_at (length rest) (held_opened os (t.Op sign ∷ rest)) sign (written_opened os (t.Op sign ∷ rest) es) ≡ seen rest es r
+nothing-cases : (b : Bool) (os : List Opened) (u : Upper) (w : Lower) (sign : sign_of.Symbol) (r : Option Reading) (rest : List Kind) (es : List Entry) → bare u w ≡ b
+    → steps.innermost_goes_on_at (length rest) (held_opened os (t.Symbol sign ∷ rest)) sign (written_opened os (t.Symbol sign ∷ rest) es) ≡ seen rest es r
     → Nothing os sign r rest es u w
 nothing-cases true os u w sign r rest es e law =
     let k = bare_is u w (rw e refl) in
     subst (λ v. Nothing os sign r rest es v w) (sym k.0) (subst (Nothing os sign r rest es no_upper) (sym k.1) law)
 nothing-cases false os u w sign r rest es e law = rw e (ap (seen rest es) (sym (if_nothing-none u w r e)))
 
-nothing-seen : (os : List Opened) (u : Upper) (w : Lower) (sign : sign_of.Op) (r : Option Reading) (rest : List Kind) (es : List Entry)
-    → steps.innermost_goes_on_at (length rest) (held_opened os (t.Op sign ∷ rest)) sign (written_opened os (t.Op sign ∷ rest) es) ≡ seen rest es r
+nothing-seen : (os : List Opened) (u : Upper) (w : Lower) (sign : sign_of.Symbol) (r : Option Reading) (rest : List Kind) (es : List Entry)
+    → steps.innermost_goes_on_at (length rest) (held_opened os (t.Symbol sign ∷ rest)) sign (written_opened os (t.Symbol sign ∷ rest) es) ≡ seen rest es r
     → nothing_at os u w sign rest es ≡ seen rest es (if_nothing u w r)
 nothing-seen os u w sign r rest es law =
-    ap (λ b. if b then steps.innermost_goes_on_at (length rest) (held_opened os (spell_upper u (spell_lower w (t.Op sign ∷ rest)))) sign (written_lower w (t.Op sign ∷ rest) (written_around os u (spell_lower w (t.Op sign ∷ rest)) es)) else None) (bare-held u w _ _)
+    ap (λ b. if b then steps.innermost_goes_on_at (length rest) (held_opened os (spell_upper u (spell_lower w (t.Symbol sign ∷ rest)))) sign (written_lower w (t.Symbol sign ∷ rest) (written_around os u (spell_lower w (t.Symbol sign ∷ rest)) es)) else None) (bare-held u w _ _)
     ∙ nothing-cases (bare u w) os u w sign r rest es refl law
 
 same_none : (b : Bool) (r : Step) → r ≡ None → (if b then r else None) ≡ None
 same_none true r e = e
 same_none false r e = refl
 
-innermost_goes_on_at-none : (os : List opened_of.Opened) (sign : sign_of.Op) (left : ℕ) (ds : List Entry) → ((below : List opened_of.Opened) (top : opened_of.Opened) → steps.bracket_goes_on_at left below top sign ds ≡ None)
+innermost_goes_on_at-none : (os : List opened_of.Opened) (sign : sign_of.Symbol) (left : ℕ) (ds : List Entry) → ((below : List opened_of.Opened) (top : opened_of.Opened) → steps.bracket_goes_on_at left below top sign ds ≡ None)
     → steps.innermost_goes_on_at left os sign ds ≡ None
 innermost_goes_on_at-none [] sign left ds e = refl
 innermost_goes_on_at-none (top ∷ os) sign left ds e = e os top
 
 -- no other sign
-nothing-none : (os : List Opened) (u : Upper) (w : Lower) (sign : sign_of.Op) (rest : List Kind) (es : List Entry)
+nothing-none : (os : List Opened) (u : Upper) (w : Lower) (sign : sign_of.Symbol) (rest : List Kind) (es : List Entry)
     → ((left : ℕ) (below : List opened_of.Opened) (top : opened_of.Opened) (ds : List Entry) → steps.bracket_goes_on_at left below top sign ds ≡ None) → nothing_at os u w sign rest es ≡ None
 nothing-none os u w sign rest es e = same_none _ _ (innermost_goes_on_at-none _ sign _ _ (λ below top. e _ below top _))
 
@@ -254,7 +254,7 @@ operand-seen os u w close_parenthesis rest es = nothing-seen os u w s.CloseParen
 operand-seen os u w close_bracket rest es = nothing-seen os u w s.CloseBracket (close_bracket_at os) rest es (close_bracket_at-seen os rest es)
 operand-seen os u w close_brace rest es = nothing-seen os u w s.CloseBrace (close_brace_at os) rest es (close_brace_at-seen os rest es)
 operand-seen os u w colon rest es = nothing-seen os u w s.Colon (colon_at os) rest es (colon_at-seen os rest es)
-operand-seen os u w (t.Op sign) rest es = nothing-none os u w sign rest es (λ left below top ds. refl)
+operand-seen os u w (t.Symbol sign) rest es = nothing-none os u w sign rest es (λ left below top ds. refl)
 operand-seen os u w _ rest es = refl
 
 -- ---- the other places

@@ -3,7 +3,7 @@ use Rattle.std.specs.Prelude.{Bool, true, false, if◌then◌else◌, List, [], 
 use Rattle.py_token.specs.declared.kinds.Kind.{Kind}
 use Rattle.py_token.specs.declared.kinds.Kind.TheVariants as t
 use Rattle.py_token.specs.declared.kinds.Keyword.TheVariants as k
-use Rattle.py_token.specs.declared.kinds.Op.TheVariants as s
+use Rattle.py_token.specs.declared.kinds.Symbol.TheVariants as s
 use Rattle.py_grammar.specs.declared.constructs.Construct.{Construct}
 use Rattle.py_grammar.specs.declared.constructs.Construct.TheVariants.{Tuple, Comprehension, Set, Is, Attribute, KeywordArgument}
 use Rattle.py_expressions.specs.declared.reading.Upper.{Upper}
@@ -21,7 +21,7 @@ comma_in b.Group = Some Tuple
 comma_in (b.Dict true) = Some Set
 comma_in _ = None
 
--- `,` behind a whole expression: at statement level, in parentheses, or behind what stands first in braces
+-- `,` after a whole expression: at statement level, in parentheses, or after what stands first in braces
 abbrev pub comma_begins : List Opened → Option Construct
 comma_begins [] = Some Tuple
 comma_begins (top ∷ os) = comma_in top.bracket
@@ -42,36 +42,36 @@ abbrev pub brace_in : bracket_of.Bracket → Option Construct
 brace_in (b.Dict true) = Some Set
 brace_in _ = None
 
--- `}` behind what stands first in braces
+-- `}` after what stands first in braces
 abbrev pub brace_begins : List Opened → Option Construct
 brace_begins [] = None
 brace_begins (top ∷ os) = brace_in top.bracket
 
--- a token behind a whole expression
+-- a token after a whole expression
 abbrev pub behind_whole : List Opened → Kind → Option Construct
-behind_whole os (t.Op s.Comma) = comma_begins os
+behind_whole os (t.Symbol s.Comma) = comma_begins os
 behind_whole os (t.Keyword k.For) = element_begins Comprehension os
-behind_whole os (t.Op s.CloseBrace) = brace_begins os
-behind_whole os (t.Op s.Assign) = element_begins KeywordArgument os
+behind_whole os (t.Symbol s.CloseBrace) = brace_begins os
+behind_whole os (t.Symbol s.Assign) = element_begins KeywordArgument os
 behind_whole os _ = None
 
--- behind an operand: no `if` may wait for its `else`
+-- after an operand: no `if` may wait for its `else`
 abbrev pub behind_operand : List Opened → Upper → Kind → Option Construct
 behind_operand os u t = if u.test then None else behind_whole os t
 
--- `)` directly behind that bracket
+-- `)` directly after that bracket
 abbrev pub group_in : bracket_of.Bracket → Option Construct
 group_in b.Group = Some Tuple
 group_in _ = None
 
--- `)` directly behind the `(` of an atom
+-- `)` directly after the `(` of an atom
 abbrev pub empty_group : List Opened → Option Construct
 empty_group [] = None
 empty_group (top ∷ os) = group_in top.bracket
 
 -- a token where an operand is to stand
 abbrev pub at_operand : List Opened → Upper → Lower → Kind → Option Construct
-at_operand os u w (t.Op s.CloseParenthesis) = if is_bare u w then empty_group os else None
+at_operand os u w (t.Symbol s.CloseParenthesis) = if is_bare u w then empty_group os else None
 at_operand os u w _ = None
 
 -- anything but `None` and `not`
@@ -87,7 +87,7 @@ after_is_not _ = Some Is
 
 -- anything but a call
 abbrev pub after_method : Kind → Option Construct
-after_method (t.Op s.OpenParenthesis) = None
+after_method (t.Symbol s.OpenParenthesis) = None
 after_method _ = Some Attribute
 
 -- the construct outside the grammar that the token begins, if any

@@ -26,7 +26,7 @@ is_whole (h.Has os u w primary from) = may_end os u
 is_whole (h.Related os u from) = may_end os u
 is_whole _ = false
 
--- the expression ends behind a comparison
+-- the expression ends after a comparison
 abbrev pub ended_behind : ℕ → List Opened → Upper → ℕ → Compared → List Entry → Option (List Entry)
 ended_behind at os u from k es = if may_end os u then Some (expression_ended u from k at es) else None
 

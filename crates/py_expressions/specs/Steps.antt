@@ -1,13 +1,13 @@
 -- One more token of an expression, on what the program holds: what it holds then, and what has been written.
 --
--- `at` is how many tokens are left, this one counted, and `left` how many are behind it.
+-- `at` is how many tokens are left, this one counted, and `left` how many are after it.
 use Rattle.std.specs.Prelude.{ℕ, Bool, true, false, not, ◌&&◌, if◌then◌else◌, List, [], ◌∷◌, Option, Some, None, is_none}
 use Rattle.py_token.specs.declared.kinds.Kind.{Kind}
 use Rattle.py_token.specs.declared.kinds.Kind.TheVariants as t
 use Rattle.py_token.specs.declared.kinds.Keyword.{Keyword}
 use Rattle.py_token.specs.declared.kinds.Keyword.TheVariants as k
-use Rattle.py_token.specs.declared.kinds.Op as sign_of
-use Rattle.py_token.specs.declared.kinds.Op.TheVariants as s
+use Rattle.py_token.specs.declared.kinds.Symbol as sign_of
+use Rattle.py_token.specs.declared.kinds.Symbol.TheVariants as s
 use Rattle.py_tree.specs.declared.expressions.Literal.{Literal}
 use Rattle.py_tree.specs.declared.expressions.Literal.TheVariants as literal
 use Rattle.py_tree.specs.declared.expressions.Op.{Op}
@@ -30,7 +30,7 @@ use Rattle.py_expressions.specs.declared.reading.Reading.{Reading}
 use Rattle.py_expressions.specs.declared.reading.Reading.TheVariants as h
 use Rattle.py_expressions.specs.Endings.{span, settled, compared_of, compare_goes_on, sum_ended, product_goes_on, sum_goes_on, or_ended, and_goes_on, or_goes_on, expression_ended}
 
--- what is held and written behind a token, if it is read
+-- what is held and written after a token, if it is read
 abbrev pub Step : Type 0
 Step = Option (Reading × List Entry)
 
@@ -86,7 +86,7 @@ call_node (Some m) = n.Method m
 abbrev pub closes : ℕ → List Opened → Upper → Lower → ℕ → Node → List Entry → Step
 closes left os u w from node es = Some (h.Has os u w p.Other from, span node from left es)
 
--- ---- a bracket ends or goes on behind a whole expression
+-- ---- a bracket ends or goes on after a whole expression
 
 -- `)` in that bracket
 abbrev pub parenthesis_ends : ℕ → List Opened → Opened → bracket_of.Bracket → List Entry → Step
@@ -120,7 +120,7 @@ colon_goes_on left os top b.Index es = Some (reopens left os top.upper top.lower
 colon_goes_on left os top _ es = None
 
 -- that sign in a bracket
-unfoldable pub bracket_goes_on : ℕ → List Opened → Opened → sign_of.Op → List Entry → Step
+unfoldable pub bracket_goes_on : ℕ → List Opened → Opened → sign_of.Symbol → List Entry → Step
 bracket_goes_on left os top s.CloseParenthesis es = parenthesis_ends left os top top.bracket es
 bracket_goes_on left os top s.CloseBracket es = bracket_ends left os top top.bracket es
 bracket_goes_on left os top s.CloseBrace es = brace_ends left os top top.bracket es
@@ -129,17 +129,17 @@ bracket_goes_on left os top s.Colon es = colon_goes_on left os top top.bracket e
 bracket_goes_on left os top _ es = None
 
 -- the innermost bracket, if one is open
-abbrev pub innermost_goes_on : ℕ → List Opened → sign_of.Op → List Entry → Step
+abbrev pub innermost_goes_on : ℕ → List Opened → sign_of.Symbol → List Entry → Step
 innermost_goes_on left [] sign es = None
 innermost_goes_on left (top ∷ os) sign es = bracket_goes_on left os top sign es
 
 -- no `if` may wait for its `else`
-abbrev pub behind_expression : ℕ → ℕ → List Opened → Upper → ℕ → Compared → sign_of.Op → List Entry → Step
+abbrev pub behind_expression : ℕ → ℕ → List Opened → Upper → ℕ → Compared → sign_of.Symbol → List Entry → Step
 behind_expression at left os u from last sign es = if u.test then None else innermost_goes_on left os sign (expression_ended u from last at es)
 
--- ---- one more token behind a whole comparison
+-- ---- one more token after a whole comparison
 
--- an operand behind this relation is to come
+-- an operand after this relation is to come
 abbrev pub relates : ℕ → List Opened → Upper → ℕ → Op → Reading
 relates left os u from relation = h.Wants os u (record { compare_from = from; relation = Some relation; sum_from = left; addition = None; product_from = left; multiplication = None; signs = [] })
 
@@ -151,7 +151,7 @@ without_nots u = record { picks = u.picks; from = u.from; test = u.test; or_from
 abbrev pub joins : ℕ → List Opened → Upper → Reading
 joins left os u = h.Wants os (record { picks = u.picks; from = u.from; test = u.test; or_from = u.or_from; ors = u.ors; and_from = u.and_from; ands = true; nots = [] }) (fresh_lower left)
 
--- `and` behind a comparison
+-- `and` after a comparison
 abbrev pub and_after : ℕ → ℕ → List Opened → Upper → ℕ → Compared → List Entry → Step
 and_after at left os u from last es = Some (joins left os u, and_goes_on u from last at es)
 
@@ -159,7 +159,7 @@ and_after at left os u from last es = Some (joins left os u, and_goes_on u from 
 abbrev pub offers : ℕ → List Opened → Upper → Reading
 offers left os u = h.Wants os (record { picks = u.picks; from = u.from; test = u.test; or_from = u.or_from; ors = true; and_from = left; ands = false; nots = [] }) (fresh_lower left)
 
--- `or` behind a comparison
+-- `or` after a comparison
 abbrev pub or_after : ℕ → ℕ → List Opened → Upper → ℕ → Compared → List Entry → Step
 or_after at left os u from last es = Some (offers left os u, or_goes_on u from last at es)
 
@@ -167,7 +167,7 @@ or_after at left os u from last es = Some (offers left os u, or_goes_on u from l
 abbrev pub tests : ℕ → List Opened → Upper → Reading
 tests left os u = h.Wants os (record { picks = u.picks; from = u.from; test = true; or_from = left; ors = false; and_from = left; ands = false; nots = [] }) (fresh_lower left)
 
--- `if` behind the first operand of a choice
+-- `if` after the first operand of a choice
 abbrev pub if_after : ℕ → ℕ → List Opened → Upper → ℕ → Compared → List Entry → Step
 if_after at left os u from last es = if u.test then None else Some (tests left os u, or_ended u from last at es)
 
@@ -175,11 +175,11 @@ if_after at left os u from last es = if u.test then None else Some (tests left o
 abbrev pub chooses : ℕ → List Opened → Upper → Reading
 chooses left os u = h.Wants os (record { picks = u.from ∷ u.picks; from = left; test = false; or_from = left; ors = false; and_from = left; ands = false; nots = [] }) (fresh_lower left)
 
--- `else` behind the test of a choice
+-- `else` after the test of a choice
 abbrev pub else_after : ℕ → ℕ → List Opened → Upper → ℕ → Compared → List Entry → Step
 else_after at left os u from last es = if u.test then Some (chooses left os u, or_ended u from last at es) else None
 
--- a word behind a comparison
+-- a word after a comparison
 unfoldable pub behind_word : ℕ → ℕ → List Opened → Upper → ℕ → Compared → Keyword → List Entry → Step
 behind_word at left os u from last k.In es = Some (relates left os u from o.In, compare_goes_on last es)
 behind_word at left os u from last k.Not es = Some (h.AfterNot os u from, compare_goes_on last es)
@@ -191,7 +191,7 @@ behind_word at left os u from last k.Else es = else_after at left os u from last
 behind_word at left os u from last _ es = None
 
 -- the relation that a sign begins
-unfoldable pub relation_at : sign_of.Op → Option Op
+unfoldable pub relation_at : sign_of.Symbol → Option Op
 relation_at s.Equal = Some o.Equal
 relation_at s.NotEqual = Some o.NotEqual
 relation_at s.Less = Some o.Less
@@ -200,28 +200,28 @@ relation_at s.More = Some o.More
 relation_at s.AtLeast = Some o.AtLeast
 relation_at _ = None
 
--- a sign behind a comparison, by the relation that it begins
-abbrev pub behind_relation : ℕ → ℕ → List Opened → Upper → ℕ → Compared → Option Op → sign_of.Op → List Entry → Step
+-- a sign after a comparison, by the relation that it begins
+abbrev pub behind_relation : ℕ → ℕ → List Opened → Upper → ℕ → Compared → Option Op → sign_of.Symbol → List Entry → Step
 behind_relation at left os u from last (Some relation) sign es = Some (relates left os u from relation, compare_goes_on last es)
 behind_relation at left os u from last None sign es = behind_expression at left os u from last sign es
 
--- a sign behind a comparison
-abbrev pub behind_sign : ℕ → ℕ → List Opened → Upper → ℕ → Compared → sign_of.Op → List Entry → Step
+-- a sign after a comparison
+abbrev pub behind_sign : ℕ → ℕ → List Opened → Upper → ℕ → Compared → sign_of.Symbol → List Entry → Step
 behind_sign at left os u from last sign es = behind_relation at left os u from last (relation_at sign) sign es
 
--- a token behind a comparison, which begins at `from`
+-- a token after a comparison, which begins at `from`
 abbrev pub behind : ℕ → ℕ → List Opened → Upper → ℕ → Compared → Kind → List Entry → Step
 behind at left os u from last (t.Keyword word) es = behind_word at left os u from last word es
-behind at left os u from last (t.Op sign) es = behind_sign at left os u from last sign es
+behind at left os u from last (t.Symbol sign) es = behind_sign at left os u from last sign es
 behind at left os u from last _ es = None
 
--- ---- one more token behind an operand
+-- ---- one more token after an operand
 
 -- another operand of the sum is to come
 abbrev pub sums : ℕ → List Opened → Upper → Lower → Op → Reading
 sums left os u w sign = h.Wants os u (record { compare_from = w.compare_from; relation = w.relation; sum_from = w.sum_from; addition = Some sign; product_from = left; multiplication = None; signs = [] })
 
--- a sign of a sum behind an operand
+-- a sign of a sum after an operand
 abbrev pub adds : ℕ → ℕ → List Opened → Upper → Lower → Op → List Entry → Step
 adds at left os u w sign es = Some (sums left os u w sign, sum_goes_on w at es)
 
@@ -229,12 +229,12 @@ adds at left os u w sign es = Some (sums left os u w sign, sum_goes_on w at es)
 abbrev pub multiplies : ℕ → List Opened → Upper → Lower → Op → Reading
 multiplies left os u w sign = h.Wants os u (record { compare_from = w.compare_from; relation = w.relation; sum_from = w.sum_from; addition = w.addition; product_from = w.product_from; multiplication = Some sign; signs = [] })
 
--- a sign of a product behind an operand
+-- a sign of a product after an operand
 abbrev pub scales : ℕ → ℕ → List Opened → Upper → Lower → Op → List Entry → Step
 scales at left os u w sign es = Some (multiplies left os u w sign, product_goes_on w at es)
 
--- a sign behind an operand, which begins at `from`
-unfoldable pub operator_sign : ℕ → ℕ → List Opened → Upper → Lower → ℕ → sign_of.Op → List Entry → Step
+-- a sign after an operand, which begins at `from`
+unfoldable pub operator_sign : ℕ → ℕ → List Opened → Upper → Lower → ℕ → sign_of.Symbol → List Entry → Step
 operator_sign at left os u w from s.OpenParenthesis es = Some (opens left os u w (b.Call None) from, mark n.Empty es)
 operator_sign at left os u w from s.OpenBracket es = Some (opens left os u w b.Index from, es)
 operator_sign at left os u w from s.Dot es = Some (h.AfterDot os u w from, es)
@@ -247,11 +247,11 @@ operator_sign at left os u w from sign es = behind_sign at left os u w.compare_f
 
 -- an operand is written
 abbrev pub operator_written : ℕ → ℕ → List Opened → Upper → Lower → ℕ → Kind → List Entry → Step
-operator_written at left os u w from (t.Op sign) es = operator_sign at left os u w from sign es
+operator_written at left os u w from (t.Symbol sign) es = operator_sign at left os u w from sign es
 operator_written at left os u w from (t.Keyword word) es = behind_word at left os u w.compare_from (compared_of w.relation) word (sum_ended w at es)
 operator_written at left os u w from _ es = None
 
--- a token behind an operand
+-- a token after an operand
 abbrev pub operator : ℕ → ℕ → List Opened → Upper → Lower → primary_of.Primary → ℕ → Kind → List Entry → Step
 operator at left os u w primary from t es = operator_written at left os u w from t (settled primary from at es)
 
@@ -279,7 +279,7 @@ colon_goes_on_at left os top b.Index es = Some (reopens left os top.upper top.lo
 colon_goes_on_at left os top _ es = None
 
 -- that sign where nothing has been read in a bracket
-unfoldable pub bracket_goes_on_at : ℕ → List Opened → Opened → sign_of.Op → List Entry → Step
+unfoldable pub bracket_goes_on_at : ℕ → List Opened → Opened → sign_of.Symbol → List Entry → Step
 bracket_goes_on_at left os top s.CloseParenthesis es = parenthesis_ends_at left os top top.bracket es
 bracket_goes_on_at left os top s.CloseBracket es = bracket_ends_at left os top top.bracket es
 bracket_goes_on_at left os top s.CloseBrace es = brace_ends_at left os top top.bracket es
@@ -287,12 +287,12 @@ bracket_goes_on_at left os top s.Colon es = colon_goes_on_at left os top top.bra
 bracket_goes_on_at left os top _ es = None
 
 -- the innermost bracket, if one is open
-abbrev pub innermost_goes_on_at : ℕ → List Opened → sign_of.Op → List Entry → Step
+abbrev pub innermost_goes_on_at : ℕ → List Opened → sign_of.Symbol → List Entry → Step
 innermost_goes_on_at left [] sign es = None
 innermost_goes_on_at left (top ∷ os) sign es = bracket_goes_on_at left os top sign es
 
 -- that sign, if nothing has been read in the bracket
-abbrev pub at_nothing : ℕ → List Opened → Upper → Lower → sign_of.Op → List Entry → Step
+abbrev pub at_nothing : ℕ → List Opened → Upper → Lower → sign_of.Symbol → List Entry → Step
 at_nothing left os u w sign es = if is_bare u w then innermost_goes_on_at left os sign es else None
 
 -- a `not` stands where a comparison may begin
@@ -320,7 +320,7 @@ operand_word at left os u w k.Not es = denies at left os u w es
 operand_word at left os u w _ es = None
 
 -- a sign where an operand is to stand
-unfoldable pub operand_sign : ℕ → ℕ → List Opened → Upper → Lower → sign_of.Op → List Entry → Step
+unfoldable pub operand_sign : ℕ → ℕ → List Opened → Upper → Lower → sign_of.Symbol → List Entry → Step
 operand_sign at left os u w s.Plus es = signs at left os u w false es
 operand_sign at left os u w s.Minus es = signs at left os u w true es
 operand_sign at left os u w s.OpenParenthesis es = Some (opens left os u w b.Group at, es)
@@ -334,35 +334,35 @@ operand at left os u w (t.Name m) es = Some (h.Has os u w (p.Name m) at, es)
 operand at left os u w (t.Number m) es = constant at left os u w (literal.Number m) es
 operand at left os u w (t.Text m) es = constant at left os u w (literal.Text m) es
 operand at left os u w (t.Keyword word) es = operand_word at left os u w word es
-operand at left os u w (t.Op sign) es = operand_sign at left os u w sign es
+operand at left os u w (t.Symbol sign) es = operand_sign at left os u w sign es
 operand at left os u w _ es = None
 
 -- ---- the other places
 
--- a token behind `is`
+-- a token after `is`
 abbrev pub after_is : List Opened → Upper → ℕ → Kind → List Entry → Step
 after_is os u from (t.Keyword k.None) es = Some (h.Related os u from, mark n.IsNone es)
 after_is os u from (t.Keyword k.Not) es = Some (h.AfterIsNot os u from, es)
 after_is os u from _ es = None
 
--- a token behind `is not`
+-- a token after `is not`
 abbrev pub after_is_not : List Opened → Upper → ℕ → Kind → List Entry → Step
 after_is_not os u from (t.Keyword k.None) es = Some (h.Related os u from, mark n.IsNotNone es)
 after_is_not os u from _ es = None
 
--- a token behind `not` that stands behind an operand
+-- a token after `not` that stands after an operand
 abbrev pub after_not : ℕ → List Opened → Upper → ℕ → Kind → List Entry → Step
 after_not left os u from (t.Keyword k.In) es = Some (relates left os u from o.NotIn, es)
 after_not left os u from _ es = None
 
--- a token behind `.`
+-- a token after `.`
 abbrev pub after_dot : List Opened → Upper → Lower → ℕ → Kind → List Entry → Step
 after_dot os u w from (t.Name m) es = Some (h.AfterMethod os u w from m, es)
 after_dot os u w from _ es = None
 
--- a token behind `.` and a name
+-- a token after `.` and a name
 abbrev pub after_method : ℕ → List Opened → Upper → Lower → ℕ → List ℕ → Kind → List Entry → Step
-after_method left os u w from m (t.Op s.OpenParenthesis) es = Some (opens left os u w (b.Call (Some m)) from, mark n.Empty es)
+after_method left os u w from m (t.Symbol s.OpenParenthesis) es = Some (opens left os u w (b.Call (Some m)) from, mark n.Empty es)
 after_method left os u w from m _ es = None
 
 -- one more token where no operand is to stand, and none stands before

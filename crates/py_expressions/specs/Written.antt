@@ -1,4 +1,4 @@
--- What has been written of an expression whose forms are open, before these tokens and behind these entries.
+-- What has been written of an expression whose forms are open, before these tokens and after these entries.
 use Rattle.std.specs.Prelude.{List, [], ◌∷◌, Option, Some, None}
 use Rattle.py_token.specs.declared.kinds.Kind.{Kind}
 use Rattle.py_token.specs.declared.kinds.Kind.TheVariants as t

@@ -7,7 +7,7 @@ use crate::reading::{Around, Bracket, Opened, Reading};
 use crate::stop::Stop;
 use plain_data::Stack;
 use py_postfix::{Entry, Node};
-use py_token::Op;
+use py_token::Symbol;
 use std::alloc::Global;
 
 /// `)` where nothing of an expression has been read.
@@ -130,17 +130,17 @@ fn go_on_at(
     alloc: Global,
     opened: Stack<Opened>,
     top: Opened,
-    sign: Op,
+    sign: Symbol,
     left: usize,
     entries: &mut Stack<Entry>,
 ) -> Result<Reading, Stop>
     ensures { Gives result entries.new (bracket_goes_on_at left opened top sign entries.old) }
 {
     match sign {
-        Op::CloseParenthesis => end_parenthesis_at(opened, top, left, entries),
-        Op::CloseBracket => end_bracket_at(opened, top, left, entries),
-        Op::CloseBrace => end_brace_at(opened, top, left, entries),
-        Op::Colon => end_key_at(alloc, opened, top, left, entries),
+        Symbol::CloseParenthesis => end_parenthesis_at(opened, top, left, entries),
+        Symbol::CloseBracket => end_bracket_at(opened, top, left, entries),
+        Symbol::CloseBrace => end_brace_at(opened, top, left, entries),
+        Symbol::Colon => end_key_at(alloc, opened, top, left, entries),
         _ => Err(Stop::Refused),
     }
 }
@@ -149,7 +149,7 @@ fn go_on_at(
 pub fn innermost_go_on_at(
     alloc: Global,
     mut opened: Stack<Opened>,
-    sign: Op,
+    sign: Symbol,
     left: usize,
     entries: &mut Stack<Entry>,
 ) -> Result<Reading, Stop>

@@ -1,4 +1,4 @@
-//! Brackets that open, and that go on and end behind a whole expression.
+//! Brackets that open, and that go on and end after a whole expression.
 ghost use Rattle.std.specs.Prelude.{◌≡◌, Some, IfOk};
 ghost use Rattle.py_expressions.specs.declared.reading.Reading.TheVariants.{Has};
 ghost use Rattle.py_expressions.specs.Gives.{Gives};
@@ -10,7 +10,7 @@ use crate::reading::{Around, Bracket, Opened, Primary, Reading};
 use crate::stop::Stop;
 use plain_data::{Stack, Text};
 use py_postfix::{Entry, Node};
-use py_token::Op;
+use py_token::Symbol;
 use std::alloc::{AllocError, Global};
 
 /// Nothing stands before what stands outside all brackets.
@@ -115,7 +115,7 @@ pub fn close(
     Ok(has(around, Primary::Other))
 }
 
-/// `)` behind a whole expression.
+/// `)` after a whole expression.
 fn end_parenthesis(
     opened: Stack<Opened>,
     top: Opened,
@@ -147,7 +147,7 @@ fn end_parenthesis(
     }
 }
 
-/// `]` behind a whole expression.
+/// `]` after a whole expression.
 fn end_bracket(
     opened: Stack<Opened>,
     top: Opened,
@@ -180,7 +180,7 @@ fn end_bracket(
     }
 }
 
-/// `}` behind a whole expression.
+/// `}` after a whole expression.
 fn end_brace(
     opened: Stack<Opened>,
     top: Opened,
@@ -211,7 +211,7 @@ fn end_brace(
     }
 }
 
-/// `,` behind a whole expression.
+/// `,` after a whole expression.
 fn next_element(
     alloc: Global,
     opened: Stack<Opened>,
@@ -251,7 +251,7 @@ fn next_element(
     }
 }
 
-/// `:` behind a whole expression.
+/// `:` after a whole expression.
 fn end_key(
     alloc: Global,
     opened: Stack<Opened>,
@@ -281,33 +281,33 @@ fn end_key(
     }
 }
 
-/// A sign behind a whole expression.
+/// A sign after a whole expression.
 #[tactic(auto, unfolding(crate::specs::Steps::bracket_goes_on))]
 fn go_on(
     alloc: Global,
     opened: Stack<Opened>,
     top: Opened,
-    sign: Op,
+    sign: Symbol,
     left: usize,
     entries: &mut Stack<Entry>,
 ) -> Result<Reading, Stop>
     ensures { Gives result entries.new (bracket_goes_on left opened top sign entries.old) }
 {
     match sign {
-        Op::CloseParenthesis => end_parenthesis(opened, top, left, entries),
-        Op::CloseBracket => end_bracket(opened, top, left, entries),
-        Op::CloseBrace => end_brace(opened, top, left, entries),
-        Op::Comma => next_element(alloc, opened, top, left, entries),
-        Op::Colon => end_key(alloc, opened, top, left, entries),
+        Symbol::CloseParenthesis => end_parenthesis(opened, top, left, entries),
+        Symbol::CloseBracket => end_bracket(opened, top, left, entries),
+        Symbol::CloseBrace => end_brace(opened, top, left, entries),
+        Symbol::Comma => next_element(alloc, opened, top, left, entries),
+        Symbol::Colon => end_key(alloc, opened, top, left, entries),
         _ => Err(Stop::Refused),
     }
 }
 
-/// A sign behind a whole expression, which is written.
+/// A sign after a whole expression, which is written.
 pub fn innermost_go_on(
     alloc: Global,
     mut opened: Stack<Opened>,
-    sign: Op,
+    sign: Symbol,
     left: usize,
     entries: &mut Stack<Entry>,
 ) -> Result<Reading, Stop>

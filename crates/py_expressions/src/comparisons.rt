@@ -1,4 +1,4 @@
-//! One more token behind a comparison.
+//! One more token after a comparison.
 ghost use Rattle.std.specs.Prelude.{◌≡◌, Some};
 ghost use Rattle.py_expressions.specs.declared.reading.Reading.TheVariants.{AfterIs, AfterNot};
 ghost use Rattle.py_expressions.specs.Endings.{compare_goes_on};
@@ -12,7 +12,7 @@ use crate::reading::{Comparison, Lower, Opened, Place, Reading, Upper};
 use crate::stop::Stop;
 use plain_data::Stack;
 use py_postfix::Entry;
-use py_token::{Keyword, Kind, Op as Sign};
+use py_token::{Keyword, Kind, Symbol};
 use py_tree::Op;
 use std::alloc::Global;
 
@@ -20,7 +20,7 @@ use std::alloc::Global;
 fn end_in_bracket(
     alloc: Global,
     comparison: Comparison,
-    sign: Sign,
+    sign: Symbol,
     place: Place,
     entries: &mut Stack<Entry>,
 ) -> Result<Reading, Stop>
@@ -39,7 +39,7 @@ fn end_in_bracket(
     innermost_go_on(alloc, opened, sign, place.left, entries)
 }
 
-/// An operand behind this relation is to come.
+/// An operand after this relation is to come.
 pub fn relates(
     alloc: Global,
     left: usize,
@@ -134,7 +134,7 @@ fn join_or(
     })
 }
 
-/// `if`, behind the first operand of a choice.
+/// `if`, after the first operand of a choice.
 fn begin_test(
     alloc: Global,
     comparison: Comparison,
@@ -165,7 +165,7 @@ fn begin_test(
     })
 }
 
-/// `else`, behind the test of a choice.
+/// `else`, after the test of a choice.
 fn end_test(
     alloc: Global,
     comparison: Comparison,
@@ -198,7 +198,7 @@ fn end_test(
     })
 }
 
-/// `is` behind an operand.
+/// `is` after an operand.
 fn begin_is(comparison: Comparison, entries: &mut Stack<Entry>) -> Result<Reading, Stop>
     ensures { Gives result entries.new (Some (AfterIs comparison.opened comparison.upper comparison.from, compare_goes_on comparison.last entries.old)) }
 {
@@ -216,7 +216,7 @@ fn begin_is(comparison: Comparison, entries: &mut Stack<Entry>) -> Result<Readin
     })
 }
 
-/// `not` behind an operand.
+/// `not` after an operand.
 fn begin_not_in(comparison: Comparison, entries: &mut Stack<Entry>) -> Result<Reading, Stop>
     ensures { Gives result entries.new (Some (AfterNot comparison.opened comparison.upper comparison.from, compare_goes_on comparison.last entries.old)) }
 {
@@ -258,16 +258,16 @@ pub fn behind_word(
 
 /// The relation that a sign begins.
 #[tactic(auto, unfolding(crate::specs::Steps::relation_at))]
-fn relation_at(sign: Sign) -> Option<Op>
+fn relation_at(sign: Symbol) -> Option<Op>
     ensures { result ≡ relation_at sign }
 {
     match sign {
-        Sign::Equal => Some(Op::Equal),
-        Sign::NotEqual => Some(Op::NotEqual),
-        Sign::Less => Some(Op::Less),
-        Sign::AtMost => Some(Op::AtMost),
-        Sign::More => Some(Op::More),
-        Sign::AtLeast => Some(Op::AtLeast),
+        Symbol::Equal => Some(Op::Equal),
+        Symbol::NotEqual => Some(Op::NotEqual),
+        Symbol::Less => Some(Op::Less),
+        Symbol::AtMost => Some(Op::AtMost),
+        Symbol::More => Some(Op::More),
+        Symbol::AtLeast => Some(Op::AtLeast),
         _ => None,
     }
 }
@@ -275,7 +275,7 @@ fn relation_at(sign: Sign) -> Option<Op>
 pub fn behind_sign(
     alloc: Global,
     comparison: Comparison,
-    sign: Sign,
+    sign: Symbol,
     place: Place,
     entries: &mut Stack<Entry>,
 ) -> Result<Reading, Stop>
@@ -287,7 +287,7 @@ pub fn behind_sign(
     }
 }
 
-/// One more token behind a whole comparison.
+/// One more token after a whole comparison.
 pub fn behind(
     alloc: Global,
     comparison: Comparison,
@@ -299,7 +299,7 @@ pub fn behind(
 {
     match token {
         Kind::Keyword(word) => behind_word(alloc, comparison, *word, place, entries),
-        Kind::Op(sign) => behind_sign(alloc, comparison, *sign, place, entries),
+        Kind::Symbol(sign) => behind_sign(alloc, comparison, *sign, place, entries),
         _ => Err(Stop::Refused),
     }
 }

@@ -5,7 +5,7 @@ use crate::fresh::is_bare;
 use crate::reading::{Bracket, Lower, Opened, Reading, Upper};
 use plain_data::Stack;
 use py_grammar::Construct;
-use py_token::{Keyword, Kind, Op};
+use py_token::{Keyword, Kind, Symbol};
 
 fn comma_in(bracket: &Bracket) -> Option<Construct>
     ensures { result ≡ comma_in bracket.now }
@@ -17,7 +17,7 @@ fn comma_in(bracket: &Bracket) -> Option<Construct>
     }
 }
 
-/// `,` behind a whole expression.
+/// `,` after a whole expression.
 fn comma_begins(opened: &Stack<Opened>) -> Option<Construct>
     ensures { result ≡ comma_begins opened.now }
 {
@@ -62,7 +62,7 @@ fn brace_in(bracket: &Bracket) -> Option<Construct>
     }
 }
 
-/// `}` behind what stands first in braces.
+/// `}` after what stands first in braces.
 fn brace_begins(opened: &Stack<Opened>) -> Option<Construct>
     ensures { result ≡ brace_begins opened.now }
 {
@@ -76,15 +76,15 @@ fn behind_whole(opened: &Stack<Opened>, token: &Kind) -> Option<Construct>
     ensures { result ≡ behind_whole opened.now token.now }
 {
     match token {
-        Kind::Op(Op::Comma) => comma_begins(opened),
+        Kind::Symbol(Symbol::Comma) => comma_begins(opened),
         Kind::Keyword(Keyword::For) => element_begins(Construct::Comprehension, opened),
-        Kind::Op(Op::CloseBrace) => brace_begins(opened),
-        Kind::Op(Op::Assign) => element_begins(Construct::KeywordArgument, opened),
+        Kind::Symbol(Symbol::CloseBrace) => brace_begins(opened),
+        Kind::Symbol(Symbol::Assign) => element_begins(Construct::KeywordArgument, opened),
         _ => None,
     }
 }
 
-/// Behind an operand. No `if` may wait for its `else`.
+/// After an operand. No `if` may wait for its `else`.
 fn behind_operand(opened: &Stack<Opened>, upper: &Upper, token: &Kind) -> Option<Construct>
     ensures { result ≡ behind_operand opened.now upper.now token.now }
 {
@@ -104,7 +104,7 @@ fn group_in(bracket: &Bracket) -> Option<Construct>
     }
 }
 
-/// `)` directly behind a `(` that begins an operand.
+/// `)` directly after a `(` that begins an operand.
 fn empty_group(opened: &Stack<Opened>) -> Option<Construct>
     ensures { result ≡ empty_group opened.now }
 {
@@ -123,7 +123,7 @@ fn at_operand(
     ensures { result ≡ at_operand opened.now upper.now lower.now token.now }
 {
     match token {
-        Kind::Op(Op::CloseParenthesis) => {
+        Kind::Symbol(Symbol::CloseParenthesis) => {
             if is_bare(upper, lower) {
                 empty_group(opened)
             } else {
@@ -134,7 +134,7 @@ fn at_operand(
     }
 }
 
-/// Anything but `None` and `not` behind `is`.
+/// Anything but `None` and `not` after `is`.
 fn after_is(token: &Kind) -> Option<Construct>
     ensures { result ≡ after_is token.now }
 {
@@ -145,7 +145,7 @@ fn after_is(token: &Kind) -> Option<Construct>
     }
 }
 
-/// Anything but `None` behind `is not`.
+/// Anything but `None` after `is not`.
 fn after_is_not(token: &Kind) -> Option<Construct>
     ensures { result ≡ after_is_not token.now }
 {
@@ -155,12 +155,12 @@ fn after_is_not(token: &Kind) -> Option<Construct>
     }
 }
 
-/// Anything but a call behind `.` and a name.
+/// Anything but a call after `.` and a name.
 fn after_method(token: &Kind) -> Option<Construct>
     ensures { result ≡ after_method token.now }
 {
     match token {
-        Kind::Op(Op::OpenParenthesis) => None,
+        Kind::Symbol(Symbol::OpenParenthesis) => None,
         _ => Some(Construct::Attribute),
     }
 }

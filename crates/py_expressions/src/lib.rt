@@ -16,8 +16,6 @@ mod operators;
 mod places;
 mod reading;
 mod stop;
-#[cfg(test)]
-mod tests;
 mod tokens;
 
 pub use constructs::outside;

@@ -11,7 +11,7 @@ use crate::reading::{Around, Bracket, Lower, Opened, Place, Primary, Reading, Si
 use crate::stop::Stop;
 use plain_data::Stack;
 use py_postfix::{Entry, Node};
-use py_token::{Keyword, Kind, Op};
+use py_token::{Keyword, Kind, Symbol};
 use py_tree::Literal;
 use std::alloc::Global;
 
@@ -19,7 +19,7 @@ use std::alloc::Global;
 fn end_at_nothing(
     alloc: Global,
     around: Around,
-    sign: Op,
+    sign: Symbol,
     left: usize,
     entries: &mut Stack<Entry>,
 ) -> Result<Reading, Stop>
@@ -128,7 +128,7 @@ fn operand_word(
 fn operand_sign(
     alloc: Global,
     around: Around,
-    sign: Op,
+    sign: Symbol,
     place: Place,
     entries: &mut Stack<Entry>,
 ) -> Result<Reading, Stop>
@@ -136,14 +136,14 @@ fn operand_sign(
     ensures { Gives result entries.new (operand_sign place.at place.left around.opened around.upper around.lower sign entries.old) }
 {
     match sign {
-        Op::Plus => add_sign(around, false, place, entries),
-        Op::Minus => add_sign(around, true, place, entries),
-        Op::OpenParenthesis => Ok(open(alloc, around, Bracket::Group, place.left)?),
-        Op::OpenBracket => {
+        Symbol::Plus => add_sign(around, false, place, entries),
+        Symbol::Minus => add_sign(around, true, place, entries),
+        Symbol::OpenParenthesis => Ok(open(alloc, around, Bracket::Group, place.left)?),
+        Symbol::OpenBracket => {
             write_mark(Node::Empty, entries)?;
             Ok(open(alloc, around, Bracket::Display, place.left)?)
         }
-        Op::OpenBrace => {
+        Symbol::OpenBrace => {
             write_mark(Node::NoPairs, entries)?;
             Ok(open(alloc, around, Bracket::Dict(true), place.left)?)
         }
@@ -167,7 +167,7 @@ pub fn operand(
         Kind::Number(number) => constant(around, Literal::Number(*number), place, entries),
         Kind::Text(text) => constant(around, Literal::Text(text.copy(alloc)?), place, entries),
         Kind::Keyword(word) => operand_word(alloc, around, *word, place, entries),
-        Kind::Op(sign) => operand_sign(alloc, around, *sign, place, entries),
+        Kind::Symbol(sign) => operand_sign(alloc, around, *sign, place, entries),
         _ => Err(Stop::Refused),
     }
 }

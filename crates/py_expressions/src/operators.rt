@@ -1,4 +1,4 @@
-//! One more token behind an operand.
+//! One more token after an operand.
 ghost use Rattle.std.specs.Prelude.{◌≡◌, IfOk, OnOk};
 ghost use Rattle.py_expressions.specs.declared.reading.Reading.TheVariants.{AfterDot};
 ghost use Rattle.py_expressions.specs.Endings.{compared_of, sum_ended};
@@ -14,7 +14,7 @@ use crate::reading::{Around, Bracket, Comparison, Lower, Place, Primary, Reading
 use crate::stop::Stop;
 use plain_data::Stack;
 use py_postfix::{Entry, Node};
-use py_token::{Kind, Op as Sign};
+use py_token::{Kind, Symbol};
 use py_tree::Op;
 use std::alloc::{AllocError, Global};
 
@@ -95,7 +95,7 @@ fn scale(
     })
 }
 
-/// `.` behind an operand.
+/// `.` after an operand.
 fn begin_method(around: Around) -> Reading
     ensures { result ≡ AfterDot around.opened around.upper around.lower around.from }
 {
@@ -143,24 +143,24 @@ fn end_in_comparison(
 fn operator_sign(
     alloc: Global,
     around: Around,
-    sign: Sign,
+    sign: Symbol,
     place: Place,
     entries: &mut Stack<Entry>,
 ) -> Result<Reading, Stop>
     ensures { Gives result entries.new (operator_sign place.at place.left around.opened around.upper around.lower around.from sign entries.old) }
 {
     match sign {
-        Sign::OpenParenthesis => {
+        Symbol::OpenParenthesis => {
             write_mark(Node::Empty, entries)?;
             Ok(open(alloc, around, Bracket::Call(None), place.left)?)
         }
-        Sign::OpenBracket => Ok(open(alloc, around, Bracket::Index, place.left)?),
-        Sign::Dot => Ok(begin_method(around)),
-        Sign::Plus => add(alloc, around, Op::Plus, place, entries),
-        Sign::Minus => add(alloc, around, Op::Minus, place, entries),
-        Sign::Times => scale(alloc, around, Op::Times, place, entries),
-        Sign::Floor => scale(alloc, around, Op::Floor, place, entries),
-        Sign::Mod => scale(alloc, around, Op::Mod, place, entries),
+        Symbol::OpenBracket => Ok(open(alloc, around, Bracket::Index, place.left)?),
+        Symbol::Dot => Ok(begin_method(around)),
+        Symbol::Plus => add(alloc, around, Op::Plus, place, entries),
+        Symbol::Minus => add(alloc, around, Op::Minus, place, entries),
+        Symbol::Times => scale(alloc, around, Op::Times, place, entries),
+        Symbol::Floor => scale(alloc, around, Op::Floor, place, entries),
+        Symbol::Mod => scale(alloc, around, Op::Mod, place, entries),
         _ => {
             let comparison = end_in_comparison(around, place.at, entries)?;
             behind_sign(alloc, comparison, sign, place, entries)
@@ -179,7 +179,7 @@ fn operator_written(
     ensures { Gives result entries.new (operator_written place.at place.left around.opened around.upper around.lower around.from token.now entries.old) }
 {
     match token {
-        Kind::Op(sign) => operator_sign(alloc, around, *sign, place, entries),
+        Kind::Symbol(sign) => operator_sign(alloc, around, *sign, place, entries),
         Kind::Keyword(word) => {
             let comparison = end_in_comparison(around, place.at, entries)?;
             behind_word(alloc, comparison, *word, place, entries)
@@ -188,7 +188,7 @@ fn operator_written(
     }
 }
 
-/// One more token behind an operand.
+/// One more token after an operand.
 pub fn operator(
     alloc: Global,
     around: Around,

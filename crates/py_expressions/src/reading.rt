@@ -6,7 +6,7 @@ use py_tree::Op;
 pub struct Upper {
     /// Where each `a if b else` begins whose last operand is being read, the innermost first.
     pub picks: Stack<usize>,
-    /// Where the expression behind them begins.
+    /// Where the expression after them begins.
     pub from: usize,
     /// Whether that begins with `a if`, and its test is being read.
     pub test: bool,
@@ -55,7 +55,7 @@ pub enum Bracket {
     /// A call of what stands before it, or of this method of it.
     Call(Option<Text>),
     Index,
-    /// A slice behind its colon: whether a bound stands before that.
+    /// A slice after its colon: whether a bound stands before that.
     Slice(bool),
 }
 
@@ -79,7 +79,7 @@ pub enum Primary {
     Other,
 }
 
-/// What stands last in a comparison: its first operand, an operand behind this relation, or `is None`.
+/// What stands last in a comparison: its first operand, an operand after this relation, or `is None`.
 #[derive(Clone, Copy, Debug, PartialEq, Eq)]
 pub enum Compared {
     First,
@@ -105,7 +105,7 @@ pub struct Comparison {
     pub last: Compared,
 }
 
-/// How many tokens are left, this one counted, and how many behind it.
+/// How many tokens are left, this one counted, and how many after it.
 #[derive(Clone, Copy, Debug, PartialEq, Eq)]
 pub struct Place {
     pub at: usize,
@@ -145,7 +145,7 @@ pub enum Reading {
         upper: Upper,
         compare_from: usize,
     },
-    /// `not` behind an operand, where `in` has to come.
+    /// `not` after an operand, where `in` has to come.
     AfterNot {
         opened: Stack<Opened>,
         upper: Upper,

@@ -13,7 +13,7 @@ use crate::reading::{Around, Bracket, Compared, Comparison, Lower, Opened, Place
 use crate::stop::Stop;
 use plain_data::{Stack, Text};
 use py_postfix::{Entry, Node};
-use py_token::{Keyword, Kind, Op};
+use py_token::{Keyword, Kind, Symbol};
 use std::alloc::Global;
 
 /// An expression of which nothing has been read, before so many tokens.
@@ -124,7 +124,7 @@ fn after_method(
     ensures { Gives result entries.new (after_method left around.opened around.upper around.lower around.from name token.now entries.old) }
 {
     match token {
-        Kind::Op(Op::OpenParenthesis) => {
+        Kind::Symbol(Symbol::OpenParenthesis) => {
             write_mark(Node::Empty, entries)?;
             Ok(open(alloc, around, Bracket::Call(Some(name)), left)?)
         }

@@ -7,7 +7,7 @@ use Rattle.py_grammar.specs.Words.{pass_word, global_word, colon}
 use Rattle.py_grammar.specs.Expressions.{Expression}
 use Rattle.py_grammar.specs.Readings.{upper, Reading, has, has_none, has_not_none, read, whole}
 use Rattle.py_grammar.specs.Open.{spell_reading}
-use Rattle.py_grammar.specs.Statements.{Place, Augmentation, Names, Word, idle, Simple, word, declare, keyword, Statements, statements_one, statements_more, compound, indented, Cell, spell_names, spell_block, spell_front}
+use Rattle.py_grammar.specs.Statements.{Target, Augmentation, Names, Word, pass_, Simple, word, declare, keyword, Statements, statements_one, statements_more, compound, indented, Cell, spell_names, spell_block, spell_front}
 use Rattle.py_grammar.specs.States.{Outer, outer, Spot, own, behind_head, Purpose, giving, assigning, augmenting, Lead, State, line, in_simple, after_word, has_global, in_test, after_colon, after_newline, done, close, ended, finished, head_of, then_simple, then_test, ends, step, run, spell_spot, spell_purpose, spell_lead}
 use Rattle.py_grammar.proofs.Spelled.{Adds, read-adds}
 use Rattle.py_grammar.proofs.Whole.{then_run}
@@ -95,17 +95,17 @@ pub line-ends : (os : List Outer) (before : Option Statements) → Ends (line os
 line-ends os (Some ss) = lines-end os ss
 line-ends [] None = back (line [] None) (done None) t.End refl (λ rest place l. refl) (done-ends None)
 line-ends (o ∷ os) None =
-    back (line (o ∷ os) None) (after_word (o ∷ os) (own None) idle) pass_word refl
-    (direct (line (o ∷ os) None) (after_word (o ∷ os) (own None) idle) pass_word (λ rest place l. let c = behind-none place (length (pass_word ∷ rest)) l in omega arith))
-    (word-ends (o ∷ os) (own None) idle)
+    back (line (o ∷ os) None) (after_word (o ∷ os) (own None) pass_) pass_word refl
+    (direct (line (o ∷ os) None) (after_word (o ∷ os) (own None) pass_) pass_word (λ rest place l. let c = behind-none place (length (pass_word ∷ rest)) l in omega arith))
+    (word-ends (o ∷ os) (own None) pass_)
 
--- ---- behind a head
+-- ---- after a head
 
 pub colon-ends : (os : List Outer) (o : Outer) → Ends (after_colon os o)
 colon-ends os (outer b h) =
-    back (after_colon os (outer b h)) (after_word os (behind_head (outer b h)) idle) pass_word refl
-    (direct (after_colon os (outer b h)) (after_word os (behind_head (outer b h)) idle) pass_word (λ rest place l. let c = behind-none place (length (pass_word ∷ rest)) l in omega arith))
-    (word-ends os (behind_head (outer b h)) idle)
+    back (after_colon os (outer b h)) (after_word os (behind_head (outer b h)) pass_) pass_word refl
+    (direct (after_colon os (outer b h)) (after_word os (behind_head (outer b h)) pass_) pass_word (λ rest place l. let c = behind-none place (length (pass_word ∷ rest)) l in omega arith))
+    (word-ends os (behind_head (outer b h)) pass_)
 
 pub newline-ends : (os : List Outer) (o : Outer) → Ends (after_newline os o)
 newline-ends os (outer b h) =
@@ -203,7 +203,7 @@ giving-walks os at = record {
   at_not_none = λ ps o a n c. finish-ends os at giving (has_not_none [] (upper ps None o a n) c) _ refl (λ rest. tt);
 }
 
-pub assigning-walks : (os : List Outer) (at : Spot) (to : Place) → walked.Walks false (λ r. Ends (in_simple os at (assigning to) r))
+pub assigning-walks : (os : List Outer) (at : Spot) (to : Target) → walked.Walks false (λ r. Ends (in_simple os at (assigning to) r))
 assigning-walks os at to = record {
   back = λ r s x e exact narrow p. simple-back os at (assigning to) r s (token_of x) (carried os at (assigning to) r x ∙ ap (then_simple os at (assigning to)) e) e exact p;
   at_primary = λ ps o a n w p. finish-ends os at (assigning to) (has [] (upper ps None o a n) w p) _ refl (λ rest place from. settled-primary place (held_primary p) from);
@@ -211,7 +211,7 @@ assigning-walks os at to = record {
   at_not_none = λ ps o a n c. finish-ends os at (assigning to) (has_not_none [] (upper ps None o a n) c) _ refl (λ rest. tt);
 }
 
-pub augmenting-walks : (os : List Outer) (at : Spot) (to : Place) (by : Augmentation) → walked.Walks false (λ r. Ends (in_simple os at (augmenting to by) r))
+pub augmenting-walks : (os : List Outer) (at : Spot) (to : Target) (by : Augmentation) → walked.Walks false (λ r. Ends (in_simple os at (augmenting to by) r))
 augmenting-walks os at to by = record {
   back = λ r s x e exact narrow p. simple-back os at (augmenting to by) r s (token_of x) (carried os at (augmenting to by) r x ∙ ap (then_simple os at (augmenting to by)) e) e exact p;
   at_primary = λ ps o a n w p. finish-ends os at (augmenting to by) (has [] (upper ps None o a n) w p) _ refl (λ rest place from. settled-primary place (held_primary p) from);

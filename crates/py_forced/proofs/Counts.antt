@@ -1,4 +1,4 @@
--- How many of the parts that are open hold a token that has been read: those that don't begin behind it.
+-- How many of the parts that are open hold a token that has been read: those that don't begin after it.
 use Rattle.std.proofs.Common.{◌≡◌, ℕ, ◌+◌, ◌<◌, ◌≤◌, Bool, true, false, ◌&&◌, not, nat_lt, nat_le, if◌then◌else◌, is_some, List, [], ◌∷◌, refl, arith}
 use Rattle.std.proofs.lemmas.Bool.{lt-ltb}
 use Rattle.py_postfix.specs.declared.entries.Node.{Node}
@@ -30,7 +30,7 @@ reach place from = count_if (nat_le place from)
 abbrev pub reach_if : Bool → ℕ → ℕ → ℕ
 reach_if b place from = if b then reach place from else 0
 
--- what begins behind the token doesn't hold it
+-- what begins after the token doesn't hold it
 pub behind-none : (place at : ℕ) → at < place → reach place at ≡ 0
 unfolding reach
 behind-none place at l = grind arith

@@ -3,7 +3,7 @@ use Rattle.std.proofs.Common.{◌≡◌, ℕ, ◌+◌, ◌<◌, Bool, true, fals
 use Rattle.std.proofs.lemmas.Bool.{false≢true}
 use Rattle.py_token.specs.declared.kinds.Kind.{Kind}
 use Rattle.py_token.specs.declared.kinds.Kind.TheVariants as t
-use Rattle.py_token.specs.declared.kinds.Op.TheVariants as s
+use Rattle.py_token.specs.declared.kinds.Symbol.TheVariants as s
 use Rattle.py_grammar.specs.States as m
 use Rattle.py_postfix.specs.declared.entries.Node.{Node}
 use Rattle.py_postfix.specs.declared.entries.Node.TheVariants as n
@@ -145,7 +145,7 @@ assigns-just place left os x from before None g = tt
 assigns-just place left os x from before (Some es) g = omega arith
 
 pub assign-just : (place at left : ℕ) (os : List Outer) (x : Spot) (from : ℕ) (q : Reading) (es : List Entry)
-    → Just place (simple_count place os x from + (reading_count true place q + depth place es)) (on_simple at left os x purpose.Showing from q (t.Op s.Assign) es)
+    → Just place (simple_count place os x from + (reading_count true place q + depth place es)) (on_simple at left os x purpose.Showing from q (t.Symbol s.Assign) es)
 unfolding assignment
 assign-just place at left os x from q es = assigns-just place left os x from _ (placed q es) (placed-written place q es)
 
@@ -160,7 +160,7 @@ first-just place before true x y e g = g
 first-just place before false x y e g = absurd (false≢true e)
 
 pub test-just : (place at left : ℕ) (os : List Outer) (x : Lead) (from : ℕ) (q : Reading) (es : List Entry) → SettlesAt false q → is_whole q ≡ true → at < place
-    → Just place ((outers_count place os + reach place from) + (reading_count false place q + depth place es)) (on_test at left os x from q (t.Op s.Colon) es)
+    → Just place ((outers_count place os + reach place from) + (reading_count false place q + depth place es)) (on_test at left os x from q (t.Symbol s.Colon) es)
 test-just place at left os x from q es f w l = first-just place _ (is_whole q) _ _ w (tested-just place os x from _ (ex.ended at q es) (ended-written false place at q es f l))
 
 -- ---- the same of the forms

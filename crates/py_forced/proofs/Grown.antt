@@ -5,8 +5,8 @@ use Rattle.py_token.specs.declared.kinds.Kind.{Kind}
 use Rattle.py_token.specs.declared.kinds.Kind.TheVariants as t
 use Rattle.py_token.specs.declared.kinds.Keyword.{Keyword}
 use Rattle.py_token.specs.declared.kinds.Keyword.TheVariants as k
-use Rattle.py_token.specs.declared.kinds.Op as sign_of
-use Rattle.py_token.specs.declared.kinds.Op.TheVariants as s
+use Rattle.py_token.specs.declared.kinds.Symbol as sign_of
+use Rattle.py_token.specs.declared.kinds.Symbol.TheVariants as s
 use Rattle.py_tree.specs.declared.expressions.Literal.{Literal}
 use Rattle.py_tree.specs.declared.expressions.Literal.TheVariants as literal
 use Rattle.py_tree.specs.declared.expressions.Op.{Op}
@@ -103,7 +103,7 @@ colon-grows placing place left os top b.Index es =
     omega arith
 colon-grows placing place left os top _ es = tt
 
-goes_on-grows : (placing : Bool) (place left : ℕ) (os : List Opened) (top : Opened) (sign : sign_of.Op) (es : List Entry) → left < place
+goes_on-grows : (placing : Bool) (place left : ℕ) (os : List Opened) (top : Opened) (sign : sign_of.Symbol) (es : List Entry) → left < place
     → Grows placing place (before_bracket placing place os top top.bracket + depth place es) (bracket_goes_on left os top sign es)
 unfolding bracket_goes_on
 goes_on-grows placing place left os top s.CloseParenthesis es l = parenthesis-grows placing place left os top top.bracket es l
@@ -113,12 +113,12 @@ goes_on-grows placing place left os top s.Comma es l = comma-grows placing place
 goes_on-grows placing place left os top s.Colon es l = colon-grows placing place left os top top.bracket es
 goes_on-grows placing place left os top _ es l = tt
 
-innermost-grows : (placing : Bool) (place left : ℕ) (os : List Opened) (sign : sign_of.Op) (es : List Entry) → left < place
+innermost-grows : (placing : Bool) (place left : ℕ) (os : List Opened) (sign : sign_of.Symbol) (es : List Entry) → left < place
     → Grows placing place (brackets_count placing place os + depth place es) (innermost_goes_on left os sign es)
 innermost-grows placing place left [] sign es l = tt
 innermost-grows placing place left (top ∷ os) sign es l = goes_on-grows placing place left os top sign es l
 
--- ---- behind a comparison
+-- ---- after a comparison
 
 -- no part
 pub none : (b : Bool) (place from : ℕ) → b ≡ false → reach_if b place from ≡ 0
@@ -129,11 +129,11 @@ weaker : (placing : Bool) (place less more : ℕ) (x : Step) → less ≤ more �
 weaker placing place less more None l g = tt
 weaker placing place less more (Some x) l g = omega arith
 
--- what is counted behind a comparison
+-- what is counted after a comparison
 abbrev pub before_comparison : Bool → ℕ → List Opened → Upper → Compared → ℕ → ℕ
 before_comparison placing place os u last from = brackets_count placing place os + (upper_count place u + compared_count place last from)
 
-expression-grows : (placing : Bool) (place at left : ℕ) (os : List Opened) (u : Upper) (from : ℕ) (last : Compared) (sign : sign_of.Op) (es : List Entry) → at < place → left < place
+expression-grows : (placing : Bool) (place at left : ℕ) (os : List Opened) (u : Upper) (from : ℕ) (last : Compared) (sign : sign_of.Symbol) (es : List Entry) → at < place → left < place
     → Grows placing place (before_comparison placing place os u last from + depth place es) (behind_expression at left os u from last sign es)
 expression-grows placing place at left os u from last sign es l m = unless_grows u.test placing place _ _ (λ untested.
     let a = none u.test place u.from untested in
@@ -178,7 +178,7 @@ word-grows placing place at left os u from last k.If es l = if-grows placing pla
 word-grows placing place at left os u from last k.Else es l = else-grows placing place at left os u from last es l
 word-grows placing place at left os u from last _ es l = tt
 
-relation-grows : (placing : Bool) (place at left : ℕ) (os : List Opened) (u : Upper) (from : ℕ) (last : Compared) (relation : Option Op) (sign : sign_of.Op) (es : List Entry) → at < place → left < place
+relation-grows : (placing : Bool) (place at left : ℕ) (os : List Opened) (u : Upper) (from : ℕ) (last : Compared) (relation : Option Op) (sign : sign_of.Symbol) (es : List Entry) → at < place → left < place
     → Grows placing place (before_comparison placing place os u last from + depth place es) (behind_relation at left os u from last relation sign es)
 relation-grows placing place at left os u from last (Some relation) sign es l m = let a = relates-grows placing place os u from last es in omega arith
 relation-grows placing place at left os u from last None sign es l m = expression-grows placing place at left os u from last sign es l m
@@ -186,10 +186,10 @@ relation-grows placing place at left os u from last None sign es l m = expressio
 behind-grows : (placing : Bool) (place at left : ℕ) (os : List Opened) (u : Upper) (from : ℕ) (last : Compared) (token : Kind) (es : List Entry) → at < place → left < place
     → Grows placing place (before_comparison placing place os u last from + depth place es) (behind at left os u from last token es)
 behind-grows placing place at left os u from last (t.Keyword word) es l m = word-grows placing place at left os u from last word es l
-behind-grows placing place at left os u from last (t.Op sign) es l m = relation-grows placing place at left os u from last (relation_at sign) sign es l m
+behind-grows placing place at left os u from last (t.Symbol sign) es l m = relation-grows placing place at left os u from last (relation_at sign) sign es l m
 behind-grows placing place at left os u from last _ es l m = tt
 
--- ---- behind an operand
+-- ---- after an operand
 
 -- what is counted where the operand has been written
 abbrev pub before_operator : Bool → ℕ → List Opened → Upper → Lower → ℕ
@@ -211,11 +211,11 @@ pub ended-grows : (placing : Bool) (place at : ℕ) (os : List Opened) (u : Uppe
     → before_operator placing place os u w + depth place es ≡ before_comparison placing place os u (compared_of w.relation) w.compare_from + depth place (sum_ended w at es)
 ended-grows placing place at os u w es l = let a = sum-ended place w at es l in let b = compared-related place w.relation w.compare_from in omega arith
 
-sign-grows : (placing : Bool) (place at left : ℕ) (os : List Opened) (u : Upper) (w : Lower) (sign : sign_of.Op) (es : List Entry) → at < place → left < place
+sign-grows : (placing : Bool) (place at left : ℕ) (os : List Opened) (u : Upper) (w : Lower) (sign : sign_of.Symbol) (es : List Entry) → at < place → left < place
     → Grows placing place (before_operator placing place os u w + depth place es) (behind_sign at left os u w.compare_from (compared_of w.relation) sign (sum_ended w at es))
 sign-grows placing place at left os u w sign es l m = let a = ended-grows placing place at os u w es l in weaker placing place _ _ _ (omega arith) (relation-grows placing place at left os u w.compare_from (compared_of w.relation) (relation_at sign) sign (sum_ended w at es) l m)
 
-operator_sign-grows : (placing : Bool) (place at left : ℕ) (os : List Opened) (u : Upper) (w : Lower) (from : ℕ) (sign : sign_of.Op) (es : List Entry) → at < place → left < place
+operator_sign-grows : (placing : Bool) (place at left : ℕ) (os : List Opened) (u : Upper) (w : Lower) (from : ℕ) (sign : sign_of.Symbol) (es : List Entry) → at < place → left < place
     → Grows placing place (before_operator placing place os u w + depth place es) (operator_sign at left os u w from sign es)
 unfolding operator_sign
 operator_sign-grows placing place at left os u w from s.OpenParenthesis es l m = let a = opens-grows placing place os u w (is_place placing os u w && false) from es (mark n.Empty es) (mark-held place n.Empty es) in omega arith
@@ -230,7 +230,7 @@ operator_sign-grows placing place at left os u w from sign es l m = sign-grows p
 
 written-grows : (placing : Bool) (place at left : ℕ) (os : List Opened) (u : Upper) (w : Lower) (from : ℕ) (token : Kind) (es : List Entry) → at < place → left < place
     → Grows placing place (before_operator placing place os u w + depth place es) (operator_written at left os u w from token es)
-written-grows placing place at left os u w from (t.Op sign) es l m = operator_sign-grows placing place at left os u w from sign es l m
+written-grows placing place at left os u w from (t.Symbol sign) es l m = operator_sign-grows placing place at left os u w from sign es l m
 written-grows placing place at left os u w from (t.Keyword word) es l m =
     let a = ended-grows placing place at os u w es l in
     weaker placing place _ _ _ (omega arith) (word-grows placing place at left os u w.compare_from (compared_of w.relation) word (sum_ended w at es) l)
@@ -317,7 +317,7 @@ colon_at-grows placing place left os top b.Index es =
     omega arith
 colon_at-grows placing place left os top _ es = tt
 
-goes_on_at-grows : (placing : Bool) (place left : ℕ) (os : List Opened) (top : Opened) (sign : sign_of.Op) (es : List Entry) → left < place
+goes_on_at-grows : (placing : Bool) (place left : ℕ) (os : List Opened) (top : Opened) (sign : sign_of.Symbol) (es : List Entry) → left < place
     → Grows placing place (before_bracket placing place os top top.bracket + depth place es) (bracket_goes_on_at left os top sign es)
 unfolding bracket_goes_on_at
 goes_on_at-grows placing place left os top s.CloseParenthesis es l = parenthesis_at-grows placing place left os top top.bracket es l
@@ -326,12 +326,12 @@ goes_on_at-grows placing place left os top s.CloseBrace es l = brace_at-grows pl
 goes_on_at-grows placing place left os top s.Colon es l = colon_at-grows placing place left os top top.bracket es
 goes_on_at-grows placing place left os top _ es l = tt
 
-innermost_at-grows : (placing : Bool) (place left : ℕ) (os : List Opened) (sign : sign_of.Op) (es : List Entry) → left < place
+innermost_at-grows : (placing : Bool) (place left : ℕ) (os : List Opened) (sign : sign_of.Symbol) (es : List Entry) → left < place
     → Grows placing place (brackets_count placing place os + depth place es) (innermost_goes_on_at left os sign es)
 innermost_at-grows placing place left [] sign es l = tt
 innermost_at-grows placing place left (top ∷ os) sign es l = goes_on_at-grows placing place left os top sign es l
 
-nothing-grows : (placing : Bool) (place left : ℕ) (os : List Opened) (u : Upper) (w : Lower) (sign : sign_of.Op) (es : List Entry) → left < place
+nothing-grows : (placing : Bool) (place left : ℕ) (os : List Opened) (u : Upper) (w : Lower) (sign : sign_of.Symbol) (es : List Entry) → left < place
     → Grows placing place (before_operator placing place os u w + depth place es) (at_nothing left os u w sign es)
 nothing-grows placing place left os u w sign es l = only_grows (is_bare u w) placing place _ _ (λ bare.
     let a = bare-count place u w bare in
@@ -354,7 +354,7 @@ operand_word-grows placing place at left os u w k.False es l = constant-grows pl
 operand_word-grows placing place at left os u w k.Not es l = denies-grows placing place at left os u w es
 operand_word-grows placing place at left os u w _ es l = tt
 
-operand_sign-grows : (placing : Bool) (place at left : ℕ) (os : List Opened) (u : Upper) (w : Lower) (sign : sign_of.Op) (es : List Entry) → left < place
+operand_sign-grows : (placing : Bool) (place at left : ℕ) (os : List Opened) (u : Upper) (w : Lower) (sign : sign_of.Symbol) (es : List Entry) → left < place
     → Grows placing place (before_operator placing place os u w + depth place es) (operand_sign at left os u w sign es)
 unfolding operand_sign
 operand_sign-grows placing place at left os u w s.Plus es l = omega arith
@@ -370,7 +370,7 @@ operand-grows placing place at left os u w (t.Name m) es l = omega arith
 operand-grows placing place at left os u w (t.Number m) es l = constant-grows placing place at left os u w (literal.Number m) es l
 operand-grows placing place at left os u w (t.Text m) es l = constant-grows placing place at left os u w (literal.Text m) es l
 operand-grows placing place at left os u w (t.Keyword word) es l = operand_word-grows placing place at left os u w word es l
-operand-grows placing place at left os u w (t.Op sign) es l = operand_sign-grows placing place at left os u w sign es l
+operand-grows placing place at left os u w (t.Symbol sign) es l = operand_sign-grows placing place at left os u w sign es l
 operand-grows placing place at left os u w _ es l = tt
 
 -- ---- the other places
@@ -398,7 +398,7 @@ dot-grows placing place at left os u w from _ es = tt
 
 method-grows : (placing : Bool) (place at left : ℕ) (os : List Opened) (u : Upper) (w : Lower) (from : ℕ) (m : List ℕ) (token : Kind) (es : List Entry)
     → Grows placing place (reading_count placing place (h.AfterMethod os u w from m) + depth place es) (after_method left os u w from m token es)
-method-grows placing place at left os u w from m (t.Op s.OpenParenthesis) es =
+method-grows placing place at left os u w from m (t.Symbol s.OpenParenthesis) es =
     let a = not_item (is_place placing os u w) place from in
     let b = mark-held place n.Empty es in
     omega arith

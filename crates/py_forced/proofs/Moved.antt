@@ -5,8 +5,8 @@ use Rattle.py_token.specs.declared.kinds.Kind.{Kind}
 use Rattle.py_token.specs.declared.kinds.Kind.TheVariants as t
 use Rattle.py_token.specs.declared.kinds.Keyword.{Keyword}
 use Rattle.py_token.specs.declared.kinds.Keyword.TheVariants as k
-use Rattle.py_token.specs.declared.kinds.Op as sign_of
-use Rattle.py_token.specs.declared.kinds.Op.TheVariants as s
+use Rattle.py_token.specs.declared.kinds.Symbol as sign_of
+use Rattle.py_token.specs.declared.kinds.Symbol.TheVariants as s
 use Rattle.py_postfix.specs.declared.entries.Node.{Node}
 use Rattle.py_postfix.specs.declared.entries.Node.TheVariants as n
 use Rattle.py_postfix.specs.declared.entries.Entry.{Entry}
@@ -226,15 +226,15 @@ assigns-grows : (place left : ℕ) (os : List Outer) (x : Spot) (u : Purpose) (f
 assigns-grows place left os x u from before None g = tt
 assigns-grows place left os x u from before (Some es) g = omega arith
 
-sign-grows : (place at left : ℕ) (os : List Outer) (x : Spot) (u : Purpose) (from : ℕ) (q : Reading) (sign : sign_of.Op) (o : Option Purpose) (es : List Entry) → at < place → left < place
+sign-grows : (place at left : ℕ) (os : List Outer) (x : Spot) (u : Purpose) (from : ℕ) (q : Reading) (sign : sign_of.Symbol) (o : Option Purpose) (es : List Entry) → at < place → left < place
     → Grown place (simple_count place os x from + (reading_count (may_place u) place q + depth place es)) (sign_behind at left os x u from q sign o es)
 sign-grows place at left os x u from q sign (Some next) es l m = showing-grows place os x u from q es _ (assigns-grows place left os x next from _ (placed q es) (placed-keeps place q es))
-sign-grows place at left os x u from q sign None es l m = goes_on-grows place os x u from _ _ (reading-grows (may_place u) place at left q (t.Op sign) es l m)
+sign-grows place at left os x u from q sign None es l m = goes_on-grows place os x u from _ _ (reading-grows (may_place u) place at left q (t.Symbol sign) es l m)
 
 simple-grows : (place at left : ℕ) (os : List Outer) (x : Spot) (u : Purpose) (from : ℕ) (q : Reading) (token : Kind) (es : List Entry) → at < place → left < place
     → Grown place (simple_count place os x from + (reading_count (may_place u) place q + depth place es)) (on_simple at left os x u from q token es)
 simple-grows place at left os x u from q t.Newline es l m = ends-grows place at left os x from _ (finished at u q es) l m (finished-keeps place at u q es l)
-simple-grows place at left os x u from q (t.Op sign) es l m = sign-grows place at left os x u from q sign (assignment sign) es l m
+simple-grows place at left os x u from q (t.Symbol sign) es l m = sign-grows place at left os x u from q sign (assignment sign) es l m
 simple-grows place at left os x u from q token es l m = goes_on-grows place os x u from _ _ (reading-grows (may_place u) place at left q token es l m)
 
 word-grows : (place at left : ℕ) (os : List Outer) (x : Spot) (w : Word) (from : ℕ) (token : Kind) (es : List Entry) → at < place → left < place
@@ -248,7 +248,7 @@ global-grows place os x from names _ es = tt
 
 global_name-grows : (place at left : ℕ) (os : List Outer) (x : Spot) (from : ℕ) (token : Kind) (es : List Entry) → at < place → left < place
     → Grown place (simple_count place os x from + depth place es) (on_global_name at left os x from token es)
-global_name-grows place at left os x from (t.Op s.Comma) es l m = omega arith
+global_name-grows place at left os x from (t.Symbol s.Comma) es l m = omega arith
 global_name-grows place at left os x from t.Newline es l m = ended-grows place at left os x n.Global from es l m
 global_name-grows place at left os x from _ es l m = tt
 
@@ -327,7 +327,7 @@ for_name-grows place left os from (t.Keyword k.In) es = omega arith
 for_name-grows place left os from _ es = tt
 
 after_else-grows : (place : ℕ) (os : List Outer) (from : ℕ) (token : Kind) (es : List Entry) → Grown place ((outers_count place os + reach place from) + depth place es) (on_else os from token es)
-after_else-grows place os from (t.Op s.Colon) es = opens-grows place os head.Else from es
+after_else-grows place os from (t.Symbol s.Colon) es = opens-grows place os head.Else from es
 after_else-grows place os from _ es = tt
 
 after_def-grows : (place from : ℕ) (token : Kind) (es : List Entry) → Grown place (reach place from + depth place es) (on_def from token es)
@@ -335,21 +335,21 @@ after_def-grows place from (t.Name i) es = let a = mark-held place (n.Target i) 
 after_def-grows place from _ es = tt
 
 def_name-grows : (place from : ℕ) (token : Kind) (es : List Entry) → Grown place (reach place from + depth place es) (on_def_name from token es)
-def_name-grows place from (t.Op s.OpenParenthesis) es = let a = mark-held place n.NoNames es in omega arith
+def_name-grows place from (t.Symbol s.OpenParenthesis) es = let a = mark-held place n.NoNames es in omega arith
 def_name-grows place from _ es = tt
 
 params-grows : (place from : ℕ) (names : Names) (token : Kind) (es : List Entry) → Grown place (reach place from + depth place es) (on_params from names token es)
 params-grows place from names (t.Name i) es = let a = mark-held place (n.OneName i) es in allowed-grows place _ (is_new_in names i) _ (mark (n.OneName i) es) (omega arith)
-params-grows place from names (t.Op s.CloseParenthesis) es = omega arith
+params-grows place from names (t.Symbol s.CloseParenthesis) es = omega arith
 params-grows place from names _ es = tt
 
 param-grows : (place from : ℕ) (token : Kind) (es : List Entry) → Grown place (reach place from + depth place es) (on_param from token es)
-param-grows place from (t.Op s.Comma) es = omega arith
-param-grows place from (t.Op s.CloseParenthesis) es = omega arith
+param-grows place from (t.Symbol s.Comma) es = omega arith
+param-grows place from (t.Symbol s.CloseParenthesis) es = omega arith
 param-grows place from _ es = tt
 
 params_end-grows : (place from : ℕ) (token : Kind) (es : List Entry) → Grown place (reach place from + depth place es) (on_params_end from token es)
-params_end-grows place from (t.Op s.Colon) es = let a = opens-grows place [] head.Function from es in omega arith
+params_end-grows place from (t.Symbol s.Colon) es = let a = opens-grows place [] head.Function from es in omega arith
 params_end-grows place from _ es = tt
 
 colon-grows : (place at left : ℕ) (os : List Outer) (o : Outer) (token : Kind) (es : List Entry) → at < place → left < place → Grown place ((outers_count place os + reach place o.from) + depth place es) (on_colon at left os o token es)

@@ -3,7 +3,7 @@ use Rattle.std.proofs.Common.{ℕ, false, List, [], ◌∷◌, Option, Some, Non
 use Rattle.py_token.specs.declared.kinds.Kind.{Kind}
 use Rattle.py_token.specs.declared.kinds.Kind.TheVariants as t
 use Rattle.py_grammar.specs.Words.{else_word, for_word, global_word, def_word, open_parenthesis, close_parenthesis}
-use Rattle.py_grammar.specs.Statements.{Place, to_name, to_item, Names, names_one, names_more, Simple, word, leave, give, declare, delete, assign, augment, show, Params, no_params, params, params_comma, Statement, simple, compound, Head, choose, otherwise, while_true, for_each, define, Condition, if_true, else_if, Branches, branches, Block, inline, indented, Statements, statements_one, statements_more, spell_place, spell_names, keyword, spell_simple, spell_params, spell_front}
+use Rattle.py_grammar.specs.Statements.{Target, to_name, to_item, Names, names_one, names_more, Simple, word, return_, give, declare, delete, assign, augment, show, Params, no_params, params, params_comma, Statement, simple, compound, Head, choose, otherwise, while_true, for_each, define, Condition, if_true, else_if, Branches, branches, Block, inline, indented, Statements, statements_one, statements_more, spell_target, spell_names, keyword, spell_simple, spell_params, spell_front}
 use Rattle.py_grammar.specs.States.{Outer, outer, Spot, own, behind_head, Purpose, showing, giving, deleting, assigning, augmenting, Lead, lead_if, lead_elif, lead_while, lead_for, State, line, in_simple, after_word, in_global, has_global, in_test, after_for, after_for_name, after_else, after_def, after_def_name, in_params, has_params, after_params, after_colon, after_newline, done, spell_names_before, spell_outer, spell_spot, spell_purpose, spell_lead}
 use Rattle.py_grammar.proofs.Standing.{expression-tokens, primary-tokens, reading-tokens}
 use Rattle.py_grammar.proofs.Places.{statement-tokens, head-tokens, branches-tokens, block-tokens, statements-tokens}
@@ -22,13 +22,13 @@ names-apart : {j k : ℕ} {xs ys : List Kind} (ns : Names) → Apart j k xs ys �
 names-apart (names_one i) h = next h
 names-apart (names_more ns i) h = names-apart ns (next (next h))
 
-place-apart : {j k : ℕ} {xs ys : List Kind} (to : Place) → Apart j k xs ys → Apart j k (spell_place to xs) (spell_place to ys)
+place-apart : {j k : ℕ} {xs ys : List Kind} (to : Target) → Apart j k xs ys → Apart j k (spell_target to xs) (spell_target to ys)
 place-apart (to_name i) h = next h
 place-apart (to_item p a) h = far (primary-tokens p) (next (far (expression-tokens a) (next h)))
 
 simple-apart : {j k : ℕ} {xs ys : List Kind} (s : Simple) → Apart j k xs ys → Apart j k (spell_simple s xs) (spell_simple s ys)
 simple-apart (word w) h = next h
-simple-apart leave h = next h
+simple-apart return_ h = next h
 simple-apart (give a) h = next (far (expression-tokens a) h)
 simple-apart (declare ns) h = next (names-apart ns h)
 simple-apart (delete to) h = next (place-apart to h)
@@ -41,7 +41,7 @@ params-apart no_params h = h
 params-apart (params ns) h = names-apart ns h
 params-apart (params_comma ns) h = names-apart ns (next h)
 
-place-shifts : {j k : ℕ} {xs ys : List Kind} {es ds : List Entry} (to : Place) → Apart j k xs ys → Moved j k es ds → Moved j k (post_place to xs es) (post_place to ys ds)
+place-shifts : {j k : ℕ} {xs ys : List Kind} {es ds : List Entry} (to : Target) → Apart j k xs ys → Moved j k es ds → Moved j k (post_place to xs es) (post_place to ys ds)
 place-shifts (to_name i) h m = mark-moved m
 place-shifts (to_item p a) h m = mark-moved (item-shifts p a h m)
 
@@ -51,7 +51,7 @@ names-shifts (names_more ns i) m = mark-moved (names-shifts ns m)
 
 inner-shifts : {j k : ℕ} {xs ys : List Kind} {es ds : List Entry} (s : Simple) → Apart j k xs ys → Moved j k es ds → Moved j k (inner_simple s xs es) (inner_simple s ys ds)
 inner-shifts (word w) h m = m
-inner-shifts leave h m = m
+inner-shifts return_ h m = m
 inner-shifts (give a) h m = expression-shifts a h m
 inner-shifts (declare ns) h m = names-shifts ns (mark-moved m)
 inner-shifts (delete to) h m = place-shifts to h m

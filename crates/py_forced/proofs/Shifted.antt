@@ -1,7 +1,7 @@
 -- The parts of an expression are the same, whatever follows it.
 use Rattle.std.proofs.Common.{ℕ, List}
 use Rattle.py_token.specs.declared.kinds.Kind.{Kind}
-use Rattle.py_grammar.specs.Expressions.{Expression, plain, pick, Ors, ors_one, ors_more, Ands, ands_one, ands_more, Negation, compared, negated, Compares, compares_one, compares_more, compares_none, compares_not_none, Relational, equal, not_equal, less, at_most, greater, at_least, within, not_within, Sums, sums_one, sums_more, Products, products_one, products_more, Signed, unsigned, signed, Primary, name, number, text, nothing, truth, falsity, group, display, dict, call, index, slice, Callee, function, method, Bound, unbounded, bounded, Args, no_args, args, args_comma, Elements, elements_one, elements_more, Entries, no_entries, entries, entries_comma, Pairs, pairs_one, pairs_more, spell_relational}
+use Rattle.py_grammar.specs.Expressions.{Expression, plain, conditional, Ors, ors_one, ors_more, Ands, ands_one, ands_more, Negation, compared, negated, Compares, compares_one, compares_more, compares_none, compares_not_none, Relational, equal, not_equal, less, at_most, greater, at_least, within, not_within, Sums, sums_one, sums_more, Products, products_one, products_more, Signed, unsigned, signed, Primary, name, number, text, nothing, truth, falsity, group, display, dict, call, index, slice, Callee, function, method, Bound, unbounded, bounded, Args, no_args, args, args_comma, Elements, elements_one, elements_more, Entries, no_entries, entries, entries_comma, Pairs, pairs_one, pairs_more, spell_relational}
 use Rattle.py_grammar.proofs.Standing.{expression-tokens, ors-tokens, ands-tokens, negation-tokens, compares-tokens, sums-tokens, products-tokens, signed-tokens, primary-tokens, bound-tokens, args-tokens}
 use Rattle.py_postfix.specs.declared.entries.Entry.{Entry}
 use Rattle.py_postfix.specs.Expressions.{post_expression, post_ors, terms_ors, post_ands, terms_ands, post_negation, post_compares, relations, post_sums, summed, post_products, multiplied, post_signed, post_primary, post_callee, post_bound, post_args, post_elements, post_entries, post_pairs}
@@ -20,9 +20,9 @@ relational-apart not_within h = next (next h)
 mutual
   pub expression-shifts : {j k : ℕ} {xs ys : List Kind} {es ds : List Entry} (a : Expression) → Apart j k xs ys → Moved j k es ds → Moved j k (post_expression a xs es) (post_expression a ys ds)
   expression-shifts (plain a) h m = ors-shifts a h m
-  expression-shifts (pick a test b) h m =
+  expression-shifts (conditional a test b) h m =
       let x = next (far (expression-tokens b) h) in
-      part-moved (far (expression-tokens (pick a test b)) h) h (expression-shifts b h (ors-shifts test x (ors-shifts a (next (far (ors-tokens test) x)) m)))
+      part-moved (far (expression-tokens (conditional a test b)) h) h (expression-shifts b h (ors-shifts test x (ors-shifts a (next (far (ors-tokens test) x)) m)))
 
   pub ors-shifts : {j k : ℕ} {xs ys : List Kind} {es ds : List Entry} (a : Ors) → Apart j k xs ys → Moved j k es ds → Moved j k (post_ors a xs es) (post_ors a ys ds)
   ors-shifts (ors_one a) h m = ands-shifts a h m

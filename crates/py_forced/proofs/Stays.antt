@@ -3,8 +3,8 @@ use Rattle.std.proofs.Common.{◌≡◌, ℕ, ◌+◌, ◌<◌, Bool, true, fals
 use Rattle.py_token.specs.declared.kinds.Kind.{Kind}
 use Rattle.py_token.specs.declared.kinds.Kind.TheVariants as t
 use Rattle.py_token.specs.declared.kinds.Keyword.TheVariants as k
-use Rattle.py_token.specs.declared.kinds.Op as sign_of
-use Rattle.py_token.specs.declared.kinds.Op.TheVariants as s
+use Rattle.py_token.specs.declared.kinds.Symbol as sign_of
+use Rattle.py_token.specs.declared.kinds.Symbol.TheVariants as s
 use Rattle.py_tree.specs.declared.expressions.Literal.TheVariants as literal
 use Rattle.py_postfix.specs.declared.entries.Node.{Node}
 use Rattle.py_postfix.specs.declared.entries.Node.TheVariants as n
@@ -80,14 +80,14 @@ colon-stays placing place left os top b.Index es e = cc
 colon-stays placing place left os top _ es e = tt
 
 -- signs that end a bracket or a key
-abbrev pub Closes : List Opened → sign_of.Op → Type 0
+abbrev pub Closes : List Opened → sign_of.Symbol → Type 0
 Closes os s.CloseParenthesis = Unit {0}
 Closes os s.CloseBracket = Unit {0}
 Closes os s.CloseBrace = Unit {0}
 Closes (top ∷ os) s.Colon = is_index top.bracket ≡ false
 Closes os sign = ⊥
 
-innermost-stays : (placing : Bool) (place left : ℕ) (os : List Opened) (sign : sign_of.Op) (es : List Entry) → Closes os sign → left < place
+innermost-stays : (placing : Bool) (place left : ℕ) (os : List Opened) (sign : sign_of.Symbol) (es : List Entry) → Closes os sign → left < place
     → Stays placing place (brackets_count placing place os + depth place es) (innermost_goes_on left os sign es)
 unfolding bracket_goes_on
 innermost-stays placing place left [] sign es c l = tt
@@ -97,9 +97,9 @@ innermost-stays placing place left (top ∷ os) s.CloseBrace es c l = brace-stay
 innermost-stays placing place left (top ∷ os) s.Colon es c l = colon-stays placing place left os top top.bracket es c
 innermost-stays placing place left (top ∷ os) sign es c l = absurd c
 
--- ---- behind a comparison
+-- ---- after a comparison
 
-expression-stays : (placing : Bool) (place at left : ℕ) (os : List Opened) (u : Upper) (from : ℕ) (last : Compared) (sign : sign_of.Op) (es : List Entry) → Closes os sign → at < place → left < place
+expression-stays : (placing : Bool) (place at left : ℕ) (os : List Opened) (u : Upper) (from : ℕ) (last : Compared) (sign : sign_of.Symbol) (es : List Entry) → Closes os sign → at < place → left < place
     → Stays placing place (before_comparison placing place os u last from + depth place es) (behind_expression at left os u from last sign es)
 expression-stays placing place at left os u from last sign es c l m = unless_stays u.test placing place _ _ (λ untested.
     let a = none u.test place u.from untested in
@@ -122,7 +122,7 @@ word-stays : (placing : Bool) (place at left : ℕ) (os : List Opened) (u : Uppe
 unfolding behind_word
 word-stays placing place at left os u from last es l = else-stays placing place at left os u from last es l
 
-sign-stays : (placing : Bool) (place at left : ℕ) (os : List Opened) (u : Upper) (from : ℕ) (last : Compared) (sign : sign_of.Op) (es : List Entry) → Closes os sign → at < place → left < place
+sign-stays : (placing : Bool) (place at left : ℕ) (os : List Opened) (u : Upper) (from : ℕ) (last : Compared) (sign : sign_of.Symbol) (es : List Entry) → Closes os sign → at < place → left < place
     → Stays placing place (before_comparison placing place os u last from + depth place es) (behind_sign at left os u from last sign es)
 unfolding relation_at
 sign-stays placing place at left os u from last s.CloseParenthesis es c l m = expression-stays placing place at left os u from last s.CloseParenthesis es c l m
@@ -132,7 +132,7 @@ sign-stays placing place at left (top ∷ os) u from last s.Colon es c l m = exp
 sign-stays placing place at left [] u from last s.Colon es c l m = absurd c
 sign-stays placing place at left os u from last sign es c l m = absurd c
 
--- ---- behind an operand
+-- ---- after an operand
 
 -- an operand that isn't to be assigned to counts as it does when it is written
 pub settled-primary : (place : ℕ) (q : Primary) (from : ℕ) → primary_count false place q from ≡ settled_count place q from
@@ -147,7 +147,7 @@ Settles placing os u w q = (place from : ℕ) → primary_count (is_place placin
 pub no_place : (placing : Bool) (os : List Opened) (u : Upper) (w : Lower) (q : Primary) → is_place placing os u w ≡ false → Settles placing os u w q
 no_place placing os u w q e place from = rw e (settled-primary place q from)
 
-has-stays : (placing : Bool) (place at left : ℕ) (os : List Opened) (u : Upper) (w : Lower) (q : Primary) (from : ℕ) (sign : sign_of.Op) (es : List Entry) → Settles placing os u w q → Closes os sign → at < place → left < place
+has-stays : (placing : Bool) (place at left : ℕ) (os : List Opened) (u : Upper) (w : Lower) (q : Primary) (from : ℕ) (sign : sign_of.Symbol) (es : List Entry) → Settles placing os u w q → Closes os sign → at < place → left < place
     → Stays placing place (reading_count placing place (h.Has os u w q from) + depth place es) (behind_sign at left os u w.compare_from (compared_of w.relation) sign (sum_ended w at (settled q from at es)))
 has-stays placing place at left os u w q from sign es f c l m =
     let a = settled-ended place q from at es l in
@@ -165,7 +165,7 @@ has_else-stays placing place at left os u w q from es f l =
 
 -- ---- any token that ends what is open
 
--- `[` behind what is written already of an item that is deleted
+-- `[` after what is written already of an item that is deleted
 abbrev OpensItem : Bool → List Opened → Upper → Lower → Primary → Type 0
 OpensItem placing os u w p.Other = is_place placing os u w ≡ true
 OpensItem placing os u w q = ⊥
@@ -173,16 +173,16 @@ OpensItem placing os u w q = ⊥
 -- a token that ends what is open, or leads to its end
 abbrev pub Mild : Bool → Reading → Kind → Type 0
 Mild placing (h.Wants os u w) (t.Number m) = Unit {0}
-Mild placing (h.Has os u w q from) (t.Op s.OpenBracket) = OpensItem placing os u w q
-Mild placing (h.Has os u w q from) (t.Op sign) = Settles placing os u w q × Closes os sign
+Mild placing (h.Has os u w q from) (t.Symbol s.OpenBracket) = OpensItem placing os u w q
+Mild placing (h.Has os u w q from) (t.Symbol sign) = Settles placing os u w q × Closes os sign
 Mild placing (h.Has os u w q from) (t.Keyword k.Else) = Settles placing os u w q
-Mild placing (h.Related os u from) (t.Op sign) = Closes os sign
+Mild placing (h.Related os u from) (t.Symbol sign) = Closes os sign
 Mild placing (h.Related os u from) (t.Keyword k.Else) = Unit {0}
 Mild placing (h.AfterIs os u from) (t.Keyword k.None) = Unit {0}
 Mild placing (h.AfterIsNot os u from) (t.Keyword k.None) = Unit {0}
 Mild placing (h.AfterNot os u from) (t.Keyword k.In) = Unit {0}
 Mild placing (h.AfterDot os u w from) (t.Name m) = Unit {0}
-Mild placing (h.AfterMethod os u w from m) (t.Op s.OpenParenthesis) = Unit {0}
+Mild placing (h.AfterMethod os u w from m) (t.Symbol s.OpenParenthesis) = Unit {0}
 Mild placing x token = ⊥
 
 item_opens-stays : (placing : Bool) (place at left : ℕ) (os : List Opened) (u : Upper) (w : Lower) (q : Primary) (from : ℕ) (es : List Entry) → OpensItem placing os u w q
@@ -191,7 +191,7 @@ unfolding operator_sign
 item_opens-stays placing place at left os u w p.Other from es e = rw e (omega arith)
 item_opens-stays placing place at left os u w _ from es e = absurd e
 
-sign_has-stays : (placing : Bool) (place at left : ℕ) (os : List Opened) (u : Upper) (w : Lower) (q : Primary) (from : ℕ) (sign : sign_of.Op) (es : List Entry) → Mild placing (h.Has os u w q from) (t.Op sign) → at < place → left < place
+sign_has-stays : (placing : Bool) (place at left : ℕ) (os : List Opened) (u : Upper) (w : Lower) (q : Primary) (from : ℕ) (sign : sign_of.Symbol) (es : List Entry) → Mild placing (h.Has os u w q from) (t.Symbol sign) → at < place → left < place
     → Stays placing place (reading_count placing place (h.Has os u w q from) + depth place es) (operator_sign at left os u w from sign (settled q from at es))
 unfolding operator_sign
 sign_has-stays placing place at left os u w q from s.OpenBracket es f l m = item_opens-stays placing place at left os u w q from es f
@@ -207,15 +207,15 @@ reading-stays placing place at left (h.Wants os u w) (t.Number i) es f l m =
     let a = span-held place (n.Literal (literal.Number i)) at left es m in
     let b = behind-none place at l in
     omega arith
-reading-stays placing place at left (h.Has os u w q from) (t.Op sign) es f l m = sign_has-stays placing place at left os u w q from sign es f l m
+reading-stays placing place at left (h.Has os u w q from) (t.Symbol sign) es f l m = sign_has-stays placing place at left os u w q from sign es f l m
 reading-stays placing place at left (h.Has os u w q from) (t.Keyword k.Else) es f l m = has_else-stays placing place at left os u w q from es f l
-reading-stays placing place at left (h.Related os u from) (t.Op sign) es f l m = sign-stays placing place at left os u from c.Whole sign es f l m
+reading-stays placing place at left (h.Related os u from) (t.Symbol sign) es f l m = sign-stays placing place at left os u from c.Whole sign es f l m
 reading-stays placing place at left (h.Related os u from) (t.Keyword k.Else) es f l m = word-stays placing place at left os u from c.Whole es l
 reading-stays placing place at left (h.AfterIs os u from) (t.Keyword k.None) es f l m = let a = mark-held place n.IsNone es in omega arith
 reading-stays placing place at left (h.AfterIsNot os u from) (t.Keyword k.None) es f l m = let a = mark-held place n.IsNotNone es in omega arith
 reading-stays placing place at left (h.AfterNot os u from) (t.Keyword k.In) es f l m = omega arith
 reading-stays placing place at left (h.AfterDot os u w from) (t.Name i) es f l m = omega arith
-reading-stays placing place at left (h.AfterMethod os u w from i) (t.Op s.OpenParenthesis) es f l m =
+reading-stays placing place at left (h.AfterMethod os u w from i) (t.Symbol s.OpenParenthesis) es f l m =
     let a = not_item (is_place placing os u w) place from in
     let b = mark-held place n.Empty es in
     omega arith

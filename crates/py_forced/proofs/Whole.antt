@@ -10,7 +10,7 @@ use Rattle.py_grammar.specs.Words.{in_word, assign_sign, open_parenthesis, close
 use Rattle.py_grammar.specs.Expressions.{Ors, Ands, Primary, name, number, text, nothing, truth, falsity, group, display, dict, call, index, slice, spell_primary}
 use Rattle.py_grammar.specs.Readings.{Picked, Upper, upper, Lower, no_upper, no_lower, in_index, opened, Reading, wants, has, has_none, has_not_none, begun, bare, narrow}
 use Rattle.py_grammar.specs.Open.{spell_lower}
-use Rattle.py_grammar.specs.Statements.{Place, to_name, to_item, Names, names_one, names_more, Branches, define, otherwise, Params, params, Statements, Cell}
+use Rattle.py_grammar.specs.Statements.{Target, to_name, to_item, Names, names_one, names_more, Branches, define, otherwise, Params, params, Statements, Cell}
 use Rattle.py_grammar.specs.States.{Outer, outer, Spot, showing, giving, deleting, assigning, augmenting, Purpose, lead_for, State, line, in_simple, after_word, in_global, has_global, in_test, after_for, after_for_name, after_else, after_def, after_def_name, in_params, has_params, after_params, after_colon, after_newline, done, if_allowed, then_simple, is_new_name, add_name, spot_heard, params_of, start, step, run, state_stands, spell_spot}
 use Rattle.py_grammar.proofs.Stepped.{bare_is}
 use Rattle.py_grammar.proofs.Whole.{then_run, run-append, read_is, is_read, viable}
@@ -47,7 +47,7 @@ shown_settles u w p e rest =
     no_place true [] (held_upper u (spell_lower w tokens)) (held_lower w tokens) (held_primary p) (place_is_bare (held_upper u (spell_lower w tokens)) (held_lower w tokens) ∙ bare-held u w (spell_lower w tokens) tokens ∙ e)
 
 -- it is assigned to
-assigned-ends : (os : List Outer) (at : Spot) (p : Primary) (to : Place) → step (in_simple os at showing (has [] no_upper no_lower p)) assign_sign ≡ Some (in_simple os at (assigning to) begun) → Ends (in_simple os at showing (has [] no_upper no_lower p))
+assigned-ends : (os : List Outer) (at : Spot) (p : Primary) (to : Target) → step (in_simple os at showing (has [] no_upper no_lower p)) assign_sign ≡ Some (in_simple os at (assigning to) begun) → Ends (in_simple os at showing (has [] no_upper no_lower p))
 assigned-ends os at p to e =
     back (in_simple os at showing (has [] no_upper no_lower p)) (in_simple os at (assigning to) begun) assign_sign e
     (exact_where (in_simple os at showing (has [] no_upper no_lower p)) (in_simple os at (assigning to) begun) assign_sign finite.empty e tt (λ place rest es l.

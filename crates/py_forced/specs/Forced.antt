@@ -10,7 +10,7 @@ use Rattle.py_nesting.specs.Depth.{depth}
 abbrev pub depth_at : ℕ → ℕ → List Entry → ℕ
 depth_at all number es = depth (all - number) es
 
--- in every cell that begins with these tokens, each of them stands at least as deep as in these entries, behind which so many are left
+-- in every cell that begins with these tokens, each of them stands at least as deep as in these entries, after which so many are left
 abbrev pub AreForced : List Kind → ℕ → List Entry → Type 0
 AreForced front left es = (more : List Kind) (cell : Cell) → IsCell (front ++ more) cell → (number : ℕ) → number < length front
     → depth_at (length front + left) number es ≤ depth_at (length (front ++ more)) number (post_cell cell)

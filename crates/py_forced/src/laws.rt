@@ -5,7 +5,7 @@ ghost use Rattle.py_statements.specs.Written.{written_state};
 ghost use Rattle.py_nesting.specs.Open.{open_state};
 ghost use Rattle.py_forced.specs.Forced.{AreForced, AreAll};
 
-/// The parts that have ended and those that are open behind tokens are forced: in every cell that begins so, each of these
+/// The parts that have ended and those that are open after tokens are forced: in every cell that begins so, each of these
 /// tokens stands in as many at least. What is left of the text, `rest`, changes nothing.
 pub fn what_is_open_is_forced()
     ensures { (front rest : List Kind) (state : State) → state_stands state → StandsAt front state

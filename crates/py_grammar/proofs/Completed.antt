@@ -140,7 +140,7 @@ state_line-ends : (os : List Outer) (at : Spot) (s : Simple) → state_stands (e
 state_line-ends os (own before) s h = line-ends os (add_statement before (simple s)) h.0 h.1
 state_line-ends os (behind_head o) s h = line-ends os (close o (inline s)) h.0 h.1
 
--- behind a whole simple statement
+-- after a whole simple statement
 ended-ends : (os : List Outer) (at : Spot) (s : Simple) → outers_stand os → spot_stands os at → simple_stands s (spot_around os at) (spot_heard os at) → (q : State) (more : List Kind → List Kind) → ((rest : List Kind) → spell_state q (more rest) ≡ spell_outers os (spell_spot at (spell_simple s rest))) → CellEnds q
 ended-ends os at s h k m q more f =
     let e = state_line-ends os at s (ended-stands os at s h k m) in

@@ -4,7 +4,7 @@ use Rattle.py_token.specs.declared.kinds.Kind.{Kind}
 use Rattle.py_token.specs.declared.kinds.Kind.TheVariants as t
 use Rattle.std.specs.Prelude.{pos}
 use Rattle.py_grammar.specs.Words.{else_word, in_word, none_word, open_parenthesis, close_parenthesis, open_bracket, close_bracket, open_brace, close_brace, colon}
-use Rattle.py_grammar.specs.Expressions.{Expression, plain, pick, ors_one, ands_one, compared, Compares, compares_one, compares_more, compares_none, compares_not_none, not_within, sums_one, products_one, unsigned, Primary, number, group, display, dict, call, index, slice, method, bounded, no_args, args, entries, spell_expression, spell_compares, spell_primary, spell_callee}
+use Rattle.py_grammar.specs.Expressions.{Expression, plain, conditional, ors_one, ands_one, compared, Compares, compares_one, compares_more, compares_none, compares_not_none, not_within, sums_one, products_one, unsigned, Primary, number, group, display, dict, call, index, slice, method, bounded, no_args, args, entries, spell_expression, spell_compares, spell_primary, spell_callee}
 use Rattle.py_grammar.specs.Readings.{Upper, upper, Lower, Bracket, in_group, in_display, in_dict, in_pair, in_call, in_index, in_slice, Opened, opened, Reading, wants, has, has_none, has_not_none, after_is, after_is_not, after_not, after_dot, after_method, add_nots, add_and, add_or, add_picked, add_element, add_pair, compares_of}
 use Rattle.py_grammar.specs.Open.{spell_upper, spell_lower, spell_bracket, spell_opened, spell_reading}
 use Rattle.py_grammar.proofs.Spelled.{add_element-spelled, add_pair-spelled, compares_of-spelled, picked-spelled, chosen-spelled}
@@ -21,7 +21,7 @@ nought = plain (ors_one (ands_one (compared (compares_one (sums_one (products_on
 pub upper-ends : (u : Upper) (c : Compares) → Ends (λ rest. spell_upper u (spell_compares c rest))
 upper-ends (upper ps None o a n) c = record { more = λ rest. rest; made = add_picked ps (plain (add_or o (add_and a (add_nots n (compared c))))); spelled = λ rest. sym (picked-spelled ps o a n c rest) }
 upper-ends (upper ps (Some b) o a n) c =
-    record { more = λ rest. else_word ∷ t.Number (pos 0) ∷ rest; made = add_picked ps (pick b (add_or o (add_and a (add_nots n (compared c)))) nought); spelled = λ rest. sym (chosen-spelled ps b o a n c nought rest) }
+    record { more = λ rest. else_word ∷ t.Number (pos 0) ∷ rest; made = add_picked ps (conditional b (add_or o (add_and a (add_nots n (compared c)))) nought); spelled = λ rest. sym (chosen-spelled ps b o a n c nought rest) }
 
 -- what stands in a bracket ends, and the bracket with it
 pub record Closes (b : Bracket) (e : Expression) : Type 0 where

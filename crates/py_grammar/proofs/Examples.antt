@@ -8,7 +8,7 @@ use Rattle.py_tree.specs.declared.expressions.Expr.TheVariants as e
 use Rattle.py_tree.specs.declared.expressions.Literal.TheVariants as literal
 use Rattle.py_tree.specs.declared.expressions.Relation.TheVariants as relation
 use Rattle.py_tree.specs.declared.expressions.Op.TheVariants as o
-use Rattle.py_tree.specs.declared.expressions.Place.TheVariants as place
+use Rattle.py_tree.specs.declared.expressions.Target.TheVariants as place
 use Rattle.py_tree.specs.declared.statements.Stmt.{Stmt}
 use Rattle.py_tree.specs.declared.statements.Stmt.TheVariants as s
 use Rattle.py_tree.specs.declared.statements.Def.{roll-Def}
@@ -67,20 +67,20 @@ sums = refl
 
 -- a if b else - - a
 picks : tree_of_tokens (t.Name a ∷ if_word ∷ t.Name b ∷ else_word ∷ minus_sign ∷ minus_sign ∷ t.Name a ∷ t.Newline ∷ t.End ∷ [])
-    ≡ Some (s.Show (e.Pick (named b) (named a) (e.Sign true (e.Sign true (named a)))) ∷ [])
+    ≡ Some (s.Expression (e.Conditional (named b) (named a) (e.Sign true (e.Sign true (named a)))) ∷ [])
 unfolding tree_of_tokens cell_of
 picks = refl
 
 -- not a is not None not in b
 relations : tree_of_tokens (not_word ∷ t.Name a ∷ is_word ∷ not_word ∷ none_word ∷ not_word ∷ in_word ∷ t.Name b ∷ t.Newline ∷ t.End ∷ [])
-    ≡ Some (s.Show (e.Not (e.Compare (named a) (relation.IsNotNone ∷ relation.With o.NotIn (named b) ∷ []))) ∷ [])
+    ≡ Some (s.Expression (e.Not (e.Compare (named a) (relation.IsNotNone ∷ relation.With o.NotIn (named b) ∷ []))) ∷ [])
 unfolding tree_of_tokens cell_of
 relations = refl
 
 -- a(b, [],)[1:].f({a: b})
 calls : tree_of_tokens (t.Name a ∷ open_parenthesis ∷ t.Name b ∷ comma ∷ open_bracket ∷ close_bracket ∷ comma ∷ close_parenthesis ∷ open_bracket ∷ digit 1 ∷ colon ∷ close_bracket ∷ dot ∷ t.Name f
     ∷ open_parenthesis ∷ open_brace ∷ t.Name a ∷ colon ∷ t.Name b ∷ close_brace ∷ close_parenthesis ∷ t.Newline ∷ t.End ∷ [])
-    ≡ Some (s.Show (e.Method (e.Slice (e.Call (named a) (named b ∷ e.ListOf [] ∷ [])) (Some (numbered 1)) None) f (e.DictOf (record { key = named a; value = named b } ∷ []) ∷ [])) ∷ [])
+    ≡ Some (s.Expression (e.Method (e.Slice (e.Call (named a) (named b ∷ e.ListOf [] ∷ [])) (Some (numbered 1)) None) f (e.DictOf (record { key = named a; value = named b } ∷ []) ∷ [])) ∷ [])
 unfolding tree_of_tokens cell_of
 calls = refl
 

@@ -6,7 +6,7 @@ use Rattle.py_grammar.specs.Words.{if_word, else_word, elif_word, while_word, fo
 use Rattle.py_grammar.specs.Expressions.{Expression}
 use Rattle.py_grammar.specs.Readings.{Reading, begun, read, whole, narrow}
 use Rattle.py_grammar.specs.Open.{spell_reading}
-use Rattle.py_grammar.specs.Statements.{Place, Augmentation, by_plus, by_minus, by_times, by_floor, by_modulo, Names, Word, stop, skip, Simple, word, leave, give, declare, assign, augment, show, Params, Statement, simple, compound, choose, Branches, inline, indented, Statements, statements_one, statements_more, Around, names_new, params_new, simple_stands, statement_stands, head_stands, branches_stand, spell_front, front_stands}
+use Rattle.py_grammar.specs.Statements.{Target, Augmentation, by_plus, by_minus, by_times, by_floor, by_modulo, Names, Word, break_, continue_, Simple, word, return_, give, declare, assign, augment, show, Params, Statement, simple, compound, choose, Branches, inline, indented, Statements, statements_one, statements_more, Around, names_new, params_new, simple_stands, statement_stands, head_stands, branches_stand, spell_front, front_stands}
 use Rattle.py_grammar.specs.States.{Outer, outer, Spot, own, behind_head, Purpose, showing, giving, deleting, assigning, augmenting, Lead, lead_if, lead_elif, lead_while, lead_for, State, line, in_simple, after_word, in_global, has_global, in_test, after_for, after_for_name, after_else, after_def, after_def_name, in_params, has_params, after_params, after_colon, after_newline, done, around, heard, spot_around, spot_heard, add_statement, add_name, ended, place_read, is_begun, if_made, if_deleted, finished, head_of, Continued, continued, last_branches, if_allowed, then_simple, begins, elif_at, else_at, def_at, dedent_at, end_at, on_line, ends, assigns, augments, on_simple, on_word, is_new_name, on_global, on_global_name, tested, then_test, on_for, on_for_name, on_else, on_def, on_def_name, params_of, on_params, on_param, on_params_end, on_colon, on_newline, step, outers_stand, spot_stands, purpose_stands, lead_stands, some_names_new, state_stands}
 use Rattle.py_grammar.proofs.Spelled.{Adds, read-adds}
 use Rattle.py_grammar.proofs.Standing.{reading-tokens}
@@ -52,11 +52,11 @@ made-stands : (f : Expression → Simple) (o : Option Expression) (a : Around) (
 made-stands f None a e h = tt
 made-stands f (Some x) a e h = h x
 
-left-stands : (b : Bool) (o : Option Expression) (a : Around) (e : List Kind → List Kind) → IsTrue a.in_function → SimpleStands (if b then Some leave else if_made give o) a e
+left-stands : (b : Bool) (o : Option Expression) (a : Around) (e : List Kind → List Kind) → IsTrue a.in_function → SimpleStands (if b then Some return_ else if_made give o) a e
 left-stands true o a e h = h
 left-stands false o a e h = made-stands give o a e (λ x. h)
 
-deleted-stands : (o : Option Place) (a : Around) (e : List Kind → List Kind) → SimpleStands (if_deleted o) a e
+deleted-stands : (o : Option Target) (a : Around) (e : List Kind → List Kind) → SimpleStands (if_deleted o) a e
 deleted-stands None a e = tt
 deleted-stands (Some to) a e = tt
 
@@ -71,11 +71,11 @@ ends-keeps : (os : List Outer) (at : Spot) (s : Option Simple) → outers_stand 
 ends-keeps os at None h k m = tt
 ends-keeps os at (Some s) h k m = ended-stands os at s h k m
 
-assigns-keeps : (os : List Outer) (at : Spot) (u : Purpose) (to : Option Place) → outers_stand os → spot_stands os at → Keeps (assigns os at u to)
+assigns-keeps : (os : List Outer) (at : Spot) (u : Purpose) (to : Option Target) → outers_stand os → spot_stands os at → Keeps (assigns os at u to)
 assigns-keeps os at showing (Some to) h k = (h, k, tt)
 assigns-keeps os at _ _ h k = tt
 
-augments-keeps : (os : List Outer) (at : Spot) (by : Augmentation) (u : Purpose) (to : Option Place) → outers_stand os → spot_stands os at → Keeps (augments os at by u to)
+augments-keeps : (os : List Outer) (at : Spot) (by : Augmentation) (u : Purpose) (to : Option Target) → outers_stand os → spot_stands os at → Keeps (augments os at by u to)
 augments-keeps os at by showing (Some to) h k = (h, k, tt)
 augments-keeps os at by _ _ h k = tt
 
@@ -104,8 +104,8 @@ then_simple-keeps os at (augmenting to by) (Some r) h k g = (h, k, tt)
 
 begins-keeps : (os : List Outer) (at : Spot) (t : Kind) → outers_stand os → spot_stands os at → Keeps (begins os at t)
 begins-keeps os at pass_word h k = (h, k, tt)
-begins-keeps os at break_word h k = allowed-keeps (spot_around os at).in_loop (after_word os at stop) (λ n. (h, k, n))
-begins-keeps os at continue_word h k = allowed-keeps (spot_around os at).in_loop (after_word os at skip) (λ n. (h, k, n))
+begins-keeps os at break_word h k = allowed-keeps (spot_around os at).in_loop (after_word os at break_) (λ n. (h, k, n))
+begins-keeps os at continue_word h k = allowed-keeps (spot_around os at).in_loop (after_word os at continue_) (λ n. (h, k, n))
 begins-keeps os at return_word h k = allowed-keeps (spot_around os at).in_function (in_simple os at giving begun) (λ n. (h, k, n))
 begins-keeps os at global_word h k = allowed-keeps (spot_around os at).in_function (in_global os at None) (λ n. (h, k, n, tt))
 begins-keeps os at del_word h k = (h, k, refl)

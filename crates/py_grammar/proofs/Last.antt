@@ -4,7 +4,7 @@ use Rattle.py_token.specs.declared.kinds.Kind.{Kind}
 use Rattle.py_token.specs.declared.kinds.Kind.TheVariants as t
 use Rattle.std.proofs.lemmas.Bool.{false≢true}
 use Rattle.py_grammar.specs.Words.{and_word, or_word, not_word, if_word, else_word, in_word, is_word, none_word, true_word, false_word, equal_sign, not_equal_sign, at_most_sign, at_least_sign, floor_sign, plus_sign, minus_sign, times_sign, mod_sign, less_sign, more_sign, open_parenthesis, close_parenthesis, open_bracket, close_bracket, open_brace, close_brace, colon, comma, dot}
-use Rattle.py_grammar.specs.Expressions.{Expression, plain, pick, Ors, ors_one, ors_more, Ands, ands_one, ands_more, Negation, compared, negated, Compares, compares_one, compares_more, compares_none, compares_not_none, Relational, equal, not_equal, less, at_most, greater, at_least, within, not_within, Sums, sums_one, sums_more, Additive, plus, minus, Products, products_one, products_more, Multiplicative, times, floor, modulo, Signed, unsigned, signed, Primary, name, number, text, nothing, truth, falsity, group, display, dict, call, index, slice, Callee, function, method, unbounded, bounded, no_args, args, args_comma, Elements, elements_one, elements_more, no_entries, entries, entries_comma, Pairs, pairs_one, pairs_more}
+use Rattle.py_grammar.specs.Expressions.{Expression, plain, conditional, Ors, ors_one, ors_more, Ands, ands_one, ands_more, Negation, compared, negated, Compares, compares_one, compares_more, compares_none, compares_not_none, Relational, equal, not_equal, less, at_most, greater, at_least, within, not_within, Sums, sums_one, sums_more, Additive, plus, minus, Products, products_one, products_more, Multiplicative, times, floor, modulo, Signed, unsigned, signed, Primary, name, number, text, nothing, truth, falsity, group, display, dict, call, index, slice, Callee, function, method, unbounded, bounded, no_args, args, args_comma, Elements, elements_one, elements_more, no_entries, entries, entries_comma, Pairs, pairs_one, pairs_more}
 use Rattle.py_grammar.specs.Readings.{Picked, picked, Upper, upper, Related, related, Added, added, Scaled, scaled, Lower, lower, no_upper, no_lower, Bracket, in_group, in_display, in_dict, in_pair, in_call, in_index, in_slice, Opened, opened, Reading, wants, has, has_none, has_not_none, after_is, after_is_not, after_not, after_dot, after_method, begun, add_signs, add_scaled, add_added, add_nots, add_and, add_or, add_picked, compares_of, expression_of, close_parenthesis_after, close_bracket_after, close_brace_after, comma_after, colon_after, behind, operator, read, whole, bare_below, narrow}
 
 -- ---- where a form ends
@@ -93,7 +93,7 @@ ors_step-back (ors_more b a) = refl
 ors-back : (a : Ors) → add_or (ors_front a) (add_and (ands_front (ors_last a)) (add_nots (deep zero (ands_last (ors_last a))) (compared (core (ands_last (ors_last a)))))) ≡ a
 ors-back a = ap (add_or (ors_front a)) (ands-back (ors_last a)) ∙ ors_step-back a
 
--- ---- what has been read behind a form
+-- ---- what has been read after a form
 
 abbrev at_products : List Opened → Upper → Option Related → Option Added → Products → Reading
 at_products os u r a b = has os u (lower r a (products_front b) (signed_signs [] (products_last b))) (signed_primary (products_last b))
@@ -118,20 +118,20 @@ upper_of_ors ps o = upper ps None (ors_front o) (ands_front (ors_last o)) (deep 
 
 abbrev pub upper_of : List Picked → Expression → Upper
 upper_of ps (plain o) = upper_of_ors ps o
-upper_of ps (pick a test b) = upper_of (picked a test ∷ ps) b
+upper_of ps (conditional a test b) = upper_of (picked a test ∷ ps) b
 
 abbrev pub core_of : Expression → Compares
 core_of (plain o) = core (ands_last (ors_last o))
-core_of (pick a test b) = core_of b
+core_of (conditional a test b) = core_of b
 
 abbrev pub at_expression : List Opened → Expression → Reading
 at_expression os a = at_compares os (upper_of [] a) (core_of a)
 
 expression-back : (a : Expression) (ps : List Picked) → expression_of (upper_of ps a) (core_of a) ≡ Some (add_picked ps a)
 expression-back (plain o) ps = ap (λ x. Some (add_picked ps (plain x))) (ors-back o)
-expression-back (pick a test b) ps = expression-back b (picked a test ∷ ps)
+expression-back (conditional a test b) ps = expression-back b (picked a test ∷ ps)
 
--- a token that is read behind a comparison as it is behind a primary
+-- a token that is read after a comparison as it is after a primary
 abbrev pub Falls : Kind → Type 0
 Falls t = (os : List Opened) (u : Upper) (w : Lower) (p : Primary) → operator os u w p t ≡ behind os u (compares_of w p) t
 
@@ -150,7 +150,7 @@ whole_compares-back (compares_more c r b) u = ap (λ x. expression_of u (compare
 whole_compares-back (compares_none c) u = refl
 whole_compares-back (compares_not_none c) u = refl
 
--- what has been read behind an expression may end as that expression
+-- what has been read after an expression may end as that expression
 pub whole-back : (a : Expression) → whole (at_expression [] a) ≡ Some a
 whole-back a = whole_compares-back (core_of a) (upper_of [] a) ∙ expression-back a []
 

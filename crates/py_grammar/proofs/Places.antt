@@ -2,11 +2,11 @@
 use Rattle.std.proofs.Common.{List, [], ◌∷◌, Option, Some, None}
 use Rattle.py_token.specs.declared.kinds.Kind.TheVariants as t
 use Rattle.py_grammar.specs.Words.{if_word, else_word, elif_word, while_word, for_word, in_word, return_word, global_word, del_word, def_word, assign_sign, open_parenthesis, close_parenthesis, open_bracket, close_bracket, colon, comma}
-use Rattle.py_grammar.specs.Statements.{Place, to_name, to_item, Names, names_one, names_more, Simple, word, leave, give, declare, delete, assign, augment, show, spell_place, augmentation_sign, spell_names, keyword, spell_simple, Params, no_params, params, params_comma, Statement, simple, compound, Head, choose, otherwise, while_true, for_each, define, Condition, if_true, else_if, Branches, branches, Block, inline, indented, Statements, statements_one, statements_more, spell_params, spell_statement, spell_head, spell_condition, spell_branches, spell_block, spell_statements, spell_front}
+use Rattle.py_grammar.specs.Statements.{Target, to_name, to_item, Names, names_one, names_more, Simple, word, return_, give, declare, delete, assign, augment, show, spell_target, augmentation_sign, spell_names, keyword, spell_simple, Params, no_params, params, params_comma, Statement, simple, compound, Head, choose, otherwise, while_true, for_each, define, Condition, if_true, else_if, Branches, branches, Block, inline, indented, Statements, statements_one, statements_more, spell_params, spell_statement, spell_head, spell_condition, spell_branches, spell_block, spell_statements, spell_front}
 use Rattle.py_grammar.specs.States.{Outer, outer, Spot, own, behind_head, Purpose, showing, giving, deleting, assigning, augmenting, Lead, lead_if, lead_elif, lead_while, lead_for, State, line, in_simple, after_word, in_global, has_global, in_test, after_for, after_for_name, after_else, after_def, after_def_name, in_params, has_params, after_params, after_colon, after_newline, done, spell_names_before, spell_outer, spell_outers, spell_spot, spell_purpose, spell_lead, spell_state}
 use Rattle.py_grammar.proofs.Standing.{Spelling, none, first, joined, expression-tokens, primary-tokens, reading-tokens}
 
-place-tokens : (to : Place) → Spelling (spell_place to)
+place-tokens : (to : Target) → Spelling (spell_target to)
 place-tokens (to_name n) = first (t.Name n) none
 place-tokens (to_item p a) = joined (primary-tokens p) (first open_bracket (joined (expression-tokens a) (first close_bracket none)))
 
@@ -16,7 +16,7 @@ names-tokens (names_more ns n) = joined (names-tokens ns) (first comma (first (t
 
 simple-tokens : (s : Simple) → Spelling (spell_simple s)
 simple-tokens (word w) = first (keyword w) none
-simple-tokens leave = first return_word none
+simple-tokens return_ = first return_word none
 simple-tokens (give a) = first return_word (expression-tokens a)
 simple-tokens (declare ns) = first global_word (names-tokens ns)
 simple-tokens (delete to) = first del_word (place-tokens to)

@@ -6,7 +6,7 @@ use Rattle.std.proofs.lemmas.Bool.{false≢true}
 use Rattle.py_grammar.specs.Words.{if_word, else_word, elif_word, while_word, for_word, in_word, pass_word, break_word, continue_word, return_word, global_word, del_word, def_word, floor_assign_sign, plus_assign_sign, minus_assign_sign, times_assign_sign, mod_assign_sign, assign_sign, open_parenthesis, close_parenthesis, colon, comma}
 use Rattle.py_grammar.specs.Expressions.{Expression, Compares, compares_one, compares_more, compares_none, compares_not_none, Primary, name, index}
 use Rattle.py_grammar.specs.Readings.{Upper, no_upper, no_lower, Reading, wants, has, begun, colon_after, read, whole, narrow}
-use Rattle.py_grammar.specs.Statements.{Place, to_name, to_item, Augmentation, by_plus, by_minus, by_times, by_floor, by_modulo, names_one, names_more, Word, idle, stop, skip, Simple, word, leave, give, declare, delete, assign, augment, show, augmentation_sign, no_params, params, params_comma, Statement, simple, compound, Head, choose, otherwise, while_true, for_each, define, Condition, if_true, else_if, Branches, branches, Block, inline, indented, Statements, statements_one, statements_more, Around, inside, simple_stands, statement_stands, spell_front, front_stands}
+use Rattle.py_grammar.specs.Statements.{Target, to_name, to_item, Augmentation, by_plus, by_minus, by_times, by_floor, by_modulo, names_one, names_more, Word, pass_, break_, continue_, Simple, word, return_, give, declare, delete, assign, augment, show, augmentation_sign, no_params, params, params_comma, Statement, simple, compound, Head, choose, otherwise, while_true, for_each, define, Condition, if_true, else_if, Branches, branches, Block, inline, indented, Statements, statements_one, statements_more, Around, inside, simple_stands, statement_stands, spell_front, front_stands}
 use Rattle.py_grammar.specs.States.{Outer, outer, Spot, own, behind_head, Purpose, showing, giving, deleting, assigning, augmenting, Lead, lead_if, lead_elif, lead_while, lead_for, State, line, in_simple, after_word, in_global, has_global, in_test, after_for, after_for_name, after_else, after_def, after_def_name, in_params, has_params, after_params, after_colon, after_newline, done, start, around, heard, spot_around, spot_heard, add_statement, ended, place_read, is_begun, if_made, if_deleted, head_of, continued, last_branches, if_allowed, then_simple, begins, elif_at, else_at, on_line, ends, assigns, augments, on_simple, is_new_name, tested, then_test, on_colon, step, outers_stand, spot_stands, purpose_stands, lead_stands, state_stands}
 use Rattle.py_grammar.proofs.Last.{at_compares, upper_of, core_of, at_expression, closed-back, whole-back, Last, at_start, after, reading-last}
 use Rattle.py_grammar.proofs.Keeps.{not-begun, add_statement-stands}
@@ -103,15 +103,15 @@ before-showing os (behind_head o) t r h = colon-showing os o t r h
 
 -- ---- simple statements
 
-abbrev primary_of : Place → Primary
+abbrev primary_of : Target → Primary
 primary_of (to_name n) = name n
 primary_of (to_item p a) = index p a
 
-place-back : (to : Place) → place_read (has [] no_upper no_lower (primary_of to)) ≡ Some to
+place-back : (to : Target) → place_read (has [] no_upper no_lower (primary_of to)) ≡ Some to
 place-back (to_name n) = refl
 place-back (to_item p a) = refl
 
-augment-back : (os : List Outer) (at : Spot) (by : Augmentation) (r : Reading) (to : Place) → place_read r ≡ Some to → on_simple os at showing r (augmentation_sign by) ≡ Some (in_simple os at (augmenting to by) begun)
+augment-back : (os : List Outer) (at : Spot) (by : Augmentation) (r : Reading) (to : Target) → place_read r ≡ Some to → on_simple os at showing r (augmentation_sign by) ≡ Some (in_simple os at (augmenting to by) begun)
 augment-back os at by_plus r to h = ap (augments os at by_plus showing) h
 augment-back os at by_minus r to h = ap (augments os at by_minus showing) h
 augment-back os at by_times r to h = ap (augments os at by_times showing) h
@@ -149,15 +149,15 @@ compares-not-begun (compares_not_none c) u = refl
 expression-not-begun : (a : Expression) → at_expression [] a ≡ begun → ⊥
 expression-not-begun a h = let k = whole-back a in let e : whole (at_expression [] a) ≡ None = ap whole h in cc
 
-deleted-back : (os : List Outer) (at : Spot) (to : Place) → step (in_simple os at deleting (has [] no_upper no_lower (primary_of to))) t.Newline ≡ Some (ended os at (delete to))
+deleted-back : (os : List Outer) (at : Spot) (to : Target) → step (in_simple os at deleting (has [] no_upper no_lower (primary_of to))) t.Newline ≡ Some (ended os at (delete to))
 deleted-back os at to = ap (λ x. ends os at (if_deleted x)) (place-back to)
 
 ended-prior : (s : Simple) (os : List Outer) (at : Spot) → outers_stand os → spot_stands os at → simple_stands s (spot_around os at) (spot_heard os at) → Prior (ended os at s)
 ended-prior (word w) os at h k m = from (after_word os at w) t.Newline refl (h, k, m)
-ended-prior leave os at h k m = from (in_simple os at giving begun) t.Newline refl (h, k, m)
+ended-prior return_ os at h k m = from (in_simple os at giving begun) t.Newline refl (h, k, m)
 ended-prior (give a) os at h k m =
     from (in_simple os at giving (at_expression [] a)) t.Newline
-    (ap (λ b. ends os at (if b then Some leave else if_made give (whole (at_expression [] a)))) (compares-not-begun (core_of a) (upper_of [] a)) ∙ ap (λ o. ends os at (if_made give o)) (whole-back a))
+    (ap (λ b. ends os at (if b then Some return_ else if_made give (whole (at_expression [] a)))) (compares-not-begun (core_of a) (upper_of [] a)) ∙ ap (λ o. ends os at (if_made give o)) (whole-back a))
     (h, k, m)
 ended-prior (declare ns) os at h k m = from (has_global os at ns) t.Newline refl (h, k, m.0, m.1)
 ended-prior (delete to) os at h k m = from (in_simple os at deleting (has [] no_upper no_lower (primary_of to))) t.Newline (deleted-back os at to) (h, k, refl)
@@ -218,9 +218,9 @@ newline-prior : (os : List Outer) (o : Outer) → state_stands (after_newline os
 newline-prior os (outer b hd) h = from (after_colon os (outer b hd)) t.Newline refl h
 
 word-prior : (w : Word) (os : List Outer) (at : Spot) → state_stands (after_word os at w) → Prior (after_word os at w)
-word-prior idle os at h = from (before_simple os at) pass_word (begins-word pass_word (λ os b. refl) (λ os o. refl) os at) (before-stands os at h.0 h.1)
-word-prior stop os at h = from (before_simple os at) break_word (begins-word break_word (λ os b. refl) (λ os o. refl) os at ∙ allowed (spot_around os at).in_loop (after_word os at stop) h.2) (before-stands os at h.0 h.1)
-word-prior skip os at h = from (before_simple os at) continue_word (begins-word continue_word (λ os b. refl) (λ os o. refl) os at ∙ allowed (spot_around os at).in_loop (after_word os at skip) h.2) (before-stands os at h.0 h.1)
+word-prior pass_ os at h = from (before_simple os at) pass_word (begins-word pass_word (λ os b. refl) (λ os o. refl) os at) (before-stands os at h.0 h.1)
+word-prior break_ os at h = from (before_simple os at) break_word (begins-word break_word (λ os b. refl) (λ os o. refl) os at ∙ allowed (spot_around os at).in_loop (after_word os at break_) h.2) (before-stands os at h.0 h.1)
+word-prior continue_ os at h = from (before_simple os at) continue_word (begins-word continue_word (λ os b. refl) (λ os o. refl) os at ∙ allowed (spot_around os at).in_loop (after_word os at continue_) h.2) (before-stands os at h.0 h.1)
 
 else-prior : (bs : Branches) (os : List Outer) (before : Option Statements) → state_stands (after_else os before bs) → Prior (after_else os before bs)
 else-prior (branches c b) os before h = from (line os (add_statement before (compound (choose c) b))) else_word (ap (else_at os) (branches-back before c b)) (h.0, add_statement-stands before (compound (choose c) b) (around os) (heard os) h.1 h.2)

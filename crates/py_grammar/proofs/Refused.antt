@@ -6,9 +6,9 @@ use Rattle.py_grammar.specs.declared.constructs.Construct.{Construct}
 use Rattle.py_grammar.specs.Words.{not_word, for_word, none_word, def_word, as_word, assert_word, async_word, await_word, class_word, except_word, finally_word, from_word, import_word, lambda_word, nonlocal_word, raise_word, try_word, with_word, yield_word, floor_assign_sign, plus_assign_sign, minus_assign_sign, times_assign_sign, mod_assign_sign, floor_sign, plus_sign, minus_sign, times_sign, mod_sign, assign_sign, open_parenthesis, close_parenthesis, open_bracket, close_brace, colon, comma, dot}
 use Rattle.py_grammar.specs.Expressions.{Expression, Compares, compares_none, compares_not_none, Primary}
 use Rattle.py_grammar.specs.Readings.{Upper, upper, Lower, lower, in_group, in_dict, Opened, opened, Reading, wants, has, has_none, has_not_none, after_is, after_is_not, after_method, compares_of, expression_of, close_brace_after, comma_after, behind, operator, close_parenthesis_at, if_nothing, operand, is_what, is_not_what, method_what, read, whole}
-use Rattle.py_grammar.specs.Statements.{Augmentation, by_plus, by_minus, by_times, by_floor, by_modulo, Names, leave, give, assign, augment, show, Statements}
+use Rattle.py_grammar.specs.Statements.{Augmentation, by_plus, by_minus, by_times, by_floor, by_modulo, Names, return_, give, assign, augment, show, Statements}
 use Rattle.py_grammar.specs.States.{Outer, Spot, Purpose, showing, giving, deleting, assigning, augmenting, Lead, State, line, in_simple, in_test, has_params, after_colon, place_read, is_begun, if_made, if_deleted, finished, then_simple, on_line, ends, assigns, augments, on_simple, tested, then_test, on_param, on_colon, step}
-use Rattle.py_grammar.specs.Outside.{ruleless, first_of, comma_begins, brace_begins, equals_begins, behind_whole, empty_group, at_operand, not_none, not_none_or_not, no_call, outside_reading, chained_by, chained, behind_deleted, default_at, nested, inline_function, outside_state, outside}
+use Rattle.py_grammar.specs.Outside.{ruleless, first_of, comma_begins, brace_begins, equals_begins, behind_whole, empty_group, at_operand, not_none, not_none_or_not, no_call, outside_reading, chained_by, chained, after_deleted, default_at, nested, inline_function, outside_state, outside}
 
 -- ---- keywords that no rule has
 
@@ -188,7 +188,7 @@ whole-refused os u c close_brace k h = brace-refused os (expression_of u c) k h
 whole-refused os u c assign_sign k h = refl
 whole-refused os u c _ k h = cc
 
--- such a token is read behind a primary as behind a comparison
+-- such a token is read after a primary as after a comparison
 falls : (os : List Opened) (u : Upper) (w : Lower) (p : Primary) (a : Option Expression) (t : Kind) (k : Construct) → behind_whole os a t ≡ Some k → operator os u w p t ≡ behind os u (compares_of w p) t
 falls os u w p a open_parenthesis k h = cc
 falls os u w p a open_bracket k h = cc
@@ -235,7 +235,7 @@ reading-refused _ t k h = cc
 
 unfinished : (u : Purpose) (r : Reading) → whole r ≡ None → is_begun r ≡ false → place_read r ≡ None → finished u r ≡ None
 unfinished showing r h b p = ap (if_made show) h
-unfinished giving r h b p = ap (λ x. if x then Some leave else if_made give (whole r)) b ∙ ap (if_made give) h
+unfinished giving r h b p = ap (λ x. if x then Some return_ else if_made give (whole r)) b ∙ ap (if_made give) h
 unfinished deleting r h b p = ap if_deleted p
 unfinished (assigning to) r h b p = ap (if_made (assign to)) h
 unfinished (augmenting to by) r h b p = ap (if_made (augment to by)) h
@@ -312,7 +312,7 @@ deleted-refused os at u r t k false h = simple-refused os at u r t k h
 
 state-refused : (s : State) (t : Kind) (k : Construct) → outside_state s t ≡ Some k → step s t ≡ None
 state-refused (line os before) t k h = line-refused os before t k h
-state-refused (in_simple os at u r) t k h = deleted-refused os at u r t k (behind_deleted u r t) h
+state-refused (in_simple os at u r) t k h = deleted-refused os at u r t k (after_deleted u r t) h
 state-refused (in_test os before lead r) t k h = test-refused os before lead r t k h
 state-refused (has_params before n ns) t k h = default-refused before n ns t k h
 state-refused (after_colon os o) t k h = inline-refused os o t k h

@@ -3,7 +3,7 @@ use Rattle.std.proofs.Common.{◌≡◌, ℕ, zero, suc, List, [], ◌∷◌, Op
 use Rattle.py_token.specs.declared.kinds.Kind.{Kind}
 use Rattle.py_token.specs.declared.kinds.Kind.TheVariants as t
 use Rattle.py_grammar.specs.Words.{and_word, or_word, not_word, if_word, else_word, in_word, is_word, none_word, true_word, false_word, equal_sign, not_equal_sign, at_most_sign, at_least_sign, floor_sign, plus_sign, minus_sign, times_sign, mod_sign, less_sign, more_sign, open_parenthesis, close_parenthesis, open_bracket, close_bracket, open_brace, close_brace, colon, comma, dot}
-use Rattle.py_grammar.specs.Expressions.{Expression, plain, pick, Ors, Ands, Negation, compared, negated, Compares, compares_none, compares_not_none, Sums, Additive, plus, minus, Products, Multiplicative, times, floor, modulo, Signed, unsigned, signed, Primary, Elements, Pairs, additive_sign, multiplicative_sign, spell_expression, spell_ors, spell_ands, spell_negation, spell_compares, spell_sums, spell_products, spell_signed, spell_primary, spell_callee, spell_bound, spell_args, spell_elements, spell_entries, spell_pairs}
+use Rattle.py_grammar.specs.Expressions.{Expression, plain, conditional, Ors, Ands, Negation, compared, negated, Compares, compares_none, compares_not_none, Sums, Additive, plus, minus, Products, Multiplicative, times, floor, modulo, Signed, unsigned, signed, Primary, Elements, Pairs, additive_sign, multiplicative_sign, spell_expression, spell_ors, spell_ands, spell_negation, spell_compares, spell_sums, spell_products, spell_signed, spell_primary, spell_callee, spell_bound, spell_args, spell_elements, spell_entries, spell_pairs}
 use Rattle.py_grammar.specs.Readings.{Picked, picked, Upper, upper, Related, related, Added, added, Scaled, scaled, Lower, lower, in_group, in_display, in_dict, in_pair, in_call, in_index, in_slice, Opened, opened, Reading, wants, has, has_none, has_not_none, after_is, after_is_not, after_not, after_dot, after_method, add_signs, add_scaled, add_added, add_related, add_nots, add_and, add_or, add_picked, add_element, add_pair, args_of, entries_of, compares_of, expression_of, close_parenthesis_after, close_bracket_after, close_brace_after, comma_after, colon_after, if_after, else_after, or_after, and_after, behind, add, scale, operator, close_parenthesis_at, close_bracket_at, close_brace_at, colon_at, if_nothing, deny, sign, operand, is_what, is_not_what, not_what, dot_what, method_what, read, whole}
 use Rattle.py_grammar.specs.Open.{spell_picked, spell_test, front_or, front_and, nots, front_related, front_added, front_scaled, signs, spell_upper, spell_lower, front_element, front_pair, spell_opened, spell_reading}
 
@@ -39,7 +39,7 @@ add_or-spelled (Some o) a rest = refl
 
 add_picked-spelled : (ps : List Picked) (a : Expression) (rest : List Kind) → spell_expression (add_picked ps a) rest ≡ spell_picked ps (spell_expression a rest)
 add_picked-spelled [] a rest = refl
-add_picked-spelled (picked b test ∷ ps) a rest = add_picked-spelled ps (pick b test a) rest
+add_picked-spelled (picked b test ∷ ps) a rest = add_picked-spelled ps (conditional b test a) rest
 
 pub add_element-spelled : (es : Option Elements) (a : Expression) (rest : List Kind) → spell_elements (add_element es a) rest ≡ front_element es (spell_expression a rest)
 add_element-spelled None a rest = refl
@@ -75,7 +75,7 @@ ors-spelled o a n c rest = add_or-spelled o _ rest ∙ ap (front_or o) (ands-spe
 pub picked-spelled : (ps : List Picked) (o : Option Ors) (a : Option Ands) (n : ℕ) (c : Compares) (rest : List Kind) → spell_expression (add_picked ps (plain (add_or o (add_and a (add_nots n (compared c)))))) rest ≡ spell_picked ps (front_or o (front_and a (nots n (spell_compares c rest))))
 picked-spelled ps o a n c rest = add_picked-spelled ps _ rest ∙ ap (spell_picked ps) (ors-spelled o a n c rest)
 
-pub chosen-spelled : (ps : List Picked) (b : Ors) (o : Option Ors) (a : Option Ands) (n : ℕ) (c : Compares) (e : Expression) (rest : List Kind) → spell_expression (add_picked ps (pick b (add_or o (add_and a (add_nots n (compared c)))) e)) rest ≡ spell_picked ps (spell_ors b (if_word ∷ front_or o (front_and a (nots n (spell_compares c (else_word ∷ spell_expression e rest))))))
+pub chosen-spelled : (ps : List Picked) (b : Ors) (o : Option Ors) (a : Option Ands) (n : ℕ) (c : Compares) (e : Expression) (rest : List Kind) → spell_expression (add_picked ps (conditional b (add_or o (add_and a (add_nots n (compared c)))) e)) rest ≡ spell_picked ps (spell_ors b (if_word ∷ front_or o (front_and a (nots n (spell_compares c (else_word ∷ spell_expression e rest))))))
 chosen-spelled ps b o a n c e rest = add_picked-spelled ps _ rest ∙ ap (λ x. spell_picked ps (spell_ors b (if_word ∷ x))) (ors-spelled o a n c _)
 
 -- ---- one more token in an expression

@@ -7,7 +7,7 @@ use Rattle.py_grammar.specs.Words.{if_word, else_word, elif_word, while_word, fo
 use Rattle.py_grammar.specs.Expressions.{Expression, Ors, Ands, Additive, Primary, name, index, spell_expression, spell_primary}
 use Rattle.py_grammar.specs.Readings.{Picked, Upper, upper, Related, Added, Scaled, Lower, lower, no_upper, no_lower, Reading, wants, has, has_none, has_not_none, after_is, after_is_not, after_not, after_dot, after_method, begun, read, whole, no_upper_part, bare, narrow}
 use Rattle.py_grammar.specs.Open.{spell_upper, spell_lower, spell_reading}
-use Rattle.py_grammar.specs.Statements.{Place, Augmentation, by_plus, by_minus, by_times, by_floor, by_modulo, Names, Word, Simple, word, leave, give, declare, assign, augment, show, spell_place, augmentation_sign, spell_names, spell_simple, Params, Statement, simple, compound, choose, Branches, Block, inline, indented, Statements, statements_one, statements_more, spell_params, spell_statement, spell_head, spell_branches, spell_block, spell_front}
+use Rattle.py_grammar.specs.Statements.{Target, Augmentation, by_plus, by_minus, by_times, by_floor, by_modulo, Names, Word, Simple, word, return_, give, declare, assign, augment, show, spell_target, augmentation_sign, spell_names, spell_simple, Params, Statement, simple, compound, choose, Branches, Block, inline, indented, Statements, statements_one, statements_more, spell_params, spell_statement, spell_head, spell_branches, spell_block, spell_front}
 use Rattle.py_grammar.specs.States.{Outer, outer, Spot, own, behind_head, Purpose, showing, giving, deleting, assigning, augmenting, Lead, lead_if, lead_elif, lead_while, lead_for, State, line, in_simple, after_word, in_global, has_global, in_test, after_for, after_for_name, after_else, after_def, after_def_name, in_params, has_params, after_params, after_colon, after_newline, done, spot_around, spot_heard, add_statement, add_name, close, ended, place_of, place_read, is_begun, if_made, if_deleted, finished, head_of, Continued, continued, last_branches, if_allowed, then_simple, begins, elif_at, else_at, def_at, dedent_at, end_at, on_line, ends, assigns, augments, on_simple, on_word, spell_names_before, is_new_name, on_global, on_global_name, tested, then_test, on_for, on_for_name, on_else, on_def, on_def_name, params_of, on_params, on_param, on_params_end, on_colon, on_newline, step, spell_outer, spell_outers, spell_spot, spell_purpose, spell_lead, spell_state}
 use Rattle.py_grammar.proofs.Spelled.{Adds, Spells, read-adds, whole-spelled}
 
@@ -45,9 +45,9 @@ abbrev SpellsSimple : Option Simple → (List Kind → List Kind) → Type 0
 SpellsSimple None f = Unit {0}
 SpellsSimple (Some s) f = (rest : List Kind) → spell_simple s rest ≡ f rest
 
-abbrev SpellsPlace : Option Place → (List Kind → List Kind) → Type 0
+abbrev SpellsPlace : Option Target → (List Kind → List Kind) → Type 0
 SpellsPlace None f = Unit {0}
-SpellsPlace (Some to) f = (rest : List Kind) → spell_place to rest ≡ f rest
+SpellsPlace (Some to) f = (rest : List Kind) → spell_target to rest ≡ f rest
 
 place_of-spelled : (u : Upper) (w : Lower) (p : Primary) → SpellsPlace (place_of u w p) (λ rest. spell_upper u (spell_lower w (spell_primary p rest)))
 place_of-spelled (upper [] None None None zero) (lower None None None []) (name n) = λ rest. refl
@@ -62,7 +62,7 @@ made-spelled : (f : Expression → Simple) (g h : List Kind → List Kind) (a : 
 made-spelled f g h None e k = tt
 made-spelled f g h (Some a) e k = λ rest. e a rest ∙ ap g (k rest)
 
-deleted-spelled : (to : Option Place) (h : List Kind → List Kind) → SpellsPlace to h → SpellsSimple (if_deleted to) (λ rest. del_word ∷ h rest)
+deleted-spelled : (to : Option Target) (h : List Kind → List Kind) → SpellsPlace to h → SpellsSimple (if_deleted to) (λ rest. del_word ∷ h rest)
 deleted-spelled None h k = tt
 deleted-spelled (Some to) h k = λ rest. ap (◌∷◌ del_word) (k rest)
 
@@ -99,7 +99,7 @@ begun_is (after_not os u c) h = absurd (false≢true h)
 begun_is (after_dot os u w p) h = absurd (false≢true h)
 begun_is (after_method os u w p n) h = absurd (false≢true h)
 
-left-spelled : (r : Reading) (b : Bool) → (IsTrue b → r ≡ begun) → SpellsSimple (if b then Some leave else if_made give (whole r)) (λ rest. return_word ∷ spell_reading r rest)
+left-spelled : (r : Reading) (b : Bool) → (IsTrue b → r ≡ begun) → SpellsSimple (if b then Some return_ else if_made give (whole r)) (λ rest. return_word ∷ spell_reading r rest)
 left-spelled r true h = λ rest. ap (λ x. return_word ∷ spell_reading x rest) (sym (h refl))
 left-spelled r false h = made-spelled give (λ rest. return_word ∷ rest) (spell_reading r) (whole r) (λ e rest. refl) (whole-spelled r)
 
@@ -114,11 +114,11 @@ ends-added : (os : List Outer) (at : Spot) (s : Option Simple) (f : List Kind �
 ends-added os at None f h = tt
 ends-added os at (Some s) f h = λ rest. ended-spelled os at s rest ∙ ap (λ x. spell_outers os (spell_spot at x)) (h (t.Newline ∷ rest))
 
-assigns-added : (os : List Outer) (at : Spot) (u : Purpose) (to : Option Place) (f : List Kind → List Kind) → SpellsPlace to f → AddsToCell (λ rest. spell_outers os (spell_spot at (spell_purpose u (f rest)))) assign_sign (assigns os at u to)
+assigns-added : (os : List Outer) (at : Spot) (u : Purpose) (to : Option Target) (f : List Kind → List Kind) → SpellsPlace to f → AddsToCell (λ rest. spell_outers os (spell_spot at (spell_purpose u (f rest)))) assign_sign (assigns os at u to)
 assigns-added os at showing (Some to) f h = λ rest. ap (λ x. spell_outers os (spell_spot at x)) (h (assign_sign ∷ rest))
 assigns-added os at _ _ f h = tt
 
-augments-added : (os : List Outer) (at : Spot) (by : Augmentation) (u : Purpose) (to : Option Place) (f : List Kind → List Kind) → SpellsPlace to f → AddsToCell (λ rest. spell_outers os (spell_spot at (spell_purpose u (f rest)))) (augmentation_sign by) (augments os at by u to)
+augments-added : (os : List Outer) (at : Spot) (by : Augmentation) (u : Purpose) (to : Option Target) (f : List Kind → List Kind) → SpellsPlace to f → AddsToCell (λ rest. spell_outers os (spell_spot at (spell_purpose u (f rest)))) (augmentation_sign by) (augments os at by u to)
 augments-added os at by showing (Some to) f h = λ rest. ap (λ x. spell_outers os (spell_spot at x)) (h (augmentation_sign by ∷ rest))
 augments-added os at by _ _ f h = tt
 

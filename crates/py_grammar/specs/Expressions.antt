@@ -8,7 +8,7 @@ mutual
   -- or [ "if" or "else" expression ]
   pub data Expression : Type 0 where
     plain : Ors → Expression
-    pick : Ors → Ors → Expression → Expression
+    conditional : Ors → Ors → Expression → Expression
 
   -- and { "or" and }
   pub data Ors : Type 0 where
@@ -139,7 +139,7 @@ multiplicative_sign modulo = mod_sign
 abbrev mutual
   pub spell_expression : Expression → List Kind → List Kind
   spell_expression (plain a) rest = spell_ors a rest
-  spell_expression (pick a test b) rest = spell_ors a (if_word ∷ spell_ors test (else_word ∷ spell_expression b rest))
+  spell_expression (conditional a test b) rest = spell_ors a (if_word ∷ spell_ors test (else_word ∷ spell_expression b rest))
 
   pub spell_ors : Ors → List Kind → List Kind
   spell_ors (ors_one a) rest = spell_ands a rest

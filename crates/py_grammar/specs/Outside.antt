@@ -33,9 +33,9 @@ abbrev pub first_of : Option Construct → Option Construct → Option Construct
 first_of None other = other
 first_of (Some c) other = Some c
 
--- ---- behind a whole expression
+-- ---- after a whole expression
 
--- `,` at statement level or in parentheses, or behind what stands first in braces
+-- `,` at statement level or in parentheses, or after what stands first in braces
 abbrev pub comma_begins : List Opened → Option Expression → Option Construct
 comma_begins [] (Some a) = Some Tuple
 comma_begins (opened u w in_group ∷ os) (Some a) = Some Tuple
@@ -48,7 +48,7 @@ for_begins (opened u w (in_display es) ∷ os) (Some a) = Some Comprehension
 for_begins (opened u w (in_call f es) ∷ os) (Some a) = Some Comprehension
 for_begins _ _ = None
 
--- `}` behind what stands first in braces
+-- `}` after what stands first in braces
 abbrev pub brace_begins : List Opened → Option Expression → Option Construct
 brace_begins (opened u w (in_dict None) ∷ os) (Some a) = Some Set
 brace_begins _ _ = None
@@ -68,7 +68,7 @@ behind_whole os a _ = None
 
 -- ---- elsewhere
 
--- `)` directly behind the `(` of an atom
+-- `)` directly after the `(` of an atom
 abbrev pub empty_group : List Opened → Upper → Lower → Option Construct
 empty_group (opened v x in_group ∷ os) (upper [] None None None zero) (lower None None None []) = Some Tuple
 empty_group _ _ _ = None
@@ -102,7 +102,7 @@ outside_reading (after_is_not os u c) t = not_none t
 outside_reading (after_method os u w p n) t = no_call t
 outside_reading _ t = None
 
--- `=` behind `place = expression`
+-- `=` after `place = expression`
 abbrev pub chained_by : Purpose → Option Expression → Option Construct
 chained_by (assigning to) (Some a) = Some ChainedAssignment
 chained_by _ _ = None
@@ -111,22 +111,15 @@ abbrev pub chained : Purpose → Option Expression → Kind → Option Construct
 chained u a assign_sign = chained_by u a
 chained u a _ = None
 
--- outside all brackets
-abbrev pub is_bare_of_brackets : Reading → Bool
-is_bare_of_brackets (wants os u w) = is_empty os
-is_bare_of_brackets (has os u w p) = is_empty os
-is_bare_of_brackets (has_none os u c) = is_empty os
-is_bare_of_brackets (has_not_none os u c) = is_empty os
-is_bare_of_brackets (after_is os u c) = is_empty os
-is_bare_of_brackets (after_is_not os u c) = is_empty os
-is_bare_of_brackets (after_not os u c) = is_empty os
-is_bare_of_brackets (after_dot os u w p) = is_empty os
-is_bare_of_brackets (after_method os u w p n) = is_empty os
+-- a whole operand has been read, outside all brackets
+abbrev pub ends_target : Reading → Bool
+ends_target (has os u w p) = is_empty os
+ends_target _ = false
 
--- `,` behind what is deleted, which is no expression
-abbrev pub behind_deleted : Purpose → Reading → Kind → Bool
-behind_deleted deleting r comma = is_bare_of_brackets r
-behind_deleted _ r t = false
+-- `,` after a whole target that is deleted, which is no expression
+abbrev pub after_deleted : Purpose → Reading → Kind → Bool
+after_deleted deleting r comma = ends_target r
+after_deleted _ r t = false
 
 abbrev pub default_at : Kind → Option Construct
 default_at assign_sign = Some Default
@@ -143,7 +136,7 @@ inline_function _ = None
 
 abbrev pub outside_state : State → Kind → Option Construct
 outside_state (line os before) t = nested os t
-outside_state (in_simple os at u r) t = if behind_deleted u r t then None else first_of (chained u (whole r) t) (outside_reading r t)
+outside_state (in_simple os at u r) t = if after_deleted u r t then None else first_of (chained u (whole r) t) (outside_reading r t)
 outside_state (in_test os before lead r) t = outside_reading r t
 outside_state (has_params before n ns) t = default_at t
 outside_state (after_colon os o) t = inline_function t

@@ -3,7 +3,7 @@ use Rattle.std.specs.Prelude.{ℕ, zero, suc, Bool, true, false, List, [], ◌�
 use Rattle.py_token.specs.declared.kinds.Kind.{Kind}
 use Rattle.py_token.specs.declared.kinds.Kind.TheVariants as t
 use Rattle.py_grammar.specs.Words.{and_word, or_word, not_word, if_word, else_word, in_word, is_word, none_word, true_word, false_word, equal_sign, not_equal_sign, at_most_sign, at_least_sign, floor_sign, plus_sign, minus_sign, times_sign, mod_sign, less_sign, more_sign, open_parenthesis, close_parenthesis, open_bracket, close_bracket, open_brace, close_brace, colon, comma, dot}
-use Rattle.py_grammar.specs.Expressions.{Expression, plain, pick, Ors, ors_one, ors_more, Ands, ands_one, ands_more, Negation, compared, negated, Compares, compares_one, compares_more, compares_none, compares_not_none, Relational, equal, not_equal, less, at_most, greater, at_least, within, not_within, Sums, sums_one, sums_more, Additive, plus, minus, Products, products_one, products_more, Multiplicative, times, floor, modulo, Signed, unsigned, signed, Primary, name, number, text, nothing, truth, falsity, group, display, dict, call, index, slice, Callee, function, method, Bound, unbounded, bounded, Args, no_args, args, args_comma, Elements, elements_one, elements_more, Entries, no_entries, entries, entries_comma, Pairs, pairs_one, pairs_more}
+use Rattle.py_grammar.specs.Expressions.{Expression, plain, conditional, Ors, ors_one, ors_more, Ands, ands_one, ands_more, Negation, compared, negated, Compares, compares_one, compares_more, compares_none, compares_not_none, Relational, equal, not_equal, less, at_most, greater, at_least, within, not_within, Sums, sums_one, sums_more, Additive, plus, minus, Products, products_one, products_more, Multiplicative, times, floor, modulo, Signed, unsigned, signed, Primary, name, number, text, nothing, truth, falsity, group, display, dict, call, index, slice, Callee, function, method, Bound, unbounded, bounded, Args, no_args, args, args_comma, Elements, elements_one, elements_more, Entries, no_entries, entries, entries_comma, Pairs, pairs_one, pairs_more}
 
 -- ---- an expression up to where an operand is to stand
 
@@ -99,7 +99,7 @@ add_or (Some b) a = ors_more b a
 
 abbrev pub add_picked : List Picked → Expression → Expression
 add_picked [] a = a
-add_picked (picked b test ∷ ps) a = add_picked ps (pick b test a)
+add_picked (picked b test ∷ ps) a = add_picked ps (conditional b test a)
 
 abbrev pub add_element : Option Elements → Expression → Elements
 add_element None a = elements_one a
@@ -137,7 +137,7 @@ abbrev pub expression_of : Upper → Compares → Option Expression
 expression_of (upper ps None o a n) c = Some (add_picked ps (plain (add_or o (add_and a (add_nots n (compared c))))))
 expression_of (upper ps (Some b) o a n) c = None
 
--- ---- one more token behind a whole expression
+-- ---- one more token after a whole expression
 
 abbrev pub close_parenthesis_after : List Opened → Option Expression → Option Reading
 close_parenthesis_after (opened u w in_group ∷ os) (Some a) = Some (has os u w (group a))
@@ -182,7 +182,7 @@ and_after os (upper ps test o a n) c = wants os (upper ps test o (Some (add_and 
 abbrev pub relate : List Opened → Upper → Compares → Relational → Reading
 relate os u c r = wants os u (lower (Some (related c r)) None None [])
 
--- behind a whole comparison
+-- after a whole comparison
 abbrev pub behind : List Opened → Upper → Compares → Kind → Option Reading
 behind os u c equal_sign = Some (relate os u c equal)
 behind os u c not_equal_sign = Some (relate os u c not_equal)
@@ -204,7 +204,7 @@ behind os u c comma = comma_after os (expression_of u c)
 behind os u c colon = colon_after os (expression_of u c)
 behind os u c _ = None
 
--- ---- one more token behind a primary
+-- ---- one more token after a primary
 
 abbrev pub add : List Opened → Upper → Lower → Primary → Additive → Reading
 add os u (lower r a m signs) p s = wants os u (lower r (Some (added (add_added a (add_scaled m (add_signs signs (unsigned p)))) s)) None [])

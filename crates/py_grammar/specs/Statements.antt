@@ -9,9 +9,9 @@ use Rattle.py_grammar.specs.Expressions.{Expression, Primary, spell_expression, 
 -- ---- simple statements
 
 -- NAME | primary "[" expression "]"
-pub data Place : Type 0 where
-  to_name : List ℕ → Place
-  to_item : Primary → Expression → Place
+pub data Target : Type 0 where
+  to_name : List ℕ → Target
+  to_item : Primary → Expression → Target
 
 -- "+=" | "-=" | "*=" | "//=" | "%="
 pub data Augmentation : Type 0 where
@@ -28,24 +28,24 @@ pub data Names : Type 0 where
 
 -- "pass" | "break" | "continue"
 pub data Word : Type 0 where
-  idle : Word
-  stop : Word
-  skip : Word
+  pass_ : Word
+  break_ : Word
+  continue_ : Word
 
 -- "pass" | "break" | "continue" | "return" [ expression ] | "global" names | "del" place | place "=" expression | place augmentation expression | expression
 pub data Simple : Type 0 where
   word : Word → Simple
-  leave : Simple
+  return_ : Simple
   give : Expression → Simple
   declare : Names → Simple
-  delete : Place → Simple
-  assign : Place → Expression → Simple
-  augment : Place → Augmentation → Expression → Simple
+  delete : Target → Simple
+  assign : Target → Expression → Simple
+  augment : Target → Augmentation → Expression → Simple
   show : Expression → Simple
 
-abbrev pub spell_place : Place → List Kind → List Kind
-spell_place (to_name n) rest = t.Name n ∷ rest
-spell_place (to_item p a) rest = spell_primary p (open_bracket ∷ spell_expression a (close_bracket ∷ rest))
+abbrev pub spell_target : Target → List Kind → List Kind
+spell_target (to_name n) rest = t.Name n ∷ rest
+spell_target (to_item p a) rest = spell_primary p (open_bracket ∷ spell_expression a (close_bracket ∷ rest))
 
 abbrev pub augmentation_sign : Augmentation → Kind
 augmentation_sign by_plus = plus_assign_sign
@@ -59,18 +59,18 @@ spell_names (names_one n) rest = t.Name n ∷ rest
 spell_names (names_more ns n) rest = spell_names ns (comma ∷ t.Name n ∷ rest)
 
 abbrev pub keyword : Word → Kind
-keyword idle = pass_word
-keyword stop = break_word
-keyword skip = continue_word
+keyword pass_ = pass_word
+keyword break_ = break_word
+keyword continue_ = continue_word
 
 abbrev pub spell_simple : Simple → List Kind → List Kind
 spell_simple (word w) rest = keyword w ∷ rest
-spell_simple leave rest = return_word ∷ rest
+spell_simple return_ rest = return_word ∷ rest
 spell_simple (give a) rest = return_word ∷ spell_expression a rest
 spell_simple (declare ns) rest = global_word ∷ spell_names ns rest
-spell_simple (delete to) rest = del_word ∷ spell_place to rest
-spell_simple (assign to a) rest = spell_place to (assign_sign ∷ spell_expression a rest)
-spell_simple (augment to by a) rest = spell_place to (augmentation_sign by ∷ spell_expression a rest)
+spell_simple (delete to) rest = del_word ∷ spell_target to rest
+spell_simple (assign to a) rest = spell_target to (assign_sign ∷ spell_expression a rest)
+spell_simple (augment to by a) rest = spell_target to (augmentation_sign by ∷ spell_expression a rest)
 spell_simple (show a) rest = spell_expression a rest
 
 -- ---- statements
@@ -193,13 +193,13 @@ params_new (params ns) = names_new ns (λ rest. rest)
 params_new (params_comma ns) = names_new ns (λ rest. rest)
 
 abbrev pub word_stands : Word → Around → Type 0
-word_stands idle a = Unit {0}
-word_stands stop a = IsTrue a.in_loop
-word_stands skip a = IsTrue a.in_loop
+word_stands pass_ a = Unit {0}
+word_stands break_ a = IsTrue a.in_loop
+word_stands continue_ a = IsTrue a.in_loop
 
 abbrev pub simple_stands : Simple → Around → (List Kind → List Kind) → Type 0
 simple_stands (word w) a earlier = word_stands w a
-simple_stands leave a earlier = IsTrue a.in_function
+simple_stands return_ a earlier = IsTrue a.in_function
 simple_stands (give e) a earlier = IsTrue a.in_function
 simple_stands (declare ns) a earlier = IsTrue a.in_function × names_new ns earlier
 simple_stands (delete to) a earlier = Unit {0}

@@ -6,13 +6,13 @@ use Rattle.py_grammar.specs.Words.{if_word, else_word, elif_word, while_word, fo
 use Rattle.py_grammar.specs.Expressions.{Expression, Primary, name, index}
 use Rattle.py_grammar.specs.Readings.{Upper, upper, Lower, lower, Reading, wants, has, begun, read, whole, bare, narrow}
 use Rattle.py_grammar.specs.Open.{spell_reading}
-use Rattle.py_grammar.specs.Statements.{Place, to_name, to_item, Augmentation, by_plus, by_minus, by_times, by_floor, by_modulo, Names, names_one, names_more, Word, idle, stop, skip, Simple, word, leave, give, declare, delete, assign, augment, show, spell_place, augmentation_sign, spell_names, keyword, Params, no_params, params, params_comma, Statement, simple, compound, Head, choose, otherwise, while_true, for_each, define, if_true, else_if, Branches, branches, Block, inline, indented, Statements, statements_one, statements_more, spell_params, spell_head, spell_branches, Around, outside_all, inside, hear, is_new, names_new, params_new, word_stands, head_stands, branches_stand, spell_front, front_stands, cell_stands}
+use Rattle.py_grammar.specs.Statements.{Target, to_name, to_item, Augmentation, by_plus, by_minus, by_times, by_floor, by_modulo, Names, names_one, names_more, Word, pass_, break_, continue_, Simple, word, return_, give, declare, delete, assign, augment, show, spell_target, augmentation_sign, spell_names, keyword, Params, no_params, params, params_comma, Statement, simple, compound, Head, choose, otherwise, while_true, for_each, define, if_true, else_if, Branches, branches, Block, inline, indented, Statements, statements_one, statements_more, spell_params, spell_head, spell_branches, Around, outside_all, inside, hear, is_new, names_new, params_new, word_stands, head_stands, branches_stand, spell_front, front_stands, cell_stands}
 
 -- a compound statement whose block is open: what stands before it in its own block, and its head
 pub data Outer : Type 0 where
   outer : Option Statements → Head → Outer
 
--- where a simple statement stands: on a line of its own after these, or behind the `:` of a head
+-- where a simple statement stands: on a line of its own after these, or after the `:` of a head
 pub data Spot : Type 0 where
   own : Option Statements → Spot
   behind_head : Outer → Spot
@@ -22,8 +22,8 @@ pub data Purpose : Type 0 where
   showing : Purpose
   giving : Purpose
   deleting : Purpose
-  assigning : Place → Purpose
-  augmenting : Place → Augmentation → Purpose
+  assigning : Target → Purpose
+  augmenting : Target → Augmentation → Purpose
 
 -- what an expression of a head is for
 pub data Lead : Type 0 where
@@ -93,12 +93,12 @@ ended os (own before) s = line os (add_statement before (simple s))
 ended os (behind_head o) s = line os (close o (inline s))
 
 -- a place, where nothing stands before it
-abbrev pub place_of : Upper → Lower → Primary → Option Place
+abbrev pub place_of : Upper → Lower → Primary → Option Target
 place_of (upper [] None None None zero) (lower None None None []) (name n) = Some (to_name n)
 place_of (upper [] None None None zero) (lower None None None []) (index p a) = Some (to_item p a)
 place_of _ _ _ = None
 
-abbrev pub place_read : Reading → Option Place
+abbrev pub place_read : Reading → Option Target
 place_read (has [] u w p) = place_of u w p
 place_read _ = None
 
@@ -117,14 +117,14 @@ abbrev pub if_made : (Expression → Simple) → Option Expression → Option Si
 if_made f None = None
 if_made f (Some a) = Some (f a)
 
-abbrev pub if_deleted : Option Place → Option Simple
+abbrev pub if_deleted : Option Target → Option Simple
 if_deleted None = None
 if_deleted (Some to) = Some (delete to)
 
 -- the simple statement, where it may end
 abbrev pub finished : Purpose → Reading → Option Simple
 finished showing r = if_made show (whole r)
-finished giving r = if is_begun r then Some leave else if_made give (whole r)
+finished giving r = if is_begun r then Some return_ else if_made give (whole r)
 finished deleting r = if_deleted (place_read r)
 finished (assigning to) r = if_made (assign to) (whole r)
 finished (augmenting to by) r = if_made (augment to by) (whole r)
@@ -157,9 +157,9 @@ then_simple os at u (Some r) = Some (in_simple os at u r)
 
 -- a simple statement begins
 abbrev pub begins : List Outer → Spot → Kind → Option State
-begins os at pass_word = Some (after_word os at idle)
-begins os at break_word = if_allowed (spot_around os at).in_loop (after_word os at stop)
-begins os at continue_word = if_allowed (spot_around os at).in_loop (after_word os at skip)
+begins os at pass_word = Some (after_word os at pass_)
+begins os at break_word = if_allowed (spot_around os at).in_loop (after_word os at break_)
+begins os at continue_word = if_allowed (spot_around os at).in_loop (after_word os at continue_)
 begins os at return_word = if_allowed (spot_around os at).in_function (in_simple os at giving begun)
 begins os at global_word = if_allowed (spot_around os at).in_function (in_global os at None)
 begins os at del_word = Some (in_simple os at deleting begun)
@@ -200,11 +200,11 @@ abbrev pub ends : List Outer → Spot → Option Simple → Option State
 ends os at None = None
 ends os at (Some s) = Some (ended os at s)
 
-abbrev pub assigns : List Outer → Spot → Purpose → Option Place → Option State
+abbrev pub assigns : List Outer → Spot → Purpose → Option Target → Option State
 assigns os at showing (Some to) = Some (in_simple os at (assigning to) begun)
 assigns os at _ _ = None
 
-abbrev pub augments : List Outer → Spot → Augmentation → Purpose → Option Place → Option State
+abbrev pub augments : List Outer → Spot → Augmentation → Purpose → Option Target → Option State
 augments os at by showing (Some to) = Some (in_simple os at (augmenting to by) begun)
 augments os at by _ _ = None
 
@@ -336,8 +336,8 @@ abbrev pub spell_purpose : Purpose → List Kind → List Kind
 spell_purpose showing rest = rest
 spell_purpose giving rest = return_word ∷ rest
 spell_purpose deleting rest = del_word ∷ rest
-spell_purpose (assigning to) rest = spell_place to (assign_sign ∷ rest)
-spell_purpose (augmenting to by) rest = spell_place to (augmentation_sign by ∷ rest)
+spell_purpose (assigning to) rest = spell_target to (assign_sign ∷ rest)
+spell_purpose (augmenting to by) rest = spell_target to (augmentation_sign by ∷ rest)
 
 abbrev pub spell_lead : Lead → List Kind → List Kind
 spell_lead lead_if rest = if_word ∷ rest

@@ -10,14 +10,14 @@ use Rattle.py_tree.specs.declared.expressions.Operand.{Operand}
 use Rattle.py_tree.specs.declared.expressions.Pair.{Pair}
 use Rattle.py_tree.specs.declared.expressions.Op as operator
 use Rattle.py_tree.specs.declared.expressions.Op.TheVariants as o
-use Rattle.py_tree.specs.declared.expressions.Place as tree_of
-use Rattle.py_tree.specs.declared.expressions.Place.TheVariants as place
+use Rattle.py_tree.specs.declared.expressions.Target as tree_of
+use Rattle.py_tree.specs.declared.expressions.Target.TheVariants as target
 use Rattle.py_tree.specs.declared.statements.Stmt.{Stmt}
 use Rattle.py_tree.specs.declared.statements.Stmt.TheVariants as s
 use Rattle.py_tree.specs.declared.statements.Arm.{Arm}
 use Rattle.py_tree.specs.declared.statements.Def.{roll-Def}
-use Rattle.py_grammar.specs.Expressions.{Expression, plain, pick, Ors, ors_one, ors_more, Ands, ands_one, ands_more, Negation, compared, negated, Compares, compares_one, compares_more, compares_none, compares_not_none, Relational, equal, not_equal, less, at_most, greater, at_least, within, not_within, Sums, sums_one, sums_more, Additive, plus, minus, Products, products_one, products_more, Multiplicative, times, floor, modulo, Signed, unsigned, signed, Primary, name, number, text, nothing, truth, falsity, group, display, dict, call, index, slice, Callee, function, method, Bound, unbounded, bounded, Args, no_args, args, args_comma, Elements, elements_one, elements_more, Entries, no_entries, entries, entries_comma, Pairs, pairs_one, pairs_more}
-use Rattle.py_grammar.specs.Statements.{Place, to_name, to_item, Augmentation, by_plus, by_minus, by_times, by_floor, by_modulo, Names, names_one, names_more, Word, idle, stop, skip, Simple, word, leave, give, declare, delete, assign, augment, show, Params, no_params, params, params_comma, Statement, simple, compound, Head, choose, otherwise, while_true, for_each, define, Condition, if_true, else_if, Branches, branches, Block, inline, indented, Statements, statements_one, statements_more, spell_statement, spell_statements, Cell, IsCell}
+use Rattle.py_grammar.specs.Expressions.{Expression, plain, conditional, Ors, ors_one, ors_more, Ands, ands_one, ands_more, Negation, compared, negated, Compares, compares_one, compares_more, compares_none, compares_not_none, Relational, equal, not_equal, less, at_most, greater, at_least, within, not_within, Sums, sums_one, sums_more, Additive, plus, minus, Products, products_one, products_more, Multiplicative, times, floor, modulo, Signed, unsigned, signed, Primary, name, number, text, nothing, truth, falsity, group, display, dict, call, index, slice, Callee, function, method, Bound, unbounded, bounded, Args, no_args, args, args_comma, Elements, elements_one, elements_more, Entries, no_entries, entries, entries_comma, Pairs, pairs_one, pairs_more}
+use Rattle.py_grammar.specs.Statements.{Target, to_name, to_item, Augmentation, by_plus, by_minus, by_times, by_floor, by_modulo, Names, names_one, names_more, Word, pass_, break_, continue_, Simple, word, return_, give, declare, delete, assign, augment, show, Params, no_params, params, params_comma, Statement, simple, compound, Head, choose, otherwise, while_true, for_each, define, Condition, if_true, else_if, Branches, branches, Block, inline, indented, Statements, statements_one, statements_more, spell_statement, spell_statements, Cell, IsCell}
 
 abbrev relational_op : Relational → operator.Op
 relational_op equal = o.Equal
@@ -45,7 +45,7 @@ is_minus minus = true
 abbrev mutual
   pub tree_expression : Expression → Expr
   tree_expression (plain a) = tree_ors a
-  tree_expression (pick a test b) = e.Pick (tree_ors test) (tree_ors a) (tree_expression b)
+  tree_expression (conditional a test b) = e.Conditional (tree_ors test) (tree_ors a) (tree_expression b)
 
   pub tree_ors : Ors → Expr
   tree_ors (ors_one a) = tree_ands a
@@ -162,9 +162,9 @@ augmentation_op by_times = o.Times
 augmentation_op by_floor = o.Floor
 augmentation_op by_modulo = o.Mod
 
-abbrev pub tree_place : Place → tree_of.Place
-tree_place (to_name n) = place.Name n
-tree_place (to_item p a) = place.Item (tree_primary p) (tree_expression a)
+abbrev pub tree_target : Target → tree_of.Target
+tree_target (to_name n) = target.Name n
+tree_target (to_item p a) = target.Item (tree_primary p) (tree_expression a)
 
 abbrev pub tree_names : Names → List (List ℕ)
 tree_names (names_one n) = n ∷ []
@@ -176,19 +176,19 @@ tree_params (params ns) = tree_names ns
 tree_params (params_comma ns) = tree_names ns
 
 abbrev tree_word : Word → Stmt
-tree_word idle = s.Pass
-tree_word stop = s.Break
-tree_word skip = s.Continue
+tree_word pass_ = s.Pass
+tree_word break_ = s.Break
+tree_word continue_ = s.Continue
 
 abbrev pub tree_simple : Simple → Stmt
 tree_simple (word w) = tree_word w
-tree_simple leave = s.Return None
+tree_simple return_ = s.Return None
 tree_simple (give a) = s.Return (Some (tree_expression a))
 tree_simple (declare ns) = s.Global (tree_names ns)
-tree_simple (delete to) = s.Delete (tree_place to)
-tree_simple (assign to a) = s.Assign (tree_place to) (tree_expression a)
-tree_simple (augment to by a) = s.Augment (tree_place to) (augmentation_op by) (tree_expression a)
-tree_simple (show a) = s.Show (tree_expression a)
+tree_simple (delete to) = s.Delete (tree_target to)
+tree_simple (assign to a) = s.Assign (tree_target to) (tree_expression a)
+tree_simple (augment to by a) = s.Augment (tree_target to) (augmentation_op by) (tree_expression a)
+tree_simple (show a) = s.Expression (tree_expression a)
 
 abbrev condition_test : Condition → Expr
 condition_test (if_true a) = tree_expression a

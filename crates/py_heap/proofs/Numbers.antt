@@ -108,7 +108,7 @@ has-firsts (m ∷ ns) n =
       | inr d ↦ ap (λ b. (m == n) || b) (has-filter (λ k. not (k == m)) (firsts ns) n ∙ rw (ne_eqb n m (λ e. d (sym e))) r)
     ]
 
--- what is noted behind a list: each number that it lacks, where it stands first
+-- what is noted after a list: each number that it lacks, where it stands first
 pub all_noted_is : (acc ns : List ℕ) → all_noted acc ns ≡ acc ++ filter (λ m. not (has acc m)) (firsts ns)
 all_noted_is acc [] = sym (append-nil acc)
 all_noted_is acc (n ∷ ns) =
@@ -132,7 +132,7 @@ all_noted_is acc (n ∷ ns) =
 pub firsts_are : (ns : List ℕ) → all_noted [] ns ≡ firsts ns
 firsts_are ns = all_noted_is [] ns ∙ filter_all _ (firsts ns) (λ m. refl)
 
--- noting puts numbers behind the list
+-- noting puts numbers after the list
 pub front_stays : (acc ns : List ℕ) (i : ℕ) → i ≤ length acc → (take i (all_noted acc ns) ≡ take i acc) × (length acc ≤ length (all_noted acc ns))
 front_stays acc ns i l =
     let more = filter (λ m. not (has acc m)) (firsts ns) in

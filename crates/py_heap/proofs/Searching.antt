@@ -32,7 +32,7 @@ found_first s names found e =
       sound = subst (All (Reach s names)) (sym e) (All-all_noted (Reach s names) [] roots (All-nil (Reach s names)) (named_all s names));
     }
 
--- to look into the object at the next place meets its references behind the others
+-- to look into the object at the next place meets its references after the others
 met_more : (s : State) (names : List (List ℕ)) (found : List ℕ) (next : ℕ) → next < length found
     → met s names (take next found) ++ refs_at s (get_or found next 0) ≡ met s names (take (next + 1) found)
 met_more s names found next l =

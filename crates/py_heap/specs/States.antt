@@ -18,7 +18,7 @@ with_name s name value = record s { globals = finite.insert s.globals name value
 abbrev pub without_name : State → List ℕ → State
 without_name s name = record s { globals = finite.remove s.globals name }
 
--- one object more, behind all others
+-- one object more, after all others
 abbrev pub with_object : State → Object → State
 with_object s new = record s { heap = s.heap ++ new ∷ [] }
 

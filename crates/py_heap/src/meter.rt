@@ -1,5 +1,7 @@
 ghost use Rattle.std.specs.Prelude.{◌≡◌, ◌+◌, ◌<◌, ◌≤◌, ◌↔◌, OnOk, OnErr};
 
+use std::error::Error;
+use std::fmt;
 use std::marker::Model;
 
 /// The most units on a meter.
@@ -11,6 +13,16 @@ pub enum HeapFault {
     /// The meter would pass its limit.
     MeterSpent,
 }
+
+impl fmt::Display for HeapFault {
+    fn fmt<W: fmt::Write>(&self, f: &mut fmt::Formatter<W>) -> fmt::Result {
+        match self {
+            HeapFault::MeterSpent => write!(f, "the meter is spent"),
+        }
+    }
+}
+
+impl Error for HeapFault {}
 
 /// The units that a session has spent, at most `METER_LIMIT`. Contracts see their number.
 #[derive(Debug, Drop)]

@@ -205,7 +205,7 @@ impl State {
         }
     }
 
-    /// Takes an item out of the list at an address; those behind it move down.
+    /// Takes an item out of the list at an address; those after it move down.
     pub fn remove_item(&mut self, at: u32, index: u32) -> Value
         requires list { IsListAt self.old.heap at }
         requires within { index < length (items_at self.old.heap at) }

@@ -1,3 +1,2 @@
 pub mod Opened
 pub mod Deeper
-pub mod Counted

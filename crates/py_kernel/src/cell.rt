@@ -5,12 +5,12 @@ ghost use Rattle.py_meaning.specs.Acts.{run};
 ghost use Rattle.py_meaning.specs.Meaning as spec;
 ghost use Rattle.py_meaning.specs.Cells as cells;
 
-use crate::built::is_built;
 use crate::run::{eval, exec};
 use crate::shown::show;
+use crate::supported::is_supported;
 use plain_data::{Items, Text};
 use py_heap::State;
-use py_machine::{Fault, Machine, not_built};
+use py_machine::{Fault, Machine, unsupported_form};
 use py_meaning::CellEnd;
 use py_tree::{Expr, Stmt};
 use py_value::Value;
@@ -61,7 +61,7 @@ fn last(alloc: Global, machine: &mut Machine, statement: &Stmt) -> Result<Option
     ensures { Runs (run (spec.last statement.now (out-Stmt statement.now)) machine.old) result machine.new }
 {
     match statement {
-        Stmt::Show(expression) => show_last(alloc, machine, expression),
+        Stmt::Expression(expression) => show_last(alloc, machine, expression),
         _ => {
             exec(alloc, STATEMENT_LEVELS, machine, statement)?;
             Ok(None)
@@ -99,16 +99,16 @@ fn top(alloc: Global, machine: &mut Machine, body: &[Stmt]) -> Result<Option<Tex
 fn cell(alloc: Global, machine: &mut Machine, body: &[Stmt]) -> Result<Option<Text>, Fault>
     ensures { Runs (run (spec.cell body.now) machine.old) result machine.new }
 {
-    if is_built(body) {
+    if is_supported(body) {
         top(alloc, machine, body)
     } else {
-        Err(Fault::Raised(not_built(alloc)?))
+        Err(Fault::Raised(unsupported_form(alloc)?))
     }
 }
 
-/// Runs a cell with this tree on the state of a session. One that isn't of the built form doesn't run, and ends in a
+/// Runs a cell with this tree on the state of a session. One that isn't of the supported form doesn't run, and ends in a
 /// SyntaxError. An error is an end of the cell, and what the cell did before stays. The count is the caller's. (Python
-/// language reference, in the forms of `specs/Built.antt` of py_meaning.)
+/// language reference, in the forms of `specs/Supported.antt` of py_meaning.)
 ///
 /// After an `Err`, which is want of memory, the state stands for nothing and is only dropped.
 pub fn run_cell(alloc: Global, state: &mut State, body: &[Stmt]) -> Result<CellEnd, AllocError>

@@ -24,7 +24,7 @@ impl Kernel {
         }
     }
 
-    /// Runs a cell with this tree. One that isn't of the built form doesn't run, and ends in a SyntaxError. A Python error is
+    /// Runs a cell with this tree. One that isn't of the supported form doesn't run, and ends in a SyntaxError. A Python error is
     /// an end of the cell, and what the cell did before stays. The count is the caller's. After an `Err`, which is want of
     /// memory, the kernel stands for nothing and is only dropped. (Python language reference, in the subset of docs/LANGUAGE.md.)
     pub fn run_cell(&mut self, alloc: Global, body: &[Stmt]) -> Result<CellEnd, AllocError>

@@ -6,7 +6,8 @@ ghost use Rattle.py_meaning.specs.Meaning as spec;
 use plain_data::{Items, Text};
 use py_heap::{METER_LIMIT, Object};
 use py_machine::{
-    Fault, Kind, Machine, memory_error, no_attribute, not_built, overflow_error, unsupported_sum,
+    Fault, Machine, ValueKind, memory_error, no_attribute, overflow_error, unsupported_form,
+    unsupported_sum,
 };
 use py_tree::Op;
 use py_value::{Value, weight};
@@ -51,7 +52,7 @@ fn joined(alloc: Global, machine: &mut Machine, items: Items<Value>) -> Result<V
     Ok(Value::Ref(at))
 }
 
-/// The first items, with the others behind them.
+/// The first items, with the others after them.
 fn extended(items: Items<Value>, more: Items<Value>) -> Result<Items<Value>, AllocError>
     ensures { IfOk result (λ all. all ≡ items ++ more) }
 {
@@ -120,7 +121,7 @@ pub fn operated(
 {
     match op {
         Op::Plus => sum_of(alloc, machine, left, right),
-        _ => Err(Fault::Raised(not_built(alloc)?)),
+        _ => Err(Fault::Raised(unsupported_form(alloc)?)),
     }
 }
 
@@ -131,7 +132,7 @@ pub fn receiver(alloc: Global, machine: &Machine, object: &Value) -> Result<u32,
 {
     let kind = machine.kind_of(object)?;
     match (object, kind) {
-        (Value::Ref(at), Kind::List) => Ok(*at),
+        (Value::Ref(at), ValueKind::List) => Ok(*at),
         _ => {
             let name = Text::new(alloc, "append")?;
             Err(Fault::Raised(no_attribute(alloc, kind, &name)?))

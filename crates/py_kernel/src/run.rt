@@ -11,8 +11,8 @@ use crate::plus::{charge_list, operated, receiver};
 use crate::shown::written;
 use plain_data::{Items, Text};
 use py_heap::Object;
-use py_machine::{Fault, Flow, Machine, not_built, not_callable, recursion_error};
-use py_tree::{Expr, Literal, Operand, Place, Stmt};
+use py_machine::{Fault, Flow, Machine, not_callable, recursion_error, unsupported_form};
+use py_tree::{Expr, Literal, Operand, Stmt, Target};
 use py_value::{Builtin, Value, weight};
 use std::alloc::Global;
 
@@ -26,7 +26,7 @@ fn literal_value(alloc: Global, machine: &mut Machine, literal: &Literal) -> Res
             machine.step(alloc)?;
             Ok(Value::Number(*number))
         }
-        _ => Err(Fault::Raised(not_built(alloc)?)),
+        _ => Err(Fault::Raised(unsupported_form(alloc)?)),
     }
 }
 
@@ -134,7 +134,7 @@ impl<E: Fn(Global, u32, &mut Machine, &Expr) -> Result<Value, Fault>> Below<E> {
     {
         match args {
             [item] if name.as_str() == "append" => self.append(machine, object, item),
-            _ => Err(Fault::Raised(not_built(self.alloc)?)),
+            _ => Err(Fault::Raised(unsupported_form(self.alloc)?)),
         }
     }
 
@@ -160,7 +160,7 @@ impl<E: Fn(Global, u32, &mut Machine, &Expr) -> Result<Value, Fault>> Below<E> {
     {
         match (callee, args) {
             (Value::Builtin(Builtin::Print), [value]) => self.print(machine, value),
-            (Value::Builtin(_), _) => Err(Fault::Raised(not_built(self.alloc)?)),
+            (Value::Builtin(_), _) => Err(Fault::Raised(unsupported_form(self.alloc)?)),
             _ => not_called(self.alloc, machine, callee),
         }
     }
@@ -193,7 +193,7 @@ impl<E: Fn(Global, u32, &mut Machine, &Expr) -> Result<Value, Fault>> Below<E> {
                 self.method(machine, value.get(), name, args.as_slice())
             }
             Expr::Call { callee, args } => self.call(machine, callee.get(), args.as_slice()),
-            _ => Err(Fault::Raised(not_built(self.alloc)?)),
+            _ => Err(Fault::Raised(unsupported_form(self.alloc)?)),
         }
     }
 
@@ -217,13 +217,13 @@ impl<E: Fn(Global, u32, &mut Machine, &Expr) -> Result<Value, Fault>> Below<E> {
         Ok(Flow::Next)
     }
 
-    fn assigned(&self, machine: &mut Machine, place: &Place, value: &Expr) -> Result<Flow, Fault>
+    fn assigned(&self, machine: &mut Machine, target: &Target, value: &Expr) -> Result<Flow, Fault>
         requires { Nests self.now.left (E.pre self.now.eval) (E.post self.now.eval) }
-        ensures { Runs (run (spec.assigned (level self.now.left) place.now value.now) machine.old) result machine.new }
+        ensures { Runs (run (spec.assigned (level self.now.left) target.now value.now) machine.old) result machine.new }
     {
-        match place {
-            Place::Name(name) => self.assign(machine, name, value),
-            Place::Item { .. } => Err(Fault::Raised(not_built(self.alloc)?)),
+        match target {
+            Target::Name(name) => self.assign(machine, name, value),
+            Target::Item { .. } => Err(Fault::Raised(unsupported_form(self.alloc)?)),
         }
     }
 
@@ -233,9 +233,9 @@ impl<E: Fn(Global, u32, &mut Machine, &Expr) -> Result<Value, Fault>> Below<E> {
         ensures { Runs (run (spec.statement (level self.now.left) (out-Stmt statement.now)) machine.old) result machine.new }
     {
         match statement {
-            Stmt::Assign { place, value } => self.assigned(machine, place, value),
-            Stmt::Show(value) => self.show(machine, value),
-            _ => Err(Fault::Raised(not_built(self.alloc)?)),
+            Stmt::Assign { target, value } => self.assigned(machine, target, value),
+            Stmt::Expression(value) => self.show(machine, value),
+            _ => Err(Fault::Raised(unsupported_form(self.alloc)?)),
         }
     }
 }

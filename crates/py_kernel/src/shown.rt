@@ -45,7 +45,7 @@ fn is_open(path: &[u32], at: u32) -> bool
     path.iter().any(|open| *open == at)
 }
 
-/// Puts what a value shows behind a text, one level lower than its items' `left`.
+/// Puts what a value shows after a text, one level lower than its items' `left`.
 #[cycle(show)]
 fn show_value(
     alloc: Global,
@@ -68,7 +68,7 @@ fn show_value(
     }
 }
 
-/// Puts what the object at an address shows behind a text.
+/// Puts what the object at an address shows after a text.
 #[cycle(show)]
 #[tactic(auto, unfolding(py_meaning::specs::Shown::object_text))]
 fn show_object(
@@ -96,7 +96,7 @@ fn show_object(
     }
 }
 
-/// Puts what the list at an address shows behind a text.
+/// Puts what the list at an address shows after a text.
 #[cycle(show)]
 fn show_list(
     alloc: Global,
@@ -118,7 +118,7 @@ fn show_list(
     Ok(text)
 }
 
-/// Puts what the items of a list show, and its end, behind a text.
+/// Puts what the items of a list show, and its end, after a text.
 #[cycle(show)]
 fn show_items(
     alloc: Global,
@@ -144,7 +144,7 @@ fn show_items(
     }
 }
 
-/// Puts what the items of a list behind its first one show, and its end, behind a text.
+/// Puts what the items of a list after its first one show, and its end, after a text.
 #[cycle(show)]
 fn show_more(
     alloc: Global,
@@ -166,7 +166,7 @@ fn show_more(
     Ok(text)
 }
 
-/// Puts what a value shows behind a text, and takes its step.
+/// Puts what a value shows after a text, and takes its step.
 #[cycle(show)]
 fn show_one(
     alloc: Global,
@@ -183,7 +183,7 @@ fn show_one(
     show_value(alloc, left, machine, path, text, value)
 }
 
-/// Puts what a value shows (its `repr`) behind a text, with `left` levels left.
+/// Puts what a value shows (its `repr`) after a text, with `left` levels left.
 #[cycle(show)]
 pub fn show(
     alloc: Global,

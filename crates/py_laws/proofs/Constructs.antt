@@ -13,8 +13,8 @@ use Rattle.py_tree.specs.declared.expressions.Op.TheVariants as op
 use Rattle.py_tree.specs.declared.expressions.Operand.{Operand, out-Operand}
 use Rattle.py_tree.specs.declared.expressions.Pair.{Pair}
 use Rattle.py_tree.specs.declared.expressions.Relation.{Relation}
-use Rattle.py_tree.specs.declared.expressions.Place.{Place}
-use Rattle.py_tree.specs.declared.expressions.Place.TheVariants as place
+use Rattle.py_tree.specs.declared.expressions.Target.{Target}
+use Rattle.py_tree.specs.declared.expressions.Target.TheVariants as target
 use Rattle.py_tree.specs.declared.statements.Arm.{Arm}
 use Rattle.py_tree.specs.declared.statements.Def.{Def}
 use Rattle.py_tree.specs.declared.statements.Stmt.{Stmt, out-Stmt}
@@ -26,14 +26,14 @@ use Rattle.py_value.specs.declared.value.Value.TheVariants as value
 use Rattle.py_value.specs.Values.{weight}
 use Rattle.py_heap.specs.declared.heap.Object.TheVariants as object
 use Rattle.py_heap.specs.References.{value_refs}
-use Rattle.py_machine.specs.declared.kind.Kind.{Kind}
-use Rattle.py_machine.specs.declared.kind.Kind.TheVariants as kind
+use Rattle.py_machine.specs.declared.kind.ValueKind.{ValueKind}
+use Rattle.py_machine.specs.declared.kind.ValueKind.TheVariants as kind
 use Rattle.py_machine.specs.declared.machine.Flow.{Flow}
 use Rattle.py_machine.specs.declared.machine.Flow.TheVariants as flow
-use Rattle.py_machine.specs.Errors.{not_built, overflow_error, recursion_error, unsupported_sum, no_attribute, not_callable}
+use Rattle.py_machine.specs.Errors.{unsupported_form, overflow_error, recursion_error, unsupported_sum, no_attribute, not_callable}
 use Rattle.py_machine.specs.Runs.{Name}
 use Rattle.py_meaning.specs.Acts.{Act, ◌>>=◌, ◌>>◌, pure, fail, step, add}
-use Rattle.py_meaning.specs.Built.{is_built}
+use Rattle.py_meaning.specs.Supported.{is_supported}
 use Rattle.py_meaning.specs.Meaning.{fits, numbers_sum, copied, list_units, joined, unsupported, lists_joined, lists_sum, sum_of, operated, append_name, has_append, receiver, Inner, literal_value, items_from, items, display, operands, sum, append, method, print, not_called, called, call, expression, assign, assigned, show, statement, level, repr, result, show_last, last, top_from, top, cell}
 use Rattle.py_laws.specs.Same.{equal, refs}
 use Rattle.py_laws.proofs.Respecting.{Setting, Paired, Respects, Any, Equal, next, pure_respects, fail_respects, choose_respects}
@@ -47,8 +47,8 @@ module _ (c : Setting) where
   abbrev Flows : Act Flow → Act Flow → Type 0
   Flows = Respects c Equal
 
-  not_built_gives : Gives (fail not_built) (fail not_built)
-  not_built_gives = fail_respects c (Values c) not_built not_built refl
+  unsupported_gives : Gives (fail unsupported_form) (fail unsupported_form)
+  unsupported_gives = fail_respects c (Values c) unsupported_form unsupported_form refl
 
   plain_gives : (v : Value) → value_refs v ≡ [] → Gives (pure v) (pure v)
   plain_gives v none = pure_respects c (Values c) v v (equal v none)
@@ -59,7 +59,7 @@ module _ (c : Setting) where
   same_weight _ _ (equal v none) = refl
   same_weight _ _ (refs a b p) = refl
 
-  -- behind equal sums
+  -- after equal sums
   same_sums : (n m : ℕ) (vs ws : List Value) → n ≡ m → AllZip (Values c) vs ws → fold (λ total v. total + weight v) n vs ≡ fold (λ total v. total + weight v) m ws
   same_sums n m [] [] e h = e
   same_sums n m (v ∷ vs) (w ∷ ws) e h = same_sums (n + weight v) (m + weight w) vs ws (ap₂ (λ x y. x + y) e (same_weight v w h.0)) h.1
@@ -143,22 +143,22 @@ module _ (c : Setting) where
 
   operated_respects : (o : Op) (x y v w : Value) → Values c x y → Values c v w → Gives (operated o x v) (operated o y w)
   operated_respects op.Plus x y v w h k = sum_of_respects x y v w h k
-  operated_respects _ x y v w h k = not_built_gives
+  operated_respects _ x y v w h k = unsupported_gives
 
   -- ---- methods
 
-  no_method : (v w : Value) (k l : Kind) → k ≡ l → Respects c (Paired c) (fail (no_attribute k append_name)) (fail (no_attribute l append_name))
+  no_method : (v w : Value) (k l : ValueKind) → k ≡ l → Respects c (Paired c) (fail (no_attribute k append_name)) (fail (no_attribute l append_name))
   no_method v w k l e = fail_respects c (Paired c) _ _ (ap (λ i. no_attribute i append_name) e)
 
-  plain_receiver : (v : Value) (k : Kind) → value_refs v ≡ [] → Respects c (Paired c) (has_append v k) (has_append v k)
+  plain_receiver : (v : Value) (k : ValueKind) → value_refs v ≡ [] → Respects c (Paired c) (has_append v k) (has_append v k)
   plain_receiver (value.Ref at) k n = cc
   plain_receiver v k n = no_method v v k k refl
 
-  list_receiver : (a b : ℕ) (k : Kind) → Paired c a b → Respects c (Paired c) (has_append (value.Ref a) k) (has_append (value.Ref b) k)
+  list_receiver : (a b : ℕ) (k : ValueKind) → Paired c a b → Respects c (Paired c) (has_append (value.Ref a) k) (has_append (value.Ref b) k)
   list_receiver a b kind.List p = pure_respects c (Paired c) a b p
   list_receiver a b k p = no_method (value.Ref a) (value.Ref b) k k refl
 
-  has_append_respects : (v w : Value) (k : Kind) → Values c v w → Respects c (Paired c) (has_append v k) (has_append w k)
+  has_append_respects : (v w : Value) (k : ValueKind) → Values c v w → Respects c (Paired c) (has_append v k) (has_append w k)
   has_append_respects _ _ k (equal v n) = plain_receiver v k n
   has_append_respects _ _ k (refs a b p) = list_receiver a b k p
 
@@ -198,7 +198,7 @@ module _ (c : Setting) where
     literal_respects : (value : Literal) → Gives (literal_value value) (literal_value value)
     unfolding literal_value
     literal_respects (literal.Number n) = next c (step_respects c) λ _ _ _. plain_gives (value.Number n) refl
-    literal_respects _ = not_built_gives
+    literal_respects _ = unsupported_gives
 
     items_from_respects : (vs ws : List Value) (es : List Expr) → AllZip (Values c) vs ws → Respects c (AllZip (Values c)) (items_from inner vs es) (items_from inner ws es)
     items_from_respects vs ws [] h = pure_respects c (AllZip (Values c)) vs ws h
@@ -242,9 +242,9 @@ module _ (c : Setting) where
         plain_gives value.Nothing refl
 
     method_respects : (on : Expr) (name : Name) (args : List Expr) → Gives (method inner on name args) (method inner on name args)
-    method_respects on name (e ∷ []) = choose_respects c (Values c) (same_text name append_name) (same_text name append_name) _ _ _ _ refl (append_respects on e) not_built_gives
-    method_respects on name [] = not_built_gives
-    method_respects on name (e ∷ d ∷ es) = not_built_gives
+    method_respects on name (e ∷ []) = choose_respects c (Values c) (same_text name append_name) (same_text name append_name) _ _ _ _ refl (append_respects on e) unsupported_gives
+    method_respects on name [] = unsupported_gives
+    method_respects on name (e ∷ d ∷ es) = unsupported_gives
 
     not_called_respects : (v w : Value) → Values c v w → Gives (not_called v) (not_called w)
     unfolding not_called
@@ -261,8 +261,8 @@ module _ (c : Setting) where
 
       printed_respects : (vs ws : List Value) → AllZip (Values c) vs ws → Gives (called inner (value.Builtin builtin.Print) vs) (called inner (value.Builtin builtin.Print) ws)
       printed_respects (v ∷ []) (w ∷ []) h = print_respects v w h.0
-      printed_respects [] [] h = not_built_gives
-      printed_respects (v ∷ v' ∷ vs) (w ∷ w' ∷ ws) h = not_built_gives
+      printed_respects [] [] h = unsupported_gives
+      printed_respects (v ∷ v' ∷ vs) (w ∷ w' ∷ ws) h = unsupported_gives
       printed_respects [] (w ∷ ws) h = absurd h
       printed_respects (v ∷ vs) [] h = absurd h
       printed_respects (v ∷ []) (w ∷ w' ∷ ws) h = absurd h.1
@@ -270,7 +270,7 @@ module _ (c : Setting) where
 
       builtin_respects : (b : Builtin) (vs ws : List Value) → AllZip (Values c) vs ws → Gives (called inner (value.Builtin b) vs) (called inner (value.Builtin b) ws)
       builtin_respects builtin.Print vs ws h = printed_respects vs ws h
-      builtin_respects _ vs ws h = not_built_gives
+      builtin_respects _ vs ws h = unsupported_gives
 
       plain_called : (v : Value) (vs ws : List Value) → value_refs v ≡ [] → AllZip (Values c) vs ws → Gives (called inner v vs) (called inner v ws)
       plain_called (value.Builtin b) vs ws n h = builtin_respects b vs ws h
@@ -295,7 +295,7 @@ module _ (c : Setting) where
       expression_respects (Expr-F.Sum first rest) = sum_respects first rest
       expression_respects (Expr-F.Method on name args) = method_respects on name args
       expression_respects (Expr-F.Call callee args) = call_respects callee args
-      expression_respects _ = not_built_gives
+      expression_respects _ = unsupported_gives
 
     -- ---- statements
 
@@ -307,17 +307,17 @@ module _ (c : Setting) where
         next c (bind_respects c name v w h) λ _ _ _.
         pure_respects c Equal flow.Next flow.Next refl
 
-    assigned_respects : (target : Place) (e : Expr) → Flows (assigned inner target e) (assigned inner target e)
-    assigned_respects (place.Name name) e = assign_respects name e
-    assigned_respects (place.Item value at) e = fail_respects c Equal not_built not_built refl
+    assigned_respects : (target : Target) (e : Expr) → Flows (assigned inner target e) (assigned inner target e)
+    assigned_respects (target.Name name) e = assign_respects name e
+    assigned_respects (target.Item value at) e = fail_respects c Equal unsupported_form unsupported_form refl
 
     show_respects : (e : Expr) → Flows (show inner e) (show inner e)
     show_respects e = next c (next c (step_respects c) λ _ _ _. evals e) λ _ _ _. pure_respects c Equal flow.Next flow.Next refl
 
     statement_respects : (s : Stmt-F Stmt Arm Def) → Flows (statement inner s) (statement inner s)
     statement_respects (Stmt-F.Assign target e) = assigned_respects target e
-    statement_respects (Stmt-F.Show e) = show_respects e
-    statement_respects _ = fail_respects c Equal not_built not_built refl
+    statement_respects (Stmt-F.Expression e) = show_respects e
+    statement_respects _ = fail_respects c Equal unsupported_form unsupported_form refl
 
   -- ---- the levels
 
@@ -357,7 +357,7 @@ module _ (c : Setting) where
       next c (below.execs s) λ _ _ _. pure_respects c Equal None None refl
 
   last_respects : (s : Stmt) (opened : Stmt-F Stmt Arm Def) → Results (last s opened) (last s opened)
-  last_respects s (Stmt-F.Show e) = show_last_respects e
+  last_respects s (Stmt-F.Expression e) = show_last_respects e
   last_respects s _ = exec_last s
 
   top_from_respects : (s : Stmt) (more : List Stmt) → Results (top_from s more) (top_from s more)
@@ -373,4 +373,4 @@ module _ (c : Setting) where
   -- a cell on machines that are alike ends in such machines, with the same outcome
   pub cell_respects : (body : List Stmt) → Respects c Equal (cell body) (cell body)
   unfolding cell
-  cell_respects body = choose_respects c Equal (is_built body) (is_built body) _ _ _ _ refl (top_respects body) (fail_respects c Equal not_built not_built refl)
+  cell_respects body = choose_respects c Equal (is_supported body) (is_supported body) _ _ _ _ refl (top_respects body) (fail_respects c Equal unsupported_form unsupported_form refl)

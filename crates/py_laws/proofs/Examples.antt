@@ -21,7 +21,7 @@ use Rattle.py_machine.specs.declared.machine.Machine.{Machine}
 use Rattle.py_machine.specs.Runs.{Name}
 use Rattle.py_machine.specs.Runs as runs
 use Rattle.py_meaning.specs.Acts.{run}
-use Rattle.py_meaning.specs.Built.{is_built, is_line}
+use Rattle.py_meaning.specs.Supported.{is_supported, is_line}
 use Rattle.py_meaning.specs.Cells.{start, outcome, IsLooked}
 use Rattle.py_meaning.specs.Meaning.{literal_value, append, receiver, top, cell}
 use Rattle.py_meaning.proofs.Opened.{out-show, eval-name, eval-literal, eval-method, is_sum-name, is_sum-literal, is_sum-method}
@@ -141,7 +141,7 @@ abbrev line : Expr
 line = e.Method (e.Name a) (codes "append") (e.Literal (literal.Number (pos 1)) ∷ [])
 
 abbrev body : List Stmt
-body = s.Show line ∷ []
+body = s.Expression line ∷ []
 
 -- a statement, a method, a name and a literal; an item
 abbrev after : Machine
@@ -156,13 +156,13 @@ body-run : run (top body) (start first) ≡ (Ok None, after)
 unfolding append receiver literal_value runs.step runs.look runs.kind_of runs.charge runs.append_to
 body-run = rw (out-show line, eval-method 798 (e.Name a) (codes "append") (e.Literal (literal.Number (pos 1)) ∷ []), eval-name 797 a, first-a, eval-literal 797 (literal.Number (pos 1))) refl
 
-body-built : is_built body ≡ true
+body-supported : is_supported body ≡ true
 unfolding is_line builtins
-body-built = rw (out-show line, is_sum-method (e.Name a) (codes "append") (e.Literal (literal.Number (pos 1)) ∷ []), is_sum-name a, is_sum-literal (literal.Number (pos 1))) refl
+body-supported = rw (out-show line, is_sum-method (e.Name a) (codes "append") (e.Literal (literal.Number (pos 1)) ∷ []), is_sum-name a, is_sum-literal (literal.Number (pos 1))) refl
 
 body-outcome : outcome body first ≡ (Ok None, after)
 unfolding cell
-body-outcome = rw (body-built, body-run) refl
+body-outcome = rw (body-supported, body-run) refl
 
 -- it looks `a` up alone
 looked_is_a : (name : Name) → IsLooked name after.trace → Contains (a ∷ []) name

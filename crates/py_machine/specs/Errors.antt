@@ -2,12 +2,12 @@
 use Rattle.std.specs.Prelude.{ℕ, List, ◌++◌, codes}
 use Rattle.py_machine.specs.declared.error.ErrorKind.TheVariants as error
 use Rattle.py_machine.specs.declared.error.PyError.{PyError}
-use Rattle.py_machine.specs.declared.kind.Kind.{Kind}
-use Rattle.py_machine.specs.declared.kind.Kind.TheVariants as kind
+use Rattle.py_machine.specs.declared.kind.ValueKind.{ValueKind}
+use Rattle.py_machine.specs.declared.kind.ValueKind.TheVariants as kind
 
--- a cell that isn't of the built form
-abbrev pub not_built : PyError
-not_built = record { kind = error.Syntax; text = codes "not built" }
+-- a cell that isn't of the supported form
+abbrev pub unsupported_form : PyError
+unsupported_form = record { kind = error.Syntax; text = codes "not built" }
 
 -- numbers end at 128 bits
 abbrev pub overflow_error : PyError
@@ -31,7 +31,7 @@ name_error name = record { kind = error.Name; text = (codes "name '" ++ name) ++
 
 -- ---- errors that name kinds
 
-abbrev pub kind_name : Kind → List ℕ
+abbrev pub kind_name : ValueKind → List ℕ
 kind_name kind.Nothing = codes "NoneType"
 kind_name kind.Bool = codes "bool"
 kind_name kind.Number = codes "int"
@@ -40,18 +40,18 @@ kind_name kind.List = codes "list"
 kind_name kind.Builtin = codes "builtin_function_or_method"
 
 -- a `+` between values of these kinds
-abbrev pub unsupported_sum : Kind → Kind → PyError
+abbrev pub unsupported_sum : ValueKind → ValueKind → PyError
 unsupported_sum left right = record {
   kind = error.Type;
   text = (((codes "unsupported operand type(s) for +: '" ++ kind_name left) ++ codes "' and '") ++ kind_name right) ++ codes "'";
 }
 
 -- a call of a value of this kind
-abbrev pub not_callable : Kind → PyError
+abbrev pub not_callable : ValueKind → PyError
 not_callable kind = record { kind = error.Type; text = (codes "'" ++ kind_name kind) ++ codes "' object is not callable" }
 
 -- a method that values of this kind don't have
-abbrev pub no_attribute : Kind → List ℕ → PyError
+abbrev pub no_attribute : ValueKind → List ℕ → PyError
 no_attribute kind name = record {
   kind = error.Attribute;
   text = (((codes "'" ++ kind_name kind) ++ codes "' object has no attribute '") ++ name) ++ codes "'";

@@ -10,8 +10,8 @@ use Rattle.py_heap.specs.States.{with_name, without_name, with_object, with_item
 use Rattle.py_machine.specs.declared.error.PyError.{PyError}
 use Rattle.py_machine.specs.declared.error.Fault.{Fault}
 use Rattle.py_machine.specs.declared.error.Fault.TheVariants.{OutOfMemory, Raised}
-use Rattle.py_machine.specs.declared.kind.Kind.{Kind}
-use Rattle.py_machine.specs.declared.kind.Kind.TheVariants as kind
+use Rattle.py_machine.specs.declared.kind.ValueKind.{ValueKind}
+use Rattle.py_machine.specs.declared.kind.ValueKind.TheVariants as kind
 use Rattle.py_machine.specs.declared.machine.Event.{Event}
 use Rattle.py_machine.specs.declared.machine.Event.TheVariants as event
 use Rattle.py_machine.specs.declared.machine.Machine.{Machine}
@@ -100,14 +100,14 @@ unfoldable pub append_to : ℕ → Value → Run (Unit {0})
 append_to at last = λ m. appended at last (list_in (slice_get m.state.heap at)) m
 
 -- a reference to no object counts as None; a session has none such
-abbrev pub object_kind : Option Object → Kind
+abbrev pub object_kind : Option Object → ValueKind
 object_kind None = kind.Nothing
 object_kind (Some (object.List items)) = kind.List
 
-abbrev pub kind_at : List Object → ℕ → Kind
+abbrev pub kind_at : List Object → ℕ → ValueKind
 kind_at heap at = object_kind (slice_get heap at)
 
-abbrev pub kind_in : List Object → Value → Kind
+abbrev pub kind_in : List Object → Value → ValueKind
 kind_in heap value.Nothing = kind.Nothing
 kind_in heap (value.Bool truth) = kind.Bool
 kind_in heap (value.Number number) = kind.Number
@@ -116,12 +116,12 @@ kind_in heap (value.Ref at) = kind_at heap at
 kind_in heap (value.Builtin builtin) = kind.Builtin
 
 -- the kind of a value
-unfoldable pub kind_of : Value → Run Kind
+unfoldable pub kind_of : Value → Run ValueKind
 kind_of held = λ m. (Ok (kind_in m.state.heap held), m)
 
 -- ---- output
 
--- these bytes behind those printed so far
+-- these bytes after those printed so far
 unfoldable pub write : List ℕ → Run (Unit {0})
 write bytes = λ m. (Ok tt, record m { printed = m.printed ++ bytes })
 

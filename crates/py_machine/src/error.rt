@@ -1,7 +1,7 @@
 ghost use Rattle.std.specs.Prelude.{◌≡◌, IfOk};
 ghost use Rattle.py_machine.specs.Errors as spec;
 
-use crate::kind::{Kind, kind_name};
+use crate::kind::{ValueKind, kind_name};
 use plain_data::Text;
 use std::alloc::{AllocError, Global};
 
@@ -45,9 +45,9 @@ impl From<AllocError> for Fault {
     }
 }
 
-/// The error of a cell that isn't of the built form.
-pub fn not_built(alloc: Global) -> Result<PyError, AllocError>
-    ensures { IfOk result (λ error. error ≡ spec.not_built) }
+/// The error of a cell that isn't of the supported form.
+pub fn unsupported_form(alloc: Global) -> Result<PyError, AllocError>
+    ensures { IfOk result (λ error. error ≡ spec.unsupported_form) }
 {
     let text = Text::new(alloc, "not built")?;
     Ok(PyError {
@@ -113,7 +113,11 @@ pub fn name_error(alloc: Global, name: &Text) -> Result<PyError, AllocError>
 }
 
 /// The error of a `+` between values of these kinds.
-pub fn unsupported_sum(alloc: Global, left: Kind, right: Kind) -> Result<PyError, AllocError>
+pub fn unsupported_sum(
+    alloc: Global,
+    left: ValueKind,
+    right: ValueKind,
+) -> Result<PyError, AllocError>
     ensures { IfOk result (λ error. error ≡ spec.unsupported_sum left right) }
 {
     let left = kind_name(left);
@@ -126,7 +130,7 @@ pub fn unsupported_sum(alloc: Global, left: Kind, right: Kind) -> Result<PyError
 }
 
 /// The error of a call of a value that no call can stand on.
-pub fn not_callable(alloc: Global, kind: Kind) -> Result<PyError, AllocError>
+pub fn not_callable(alloc: Global, kind: ValueKind) -> Result<PyError, AllocError>
     ensures { IfOk result (λ error. error ≡ spec.not_callable kind) }
 {
     let kind = kind_name(kind);
@@ -138,7 +142,7 @@ pub fn not_callable(alloc: Global, kind: Kind) -> Result<PyError, AllocError>
 }
 
 /// The error of a method that values of this kind don't have.
-pub fn no_attribute(alloc: Global, kind: Kind, name: &Text) -> Result<PyError, AllocError>
+pub fn no_attribute(alloc: Global, kind: ValueKind, name: &Text) -> Result<PyError, AllocError>
     ensures { IfOk result (λ error. error ≡ spec.no_attribute kind name.now) }
 {
     let kind = kind_name(kind);

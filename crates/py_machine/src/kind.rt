@@ -3,7 +3,7 @@ ghost use Rattle.py_machine.specs.Errors as spec;
 
 /// What sort of value a value is.
 #[derive(Clone, Copy, Debug, PartialEq, Eq)]
-pub enum Kind {
+pub enum ValueKind {
     /// None. A reference to no object counts as one; a session has none such.
     Nothing,
     Bool,
@@ -14,15 +14,15 @@ pub enum Kind {
 }
 
 /// The name of a kind, as errors say it.
-pub fn kind_name(kind: Kind) -> &'static str
+pub fn kind_name(kind: ValueKind) -> &'static str
     ensures { result.now ≡ spec.kind_name kind }
 {
     match kind {
-        Kind::Nothing => "NoneType",
-        Kind::Bool => "bool",
-        Kind::Number => "int",
-        Kind::Text => "str",
-        Kind::List => "list",
-        Kind::Builtin => "builtin_function_or_method",
+        ValueKind::Nothing => "NoneType",
+        ValueKind::Bool => "bool",
+        ValueKind::Number => "int",
+        ValueKind::Text => "str",
+        ValueKind::List => "list",
+        ValueKind::Builtin => "builtin_function_or_method",
     }
 }

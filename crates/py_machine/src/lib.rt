@@ -12,8 +12,8 @@ mod tests;
 
 pub use builtins::builtin_named;
 pub use error::{
-    ErrorKind, Fault, PyError, memory_error, name_error, no_attribute, not_built, not_callable,
-    overflow_error, recursion_error, step_limit_error, unsupported_sum,
+    ErrorKind, Fault, PyError, memory_error, name_error, no_attribute, not_callable,
+    overflow_error, recursion_error, step_limit_error, unsupported_form, unsupported_sum,
 };
-pub use kind::{Kind, kind_name};
+pub use kind::{ValueKind, kind_name};
 pub use machine::{Event, Flow, Machine};

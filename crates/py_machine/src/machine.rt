@@ -4,7 +4,7 @@ ghost use Rattle.py_machine.specs.Runs.{Runs};
 
 use crate::builtins::builtin_named;
 use crate::error::{Fault, memory_error, name_error, step_limit_error};
-use crate::kind::Kind;
+use crate::kind::ValueKind;
 use plain_data::{Items, Text};
 use py_heap::{HeapFault, Object, State};
 use py_value::Value;
@@ -132,27 +132,27 @@ impl Machine {
 
     /// The kind of a value.
     #[tactic(auto, unfolding(crate::specs::Runs::kind_of))]
-    pub fn kind_of(&self, value: &Value) -> Result<Kind, Fault>
+    pub fn kind_of(&self, value: &Value) -> Result<ValueKind, Fault>
         ensures { Runs (spec.kind_of value.now self.now) result self.now }
     {
         match value {
-            Value::Nothing => Ok(Kind::Nothing),
-            Value::Bool(_) => Ok(Kind::Bool),
-            Value::Number(_) => Ok(Kind::Number),
-            Value::Text(_) => Ok(Kind::Text),
+            Value::Nothing => Ok(ValueKind::Nothing),
+            Value::Bool(_) => Ok(ValueKind::Bool),
+            Value::Number(_) => Ok(ValueKind::Number),
+            Value::Text(_) => Ok(ValueKind::Text),
             Value::Ref(at) => Ok(self.kind_at(*at)),
-            Value::Builtin(_) => Ok(Kind::Builtin),
+            Value::Builtin(_) => Ok(ValueKind::Builtin),
         }
     }
 
     /// The kind of the object at an address.
-    fn kind_at(&self, at: u32) -> Kind
+    fn kind_at(&self, at: u32) -> ValueKind
         ensures { result ≡ spec.kind_at self.now.state.heap at }
     {
         if self.state.is_list(at) {
-            Kind::List
+            ValueKind::List
         } else {
-            Kind::Nothing
+            ValueKind::Nothing
         }
     }
 

@@ -1,5 +1,6 @@
 use crate::{
-    Event, Fault, Kind, Machine, PyError, name_error, no_attribute, not_callable, unsupported_sum,
+    Event, Fault, Machine, PyError, ValueKind, name_error, no_attribute, not_callable,
+    unsupported_sum,
 };
 use plain_data::{Items, Text};
 use py_heap::{Object, State};
@@ -35,14 +36,14 @@ fn errors_have_the_texts_of_python(rt: HostRuntime) -> Result<(), Fail> {
     let alloc = rt.alloc();
     let name = name_error(alloc, &Text::new(alloc, "x")?)?;
     assert_eq!(rt; name.text.as_str(), "name 'x' is not defined");
-    let sum = unsupported_sum(alloc, Kind::Number, Kind::List)?;
+    let sum = unsupported_sum(alloc, ValueKind::Number, ValueKind::List)?;
     assert_eq!(rt;
         sum.text.as_str(),
         "unsupported operand type(s) for +: 'int' and 'list'"
     );
-    let call = not_callable(alloc, Kind::Nothing)?;
+    let call = not_callable(alloc, ValueKind::Nothing)?;
     assert_eq!(rt; call.text.as_str(), "'NoneType' object is not callable");
-    let method = no_attribute(alloc, Kind::Number, &Text::new(alloc, "append")?)?;
+    let method = no_attribute(alloc, ValueKind::Number, &Text::new(alloc, "append")?)?;
     assert_eq!(rt;
         method.text.as_str(),
         "'int' object has no attribute 'append'"
@@ -81,7 +82,7 @@ fn lists_steps_and_units(rt: HostRuntime) -> Result<(), Fail> {
     assert!(rt; machine.append_to(1, Value::Number(7)).is_ok());
     assert_eq!(rt; length_at(alloc, &machine, 0), Some(1));
     assert_eq!(rt; length_at(alloc, &machine, 1), None);
-    assert!(rt; matches!(machine.kind_of(&Value::Ref(0)), Ok(Kind::List)));
+    assert!(rt; matches!(machine.kind_of(&Value::Ref(0)), Ok(ValueKind::List)));
     assert_eq!(rt; machine.trace.len(), 1);
     machine.steps = 999_999;
     assert!(rt; machine.step(alloc).is_ok());

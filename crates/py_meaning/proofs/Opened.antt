@@ -1,4 +1,4 @@
--- What expressions and statements of the built forms are at their top, and what they mean with a level left.
+-- What expressions and statements of the supported forms are at their top, and what they mean with a level left.
 use Rattle.std.proofs.Common.{◌≡◌, ℕ, suc, Bool, false, List, [], ◌∷◌, refl, sym, ap, ◌∙◌}
 use Rattle.std.specs.Prelude.{◌&&◌, ◌||◌, map, codes}
 use Rattle.std.specs.List.{list_all}
@@ -10,14 +10,14 @@ use Rattle.py_tree.specs.declared.expressions.Expr.TheViews.{out-Expr, roll-Expr
 use Rattle.py_tree.specs.declared.expressions.Expr.TheVariants as e
 use Rattle.py_tree.specs.declared.expressions.Literal.{Literal}
 use Rattle.py_tree.specs.declared.expressions.Operand.{Operand, out-Operand}
-use Rattle.py_tree.specs.declared.expressions.Place.{Place}
+use Rattle.py_tree.specs.declared.expressions.Target.{Target}
 use Rattle.py_tree.specs.declared.statements.Arm.{Arm}
 use Rattle.py_tree.specs.declared.statements.Def.{Def}
 use Rattle.py_tree.specs.declared.statements.Stmt.{Stmt}
 use Rattle.py_tree.specs.declared.statements.Stmt.TheOpen.{Stmt-F}
 use Rattle.py_tree.specs.declared.statements.Stmt.TheViews.{out-Stmt, roll-Stmt, out-roll-Stmt, roll-out-Stmt}
 use Rattle.py_tree.specs.declared.statements.Stmt.TheVariants as s
-use Rattle.py_meaning.specs.Built.{is_own, is_number, is_plus, are_all, is_only, sum_step, relation_step, operand_step, pair_step, is_sum, is_operand, are_sums, are_operands, is_one_sum, Open, is_own_place, open_print, is_print, open_call, is_print_call, open_line, is_line}
+use Rattle.py_meaning.specs.Supported.{is_own, is_number, is_plus, are_all, is_only, sum_step, relation_step, operand_step, pair_step, is_sum, is_operand, are_sums, are_operands, is_one_sum, Open, is_own_target, open_print, is_print, open_call, is_print_call, open_line, is_line}
 use Rattle.py_meaning.specs.Acts.{◌>>◌, look, step}
 use Rattle.py_meaning.specs.Meaning.{level, literal_value, display, sum, method, call, expression, assigned, statement}
 
@@ -39,11 +39,11 @@ out-method value name args = ap out-Expr (sym (e.rolls-Method value name args)) 
 pub out-call : (callee : Expr) (args : List Expr) → out-Expr (e.Call callee args) ≡ Expr-F.Call callee args
 out-call callee args = ap out-Expr (sym (e.rolls-Call callee args)) ∙ out-roll-Expr (Expr-F.Call callee args)
 
-pub out-assign : (place : Place) (value : Expr) → out-Stmt (s.Assign place value) ≡ Stmt-F.Assign place value
-out-assign place value = ap out-Stmt (sym (s.rolls-Assign place value)) ∙ out-roll-Stmt (Stmt-F.Assign place value)
+pub out-assign : (target : Target) (value : Expr) → out-Stmt (s.Assign target value) ≡ Stmt-F.Assign target value
+out-assign target value = ap out-Stmt (sym (s.rolls-Assign target value)) ∙ out-roll-Stmt (Stmt-F.Assign target value)
 
-pub out-show : (value : Expr) → out-Stmt (s.Show value) ≡ Stmt-F.Show value
-out-show value = ap out-Stmt (sym (s.rolls-Show value)) ∙ out-roll-Stmt (Stmt-F.Show value)
+pub out-show : (value : Expr) → out-Stmt (s.Expression value) ≡ Stmt-F.Expression value
+out-show value = ap out-Stmt (sym (s.rolls-Expression value)) ∙ out-roll-Stmt (Stmt-F.Expression value)
 
 module _ (n : ℕ) where
   pub eval-name : (name : List ℕ) → (level (suc n)).eval (e.Name name) ≡ step >> look name
@@ -70,15 +70,15 @@ module _ (n : ℕ) where
   unfolding level
   eval-call callee args = ap (expression (level n)) (out-call callee args)
 
-  pub exec-assign : (place : Place) (value : Expr) → (level (suc n)).exec (s.Assign place value) ≡ assigned (level n) place value
+  pub exec-assign : (target : Target) (value : Expr) → (level (suc n)).exec (s.Assign target value) ≡ assigned (level n) target value
   unfolding level
-  exec-assign place value = ap (statement (level n)) (out-assign place value)
+  exec-assign target value = ap (statement (level n)) (out-assign target value)
 
-  pub exec-show : (value : Expr) → (level (suc n)).exec (s.Show value) ≡ statement (level n) (Stmt-F.Show value)
+  pub exec-show : (value : Expr) → (level (suc n)).exec (s.Expression value) ≡ statement (level n) (Stmt-F.Expression value)
   unfolding level
   exec-show value = ap (statement (level n)) (out-show value)
 
--- ---- the built form
+-- ---- the supported form
 
 list_all-map : {A : Type 0} (f : A → Bool) (xs : List A) → are_all (map f xs) ≡ list_all f xs
 list_all-map f [] = refl
@@ -159,21 +159,21 @@ pub is_print_call-other : (x : Expr) → ((callee : Expr) (args : List Expr) →
 unfolding is_print_call
 is_print_call-other x no_call = other_call x no_call (out-Expr x) (roll-out-Expr x)
 
-pub is_line-assign : (target : Place) (value : Expr) → is_line (s.Assign target value) ≡ (is_own_place target && is_sum value)
+pub is_line-assign : (target : Target) (value : Expr) → is_line (s.Assign target value) ≡ (is_own_target target && is_sum value)
 unfolding is_line
 is_line-assign target value = ap open_line (out-assign target value)
 
-pub is_line-show : (value : Expr) → is_line (s.Show value) ≡ (is_sum value || is_print_call value)
+pub is_line-show : (value : Expr) → is_line (s.Expression value) ≡ (is_sum value || is_print_call value)
 unfolding is_line
 is_line-show value = ap open_line (out-show value)
 
-other_line : (x : Stmt) → ((target : Place) (value : Expr) → x ≡ s.Assign target value → ⊥) → ((value : Expr) → x ≡ s.Show value → ⊥)
+other_line : (x : Stmt) → ((target : Target) (value : Expr) → x ≡ s.Assign target value → ⊥) → ((value : Expr) → x ≡ s.Expression value → ⊥)
     → (y : Stmt-F Stmt Arm Def) → roll-Stmt y ≡ x → open_line y ≡ false
 other_line x no_assign no_show (Stmt-F.Assign target value) is = absurd (no_assign target value (sym is ∙ s.rolls-Assign target value))
-other_line x no_assign no_show (Stmt-F.Show value) is = absurd (no_show value (sym is ∙ s.rolls-Show value))
+other_line x no_assign no_show (Stmt-F.Expression value) is = absurd (no_show value (sym is ∙ s.rolls-Expression value))
 other_line x no_assign no_show _ is = refl
 
-pub is_line-other : (x : Stmt) → ((target : Place) (value : Expr) → x ≡ s.Assign target value → ⊥) → ((value : Expr) → x ≡ s.Show value → ⊥) → is_line x ≡ false
+pub is_line-other : (x : Stmt) → ((target : Target) (value : Expr) → x ≡ s.Assign target value → ⊥) → ((value : Expr) → x ≡ s.Expression value → ⊥) → is_line x ≡ false
 unfolding is_line
 is_line-other x no_assign no_show = other_line x no_assign no_show (out-Stmt x) (roll-out-Stmt x)
 

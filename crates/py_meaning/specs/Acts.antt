@@ -3,7 +3,7 @@ use Rattle.std.specs.Prelude.{ℕ, Bool, true, false, List, Option}
 use Rattle.py_value.specs.declared.value.Value.{Value}
 use Rattle.py_heap.specs.declared.heap.Object.{Object}
 use Rattle.py_machine.specs.declared.error.PyError.{PyError}
-use Rattle.py_machine.specs.declared.kind.Kind.{Kind}
+use Rattle.py_machine.specs.declared.kind.ValueKind.{ValueKind}
 use Rattle.py_machine.specs.Runs.{Name, Run, after}
 use Rattle.py_machine.specs.Runs as runs
 
@@ -19,7 +19,7 @@ pub data Act : Type 0 → Type 1 where
   add : Object → Act ℕ
   append_to : ℕ → Value → Act (Unit {0})
   list_at : ℕ → Act (Option (List Value))
-  kind_of : Value → Act Kind
+  kind_of : Value → Act ValueKind
   write : List ℕ → Act (Unit {0})
 
 infixl 10 ◌>>=◌

@@ -1,5 +1,5 @@
 pub mod Acts
-pub mod Built
+pub mod Supported
 pub mod Shown
 pub mod Meaning
 pub mod Cells

@@ -10,8 +10,8 @@ use Rattle.py_tree.specs.declared.expressions.Op.TheVariants as op
 use Rattle.py_tree.specs.declared.expressions.Operand.{Operand, out-Operand}
 use Rattle.py_tree.specs.declared.expressions.Pair.{Pair}
 use Rattle.py_tree.specs.declared.expressions.Relation.{Relation}
-use Rattle.py_tree.specs.declared.expressions.Place.{Place}
-use Rattle.py_tree.specs.declared.expressions.Place.TheVariants as place
+use Rattle.py_tree.specs.declared.expressions.Target.{Target}
+use Rattle.py_tree.specs.declared.expressions.Target.TheVariants as target
 use Rattle.py_tree.specs.declared.statements.Arm.{Arm}
 use Rattle.py_tree.specs.declared.statements.Def.{Def}
 use Rattle.py_tree.specs.declared.statements.Stmt.{Stmt, out-Stmt}
@@ -21,14 +21,14 @@ use Rattle.py_value.specs.declared.value.Value.{Value}
 use Rattle.py_value.specs.declared.value.Value.TheVariants as value
 use Rattle.py_value.specs.Values.{weight}
 use Rattle.py_heap.specs.declared.heap.Object.TheVariants as object
-use Rattle.py_machine.specs.declared.kind.Kind.{Kind}
-use Rattle.py_machine.specs.declared.kind.Kind.TheVariants as kind
+use Rattle.py_machine.specs.declared.kind.ValueKind.{ValueKind}
+use Rattle.py_machine.specs.declared.kind.ValueKind.TheVariants as kind
 use Rattle.py_machine.specs.declared.machine.Flow.{Flow}
 use Rattle.py_machine.specs.declared.machine.Flow.TheVariants as flow
-use Rattle.py_machine.specs.Errors.{not_built, overflow_error, recursion_error, unsupported_sum, no_attribute, not_callable}
+use Rattle.py_machine.specs.Errors.{unsupported_form, overflow_error, recursion_error, unsupported_sum, no_attribute, not_callable}
 use Rattle.py_machine.specs.Runs.{Name}
 use Rattle.py_meaning.specs.Acts.{Act, ◌>>=◌, ◌>>◌, pure, fail, step, charge, look, bind, add, append_to, list_at, kind_of, write, choose}
-use Rattle.py_meaning.specs.Built.{is_built}
+use Rattle.py_meaning.specs.Supported.{is_supported}
 use Rattle.py_meaning.specs.Shown.{shown, written}
 
 -- ---- the operator `+`
@@ -81,7 +81,7 @@ sum_of left right = unsupported left right
 
 abbrev pub operated : Op → Value → Value → Act Value
 operated op.Plus left right = sum_of left right
-operated _ left right = fail not_built
+operated _ left right = fail unsupported_form
 
 -- ---- methods and calls of values
 
@@ -89,7 +89,7 @@ abbrev pub append_name : Name
 append_name = codes "append"
 
 -- the address of a value that is a list, and has the method
-abbrev pub has_append : Value → Kind → Act ℕ
+abbrev pub has_append : Value → ValueKind → Act ℕ
 has_append (value.Ref at) kind.List = pure at
 has_append held kind = fail (no_attribute kind append_name)
 
@@ -103,7 +103,7 @@ not_called callee = kind_of callee >>= (λ kind. fail (not_callable kind))
 
 unfoldable pub literal_value : Literal → Act Value
 literal_value (literal.Number n) = step >> pure (value.Number n)
-literal_value _ = fail not_built
+literal_value _ = fail unsupported_form
 
 -- what stands one level below
 pub record Inner : Type 1 where
@@ -114,7 +114,7 @@ pub record Inner : Type 1 where
 module _ (inner : Inner) where
   -- ---- expressions
 
-  -- the values of expressions, behind those that stand already
+  -- the values of expressions, after those that stand already
   abbrev pub items_from : List Value → List Expr → Act (List Value)
   items_from values [] = pure values
   items_from values (e ∷ es) = inner.eval e >>= (λ held. items_from (values ++ held ∷ []) es)
@@ -151,8 +151,8 @@ module _ (inner : Inner) where
     pure value.Nothing
 
   abbrev pub method : Expr → Name → List Expr → Act Value
-  method on name (e ∷ []) = choose (same_text name append_name) (append on e) (fail not_built)
-  method on name _ = fail not_built
+  method on name (e ∷ []) = choose (same_text name append_name) (append on e) (fail unsupported_form)
+  method on name _ = fail unsupported_form
 
   -- a text and a line feed, charged by their bytes
   unfoldable pub print : Value → Act Value
@@ -164,7 +164,7 @@ module _ (inner : Inner) where
 
   abbrev pub called : Value → List Value → Act Value
   called (value.Builtin builtin.Print) (held ∷ []) = print held
-  called (value.Builtin builtin) args = fail not_built
+  called (value.Builtin builtin) args = fail unsupported_form
   called callee args = not_called callee
 
   unfoldable pub call : Expr → List Expr → Act Value
@@ -181,7 +181,7 @@ module _ (inner : Inner) where
   expression (Expr-F.Sum first rest) = sum first rest
   expression (Expr-F.Method on name args) = method on name args
   expression (Expr-F.Call callee args) = call callee args
-  expression _ = fail not_built
+  expression _ = fail unsupported_form
 
   -- ---- statements
 
@@ -192,17 +192,17 @@ module _ (inner : Inner) where
     bind name held
     pure flow.Next
 
-  abbrev pub assigned : Place → Expr → Act Flow
-  assigned (place.Name name) e = assign name e
-  assigned _ e = fail not_built
+  abbrev pub assigned : Target → Expr → Act Flow
+  assigned (target.Name name) e = assign name e
+  assigned _ e = fail unsupported_form
 
   abbrev pub show : Expr → Act Flow
   show e = step >> inner.eval e >> pure flow.Next
 
   abbrev pub statement : Stmt-F Stmt Arm Def → Act Flow
   statement (Stmt-F.Assign target e) = assigned target e
-  statement (Stmt-F.Show e) = show e
-  statement _ = fail not_built
+  statement (Stmt-F.Expression e) = show e
+  statement _ = fail unsupported_form
 
 -- with so many levels left
 unfoldable pub level : ℕ → Inner
@@ -211,7 +211,7 @@ level (suc n) = record { eval = λ e. expression (level n) (out-Expr e); exec = 
 
 -- ---- a cell: its statements stand at level 1 of 800
 
--- A result is shown as by a call of `repr`: at level 3, with its bytes charged behind its steps.
+-- A result is shown as by a call of `repr`: at level 3, with its bytes charged after its steps.
 unfoldable pub repr : Value → Act (Option (List ℕ))
 repr held = do
   text ← shown 798 [] [] held
@@ -228,7 +228,7 @@ show_last e = step >> (level 799).eval e >>= result
 
 -- a last statement gives a result where it is an expression
 abbrev pub last : Stmt → Stmt-F Stmt Arm Def → Act (Option (List ℕ))
-last s (Stmt-F.Show e) = show_last e
+last s (Stmt-F.Expression e) = show_last e
 last s _ = (level 800).exec s >> pure None
 
 abbrev pub top_from : Stmt → List Stmt → Act (Option (List ℕ))
@@ -239,6 +239,6 @@ abbrev pub top : List Stmt → Act (Option (List ℕ))
 top [] = pure None
 top (s ∷ more) = top_from s more
 
--- a cell that isn't of the built form doesn't run
+-- a cell that isn't of the supported form doesn't run
 unfoldable pub cell : List Stmt → Act (Option (List ℕ))
-cell body = choose (is_built body) (top body) (fail not_built)
+cell body = choose (is_supported body) (top body) (fail unsupported_form)

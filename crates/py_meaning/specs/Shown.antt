@@ -30,12 +30,12 @@ plain_text (value.Text text) = key_text (key.Text text)
 plain_text (value.Ref at) = key_text key.Nothing
 plain_text (value.Builtin builtin) = builtin_text builtin
 
--- what shows a value behind a text, with the lists open that it stands in, the outermost first
+-- what shows a value after a text, with the lists open that it stands in, the outermost first
 abbrev pub Shows : Type 1
 Shows = List ℕ → List ℕ → Value → Act (List ℕ)
 
 module _ (below : Shows) where
-  -- the items of a list behind its first one, and its end
+  -- the items of a list after its first one, and its end
   abbrev pub more_items : List ℕ → List ℕ → List Value → Act (List ℕ)
   more_items path text [] = pure (text ++ codes "]")
   more_items path text (item ∷ items) = below path (text ++ codes ", ") item >>= (λ longer. more_items path longer items)
@@ -71,7 +71,7 @@ module _ (below : Shows) where
   abbrev pub written_one : Value → Act (List ℕ)
   written_one held = step >> str_text held
 
--- the text, with what a value shows behind it: an item stands one level below its list
+-- the text, with what a value shows after it: an item stands one level below its list
 unfoldable pub shown : ℕ → Shows
 shown zero path text held = fail recursion_error
 shown (suc n) path text held = shown_one (shown n) path text held

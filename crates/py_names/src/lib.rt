@@ -47,12 +47,15 @@ fn is_spelled_as_name(bytes: &[u8]) -> bool
     }
 }
 
+/// The most bytes of a name.
+pub const MAX_NAME: usize = 255;
+
 /// Whether the text is an identifier: a letter or an underscore, then letters, digits and underscores, at most 255
 /// bytes. A keyword is one too.
 pub fn is_identifier(text: &str) -> bool
     ensures { result ≡ names.is_identifier text.now }
 {
-    is_spelled_as_name(text.as_bytes()) && text.len() <= 255
+    is_spelled_as_name(text.as_bytes()) && text.len() <= MAX_NAME
 }
 
 /// Whether the text is one of the keywords.

@@ -68,6 +68,9 @@ fn tally(
     Ok(counts)
 }
 
+/// The greatest depth of a node.
+const MAX_DEPTH: usize = 64;
+
 /// The first token that is too deep, by how many tokens are left there, itself counted.
 pub fn first_too_deep(alloc: Global, entries: &[Entry]) -> Result<Option<usize>, AllocError>
     ensures { IfOk result (λ found. MatchOption found (IsShallow entries.now) (IsFirstTooDeep entries.now)) }
@@ -79,7 +82,7 @@ pub fn first_too_deep(alloc: Global, entries: &[Entry]) -> Result<Option<usize>,
     let mut left = most;
     while 0 < left {
         open = open + begun[left] - ended[left];
-        if 64 < open {
+        if MAX_DEPTH < open {
             return Ok(Some(left));
         }
         left -= 1;

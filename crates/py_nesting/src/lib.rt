@@ -7,8 +7,6 @@
 
 mod depth;
 mod open;
-#[cfg(test)]
-mod tests;
 
 pub use depth::first_too_deep;
 pub use open::open_parts;

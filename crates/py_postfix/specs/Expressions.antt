@@ -1,10 +1,10 @@
--- The postfix form of an expression, by its forms: before these tokens, behind these entries.
+-- The postfix form of an expression, by its forms: before these tokens, after these entries.
 use Rattle.std.specs.Prelude.{Bool, true, false, List, ◌∷◌}
 use Rattle.py_token.specs.declared.kinds.Kind.{Kind}
 use Rattle.py_token.specs.declared.kinds.Kind.TheVariants as t
 use Rattle.py_tree.specs.declared.expressions.Literal.TheVariants as literal
 use Rattle.py_grammar.specs.Words.{and_word, or_word, not_word, if_word, else_word, is_word, none_word, open_parenthesis, close_parenthesis, open_bracket, close_bracket, close_brace, colon, comma, dot}
-use Rattle.py_grammar.specs.Expressions.{Expression, plain, pick, Ors, ors_one, ors_more, Ands, ands_one, ands_more, Negation, compared, negated, Compares, compares_one, compares_more, compares_none, compares_not_none, Sums, sums_one, sums_more, Additive, plus, minus, Products, products_one, products_more, Signed, unsigned, signed, Primary, name, number, text, nothing, truth, falsity, group, display, dict, call, index, slice, Callee, function, method, Bound, unbounded, bounded, Args, no_args, args, args_comma, Elements, elements_one, elements_more, Entries, no_entries, entries, entries_comma, Pairs, pairs_one, pairs_more, spell_relational, additive_sign, multiplicative_sign, spell_expression, spell_ors, spell_ands, spell_negation, spell_compares, spell_sums, spell_products, spell_signed, spell_primary, spell_bound, spell_args}
+use Rattle.py_grammar.specs.Expressions.{Expression, plain, conditional, Ors, ors_one, ors_more, Ands, ands_one, ands_more, Negation, compared, negated, Compares, compares_one, compares_more, compares_none, compares_not_none, Sums, sums_one, sums_more, Additive, plus, minus, Products, products_one, products_more, Signed, unsigned, signed, Primary, name, number, text, nothing, truth, falsity, group, display, dict, call, index, slice, Callee, function, method, Bound, unbounded, bounded, Args, no_args, args, args_comma, Elements, elements_one, elements_more, Entries, no_entries, entries, entries_comma, Pairs, pairs_one, pairs_more, spell_relational, additive_sign, multiplicative_sign, spell_expression, spell_ors, spell_ands, spell_negation, spell_compares, spell_sums, spell_products, spell_signed, spell_primary, spell_bound, spell_args}
 use Rattle.py_postfix.specs.declared.entries.Node.{Node}
 use Rattle.py_postfix.specs.declared.entries.Node.TheVariants as n
 use Rattle.py_postfix.specs.declared.entries.Entry.{Entry}
@@ -25,7 +25,7 @@ called (method p m) = n.Method m
 abbrev mutual
   pub post_expression : Expression → List Kind → List Entry → List Entry
   post_expression (plain a) rest es = post_ors a rest es
-  post_expression (pick a test b) rest es = part n.Pick (spell_expression (pick a test b) rest) rest (post_expression b rest (post_ors test (else_word ∷ spell_expression b rest) (post_ors a (if_word ∷ spell_ors test (else_word ∷ spell_expression b rest)) es)))
+  post_expression (conditional a test b) rest es = part n.Pick (spell_expression (conditional a test b) rest) rest (post_expression b rest (post_ors test (else_word ∷ spell_expression b rest) (post_ors a (if_word ∷ spell_ors test (else_word ∷ spell_expression b rest)) es)))
 
   pub post_ors : Ors → List Kind → List Entry → List Entry
   post_ors (ors_one a) rest es = post_ands a rest es

@@ -6,7 +6,7 @@ use Rattle.py_tree.specs.declared.expressions.Op as operator
 use Rattle.py_tree.specs.declared.expressions.Op.TheVariants as o
 use Rattle.py_grammar.specs.Words.{if_word, else_word, elif_word, assign_sign, open_bracket, close_bracket, colon}
 use Rattle.py_grammar.specs.Expressions.{Expression, Primary, spell_expression}
-use Rattle.py_grammar.specs.Statements.{Place, to_name, to_item, Augmentation, by_plus, by_minus, by_times, by_floor, by_modulo, Names, names_one, names_more, Word, idle, stop, skip, Simple, word, leave, give, declare, delete, assign, augment, show, augmentation_sign, spell_simple, Params, no_params, params, params_comma, Statement, simple, compound, Head, choose, otherwise, while_true, for_each, define, Condition, if_true, else_if, Branches, branches, Block, inline, indented, Statements, statements_one, statements_more, spell_statement, spell_head, spell_block, Cell}
+use Rattle.py_grammar.specs.Statements.{Target, to_name, to_item, Augmentation, by_plus, by_minus, by_times, by_floor, by_modulo, Names, names_one, names_more, Word, pass_, break_, continue_, Simple, word, return_, give, declare, delete, assign, augment, show, augmentation_sign, spell_simple, Params, no_params, params, params_comma, Statement, simple, compound, Head, choose, otherwise, while_true, for_each, define, Condition, if_true, else_if, Branches, branches, Block, inline, indented, Statements, statements_one, statements_more, spell_statement, spell_head, spell_block, Cell}
 use Rattle.py_postfix.specs.declared.entries.Node.{Node}
 use Rattle.py_postfix.specs.declared.entries.Node.TheVariants as n
 use Rattle.py_postfix.specs.declared.entries.Entry.{Entry}
@@ -19,7 +19,7 @@ use Rattle.py_postfix.specs.Expressions.{post_expression, post_primary}
 abbrev pub post_item : Primary → Expression → List Kind → List Entry → List Entry
 post_item p a rest es = post_expression a (close_bracket ∷ rest) (post_primary p (open_bracket ∷ spell_expression a (close_bracket ∷ rest)) es)
 
-abbrev pub post_place : Place → List Kind → List Entry → List Entry
+abbrev pub post_place : Target → List Kind → List Entry → List Entry
 post_place (to_name m) rest es = mark (n.ToName m) es
 post_place (to_item p a) rest es = mark n.ToItem (post_item p a rest es)
 
@@ -28,9 +28,9 @@ post_names (names_one m) es = mark (n.OneName m) es
 post_names (names_more ms m) es = mark (n.OneName m) (post_names ms es)
 
 abbrev pub word_node : Word → Node
-word_node idle = n.Pass
-word_node stop = n.Break
-word_node skip = n.Continue
+word_node pass_ = n.Pass
+word_node break_ = n.Break
+word_node continue_ = n.Continue
 
 abbrev pub augmentation_op : Augmentation → operator.Op
 augmentation_op by_plus = o.Plus
@@ -41,7 +41,7 @@ augmentation_op by_modulo = o.Mod
 
 abbrev pub simple_node : Simple → Node
 simple_node (word w) = word_node w
-simple_node leave = n.Return false
+simple_node return_ = n.Return false
 simple_node (give a) = n.Return true
 simple_node (declare ms) = n.Global
 simple_node (delete to) = n.Delete
@@ -51,7 +51,7 @@ simple_node (show a) = n.Show
 
 abbrev pub inner_simple : Simple → List Kind → List Entry → List Entry
 inner_simple (word w) rest es = es
-inner_simple leave rest es = es
+inner_simple return_ rest es = es
 inner_simple (give a) rest es = post_expression a rest es
 inner_simple (declare ms) rest es = post_names ms (mark n.NoNames es)
 inner_simple (delete to) rest es = post_place to rest es

@@ -44,7 +44,7 @@ pub enum Node {
     Compare,
     /// Begins a sum or a product with the expression before it.
     Operated,
-    /// Adds the expression before it behind this operator.
+    /// Adds the expression before it after this operator.
     Operand(Op),
     /// The sum before it.
     Sum,

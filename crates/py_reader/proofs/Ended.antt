@@ -1,4 +1,4 @@
--- The end of the text is read only behind a whole cell.
+-- The end of the text is read only after a whole cell.
 use Rattle.std.proofs.Common.{◌≡◌, List, [], ◌∷◌, Option, Some, None, refl}
 use Rattle.py_token.specs.declared.kinds.Kind.TheVariants as t
 use Rattle.py_grammar.specs.Readings.{Reading, wants, has, has_none, has_not_none, after_is, after_is_not, after_not, after_dot, after_method, read, whole}

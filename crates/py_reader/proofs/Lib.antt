@@ -9,3 +9,4 @@ pub mod Spanned
 pub mod WholeAlone
 pub mod MeantAlone
 pub mod Told
+pub mod Sources

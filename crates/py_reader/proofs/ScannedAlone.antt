@@ -38,7 +38,7 @@ last-moves : (ss : Statements) (k : Kind) → Moves (line [] (Some ss)) k (is_en
 last-moves ss t.End = refl
 last-moves ss _ = refl
 
--- behind a statement only the end may come
+-- after a statement only the end may come
 behind_some : (ss : Statements) (k : Kind) → may_come_behind (held_last (Some ss)) k ≡ is_end k
 behind_some (statements_one (compound (choose c) b)) k = refl
 behind_some (statements_one _) k = refl

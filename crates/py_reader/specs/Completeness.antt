@@ -12,7 +12,7 @@ use Rattle.py_reader.specs.declared.answer.Completeness.TheVariants.{Complete, I
 use Rattle.py_reader.specs.Verdicts.{Verdict}
 use Rattle.py_reader.specs.Verdict.{Judged}
 
--- how many bytes are behind the last LF
+-- how many bytes are after the last LF
 abbrev pub last_line_length : List ℕ → ℕ
 last_line_length bytes = length (take_while (λ byte. not (nat_eq byte 10)) (reverse bytes))
 
@@ -29,7 +29,7 @@ abbrev pub further : Kind → ℕ
 further colon = 4
 further _ = 0
 
--- how far in the line of the last word stands, and further behind a colon
+-- how far in the line of the last word stands, and further after a colon
 abbrev pub indent_behind : List ℕ → Option Token → ℕ
 indent_behind code None = 0
 indent_behind code (Some last) = spaces (last_line (take last.start code)) + further last.kind

@@ -29,7 +29,7 @@ abbrev pub run_alone_from : ℕ → State → List Kind → End
 run_alone_from n s [] = all_read s
 run_alone_from n s (t ∷ ts) = elim (step_alone s t) [ None ↦ stopped n s t | Some u ↦ run_alone_from (suc n) u ts ]
 
--- what stands behind the function comes before it
+-- what stands after the function comes before it
 abbrev pub unless_more : List ℕ → List Token → JudgedDefinition → JudgedDefinition
 unless_more code tokens judged = if nat_lt (end_of_words tokens) (length code) then Err (NoParse (end_of_words tokens) false) else judged
 
@@ -40,7 +40,7 @@ unless_later tokens judged = if nat_lt 0 (start_of tokens 0) then Err (NoParse 0
 abbrev pub of_function : List ℕ → List Token → List Entry → Def → JudgedDefinition
 of_function code tokens es def = unless_later tokens (nested tokens es (unless_more code tokens (Ok def)))
 
--- behind all tokens nothing else has been read
+-- after all tokens nothing else has been read
 abbrev pub of_state : List ℕ → List Token → State → JudgedDefinition
 of_state code tokens (done (Some (statements_one (compound (define called takes) block)))) = of_function code tokens (post_cell (alone called takes block)) (definition code called takes block)
 of_state code tokens _ = Err TooLong

@@ -37,7 +37,7 @@ abbrev pub parts_before_alone : {tokens : List Kind} {place : ℕ} {construct : 
 parts_before_alone {tokens} {place} fails = open_state fails.open_forms (drop place tokens) (written_state fails.open_forms (drop place tokens) [])
 
 -- How a text is judged: by its length and its tokens. Where they are those of one function, by what stands before it, its
--- nesting and what stands behind it; and else by the nesting before the failing token and by that.
+-- nesting and what stands after it; and else by the nesting before the failing token and by that.
 pub data DefinitionVerdict : List ℕ → Result Def SyntaxFault → Type 0 where
   too_long : {code : List ℕ} → 262144 < length code → DefinitionVerdict code (Err TooLong)
   bad_token : {code : List ℕ} {fault : TokenFault} → length code ≤ 262144 → tokens_of code ≡ Err fault → DefinitionVerdict code (Err (BadToken fault))

@@ -6,4 +6,5 @@ pub mod Gives
 pub mod Scans
 pub mod Alone
 pub mod Texts
+pub mod Sources
 pub mod Completeness

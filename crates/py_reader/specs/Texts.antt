@@ -1,24 +1,13 @@
 -- What a fault says.
 use Rattle.std.specs.Prelude.{ℕ, List, ◌++◌, codes}
-use Rattle.std.specs.Fmt.{decimal}
-use Rattle.py_token.specs.declared.faults.TokenFault.{TokenFault}
-use Rattle.py_token.specs.declared.faults.TokenFault.TheVariants.{BadChar, OpenText, BadIndent, Tab, WideNumber, LongName}
-use Rattle.py_token.specs.Laws.{place}
+use Rattle.py_token.specs.Texts.{at_byte, fault_text as token_text}
 use Rattle.py_token.specs.Spellings.{word}
 use Rattle.py_grammar.specs.declared.constructs.Construct.{Construct}
 use Rattle.py_grammar.specs.declared.constructs.Construct.TheVariants as c
 use Rattle.py_reader.specs.declared.fault.SyntaxFault.{SyntaxFault}
 use Rattle.py_reader.specs.declared.fault.SyntaxFault.TheVariants.{TooLong, Token, NoParse, TooDeep, Outside}
 
--- what offends in a token
-abbrev pub token_words : TokenFault → List ℕ
-token_words (BadChar at) = codes "bad character"
-token_words (OpenText at) = codes "open text"
-token_words (BadIndent at) = codes "bad indent"
-token_words (Tab at) = codes "tab in indent"
-token_words (WideNumber at) = codes "number too wide"
-token_words (LongName at) = codes "name too long"
-
+-- what such a construct is called
 abbrev pub construct_words : Construct → List ℕ
 construct_words (c.Word keyword) = word keyword
 construct_words c.Tuple = codes "tuple"
@@ -31,12 +20,9 @@ construct_words c.KeywordArgument = codes "keyword argument"
 construct_words c.Default = codes "default"
 construct_words c.NestedFunction = codes "nested function"
 
-abbrev pub at_byte : List ℕ → ℕ → List ℕ
-at_byte words at = (words ++ codes " at byte ") ++ decimal at
-
 abbrev pub fault_text : SyntaxFault → List ℕ
 fault_text TooLong = codes "cell too long"
-fault_text (Token fault) = at_byte (token_words fault) (place fault)
+fault_text (Token fault) = token_text fault
 fault_text (NoParse at end) = at_byte (codes "no parse") at
 fault_text (TooDeep at) = at_byte (codes "too deep") at
 fault_text (Outside at construct) = at_byte (construct_words construct ++ codes " is outside this subset") at

@@ -22,7 +22,7 @@ use Rattle.py_reader.specs.Verdicts.{start_of, refusal}
 abbrev pub Judged : Type 0
 Judged = Result (List Stmt) SyntaxFault
 
--- where the machine of the grammar ends: behind all tokens, or at one that it refuses, so many tokens on
+-- where the machine of the grammar ends: after all tokens, or at one that it refuses, so many tokens on
 pub data End : Type 0 where
   all_read : State → End
   stopped : ℕ → State → Kind → End

@@ -9,10 +9,10 @@ use crate::answer::Completeness;
 use crate::fault::{ReadError, SyntaxFault};
 use crate::read::{MAX_CODE, read_cell};
 use py_build::last_word;
-use py_token::{Kind, Op, Token, TokenError, tokens};
+use py_token::{Kind, Symbol, Token, TokenError, tokens};
 use std::alloc::{AllocError, Global};
 
-/// How many bytes are behind the last LF.
+/// How many bytes are after the last LF.
 fn last_line_length(bytes: &[u8]) -> usize
     ensures exact { result ≡ spec.last_line_length bytes.now }
     ensures bound { result ≤ length bytes.now }
@@ -24,7 +24,7 @@ fn last_line_length(bytes: &[u8]) -> usize
         .count()
 }
 
-/// What is behind the last LF.
+/// What is after the last LF.
 fn last_line(bytes: &[u8]) -> &[u8]
     ensures { result.now ≡ spec.last_line bytes.now }
 {
@@ -45,12 +45,12 @@ fn further(kind: &Kind) -> usize
     ensures bound { result ≤ 4 }
 {
     match kind {
-        Kind::Op(Op::Colon) => 4,
+        Kind::Symbol(Symbol::Colon) => 4,
         _ => 0,
     }
 }
 
-/// How far in the line of the last word stands, and further behind a colon.
+/// How far in the line of the last word stands, and further after a colon.
 fn indent_behind(code: &str, last: Option<&Token>) -> usize
     ensures { result ≡ spec.indent_behind code.now (option_copied last.entry) }
 {
@@ -63,7 +63,7 @@ fn indent_behind(code: &str, last: Option<&Token>) -> usize
     }
 }
 
-/// How many spaces are to stand before the line behind a code that isn't too long.
+/// How many spaces are to stand before the line after a code that isn't too long.
 fn indent(alloc: Global, code: &str) -> Result<usize, AllocError>
     requires { length code.now ≤ 262144 }
     ensures { IfOk result (λ indent. indent ≡ spec.indent_of code.now (tokens_of code.now)) }
@@ -77,8 +77,8 @@ fn indent(alloc: Global, code: &str) -> Result<usize, AllocError>
 
 /// How far a text is a cell: whether `read_cell` gives a tree, or refuses just the end of the text, or anything else.
 ///
-/// Behind a text that is incomplete the next line stands as far in as the line of the last token that isn't a line's end,
-/// and four spaces further behind a `:`. (Jupyter messaging 5.3, `is_complete_request`.)
+/// After a text that is incomplete the next line stands as far in as the line of the last token that isn't a line's end,
+/// and four spaces further after a `:`. (Jupyter messaging 5.3, `is_complete_request`.)
 #[tactic(auto, using(crate::proofs::Told::told))]
 pub fn completeness(alloc: Global, code: &str) -> Result<Completeness, AllocError>
     // By the verdict as a definition that computes.

@@ -3,6 +3,7 @@ ghost use Rattle.py_reader.specs.Gives.{Gives, Means};
 ghost use Rattle.py_reader.specs.Scans.{ArePartsBefore, IsRefusal, GivesCell};
 ghost use Rattle.py_reader.specs.Verdict.{verdict, deep_from, most, place_of_deep};
 ghost use Rattle.py_reader.specs.Verdicts.{start_of, is_end, refusal};
+ghost use Rattle.py_reader.specs.Sources.{HasSources};
 
 use crate::fault::{ReadError, SyntaxFault, token_error};
 use crate::scan::{Scan, kind_at, read_tokens};
@@ -141,13 +142,16 @@ fn judge(alloc: Global, code: &str) -> Result<Tree, ReadError>
 /// tokens before the failing one begin it. Otherwise the code has its one tree in the grammar, or it is refused at the first
 /// token such that no cell begins with the tokens up to it: as `Outside`, where that token begins a construct of Python
 /// that this language leaves out, and else as `NoParse`. (Python language reference, in the subset of docs/LANGUAGE.md.)
-#[tactic(auto, using(crate::proofs::Meant::told))]
+#[tactic(auto, using(crate::proofs::Meant::told, crate::proofs::Sources::sources))]
 pub fn read_cell(alloc: Global, code: &str) -> Result<Tree, ReadError>
     // The verdict as a definition that computes.
     ensures exact { Gives result (verdict code.now) }
 
     // The same in the words of the grammar.
     ensures meaning { Means code.now result }
+
+    // The text of each function is all bytes that its tokens span.
+    ensures sources { IfOk result (λ tree. HasSources code.now tree.body) }
 {
     judge(alloc, code)
 }

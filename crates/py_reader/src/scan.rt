@@ -79,7 +79,7 @@ pub fn read_tokens(alloc: Global, tokens: &[Token], count: usize) -> Result<Scan
     Ok(Scan::Whole(reader, entries))
 }
 
-/// Whether the token may come at the top of a text that is one function alone: `def` begins it, and the end is behind it.
+/// Whether the token may come at the top of a text that is one function alone: `def` begins it, and the end is after it.
 fn may_come_behind(last: Last, token: &Kind) -> bool
     ensures { result ≡ may_come_behind last token.now }
 {

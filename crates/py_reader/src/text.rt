@@ -1,39 +1,13 @@
-ghost use Rattle.std.specs.Prelude.{◌≡◌, ◌++◌, IfOk, codes};
-ghost use Rattle.py_token.specs.Laws.{place};
-ghost use Rattle.py_reader.specs.Texts.{token_words, construct_words, at_byte, fault_text};
+ghost use Rattle.std.specs.Prelude.{◌≡◌, IfOk};
+ghost use Rattle.py_reader.specs.Texts.{construct_words, fault_text};
 
-use crate::fault::SyntaxFault;
+use crate::fault::{ReadError, SyntaxFault};
 use plain_data::Text;
 use py_grammar::Construct;
-use py_token::{TokenFault, word};
+use py_token::word;
 use std::alloc::{AllocError, Global};
-
-/// What offends in a token.
-fn token_words(fault: TokenFault) -> &'static str
-    ensures { result.now ≡ token_words fault }
-{
-    match fault {
-        TokenFault::BadChar(_) => "bad character",
-        TokenFault::OpenText(_) => "open text",
-        TokenFault::BadIndent(_) => "bad indent",
-        TokenFault::Tab(_) => "tab in indent",
-        TokenFault::WideNumber(_) => "number too wide",
-        TokenFault::LongName(_) => "name too long",
-    }
-}
-
-fn token_place(fault: TokenFault) -> u32
-    ensures { result ≡ place fault }
-{
-    match fault {
-        TokenFault::BadChar(at)
-        | TokenFault::OpenText(at)
-        | TokenFault::BadIndent(at)
-        | TokenFault::Tab(at)
-        | TokenFault::WideNumber(at)
-        | TokenFault::LongName(at) => at,
-    }
-}
+use std::error::Error;
+use std::fmt;
 
 fn construct_words(construct: Construct) -> &'static str
     ensures { result.now ≡ construct_words construct }
@@ -52,31 +26,45 @@ fn construct_words(construct: Construct) -> &'static str
     }
 }
 
-fn at_byte(alloc: Global, words: &str, at: u32) -> Result<Text, AllocError>
-    ensures { IfOk result (λ text. text ≡ at_byte words.now at) }
-{
-    Ok(Text::from_string(format!(in alloc; "{words} at byte {at}")?))
+/// What offends, and at which byte.
+impl fmt::Display for SyntaxFault {
+    ghost use Rattle.std.specs.Prelude.{Some};
+    ghost use Rattle.py_reader.specs.Texts.{fault_text};
+
+    ghost output = { λ fault. Some (fault_text fault) };
+
+    fn fmt<W: fmt::Write>(&self, f: &mut fmt::Formatter<W>) -> fmt::Result {
+        match *self {
+            SyntaxFault::TooLong => write!(f, "cell too long"),
+            SyntaxFault::Token(fault) => write!(f, "{fault}"),
+            SyntaxFault::NoParse { at, end: _ } => write!(f, "no parse at byte {at}"),
+            SyntaxFault::TooDeep(at) => write!(f, "too deep at byte {at}"),
+            SyntaxFault::Outside(at, construct) => {
+                let words = construct_words(construct);
+                write!(f, "{words} is outside this subset at byte {at}")
+            }
+        }
+    }
 }
 
-fn outside(alloc: Global, construct: Construct, at: u32) -> Result<Text, AllocError>
-    ensures { IfOk result (λ text. text ≡ at_byte (construct_words construct ++ codes " is outside this subset") at) }
-{
-    let words = construct_words(construct);
-    let said = format!(in alloc; "{words} is outside this subset")?;
-    at_byte(alloc, said.as_str(), at)
+impl Error for SyntaxFault {}
+
+impl fmt::Display for ReadError {
+    fn fmt<W: fmt::Write>(&self, f: &mut fmt::Formatter<W>) -> fmt::Result {
+        match self {
+            ReadError::OutOfMemory => write!(f, "out of memory"),
+            ReadError::Fault(fault) => write!(f, "{fault}"),
+        }
+    }
 }
+
+impl Error for ReadError {}
 
 impl SyntaxFault {
     /// What the fault says, as a SyntaxError does: what offends, and at which byte.
     pub fn text(&self, alloc: Global) -> Result<Text, AllocError>
         ensures { IfOk result (λ text. text ≡ fault_text self.now) }
     {
-        match *self {
-            SyntaxFault::TooLong => Text::new(alloc, "cell too long"),
-            SyntaxFault::Token(fault) => at_byte(alloc, token_words(fault), token_place(fault)),
-            SyntaxFault::NoParse { at, end: _ } => at_byte(alloc, "no parse", at),
-            SyntaxFault::TooDeep(at) => at_byte(alloc, "too deep", at),
-            SyntaxFault::Outside(at, construct) => outside(alloc, construct, at),
-        }
+        Ok(Text::from_string(format!(in alloc; "{self}")?))
     }
 }

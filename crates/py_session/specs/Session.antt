@@ -67,7 +67,7 @@ abbrev pub answers : State → List (List ℕ) → List Reply
 answers s [] = []
 answers s (code ∷ more) = answer code s ∷ answers (next_state code s) more
 
--- the state of a session behind cells with these codes
+-- the state of a session after cells with these codes
 abbrev pub unmoved : State → List (List ℕ) → State
 unmoved s [] = s
 unmoved s (code ∷ more) = unmoved (next_state code s) more

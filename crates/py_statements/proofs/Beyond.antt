@@ -8,7 +8,7 @@ use Rattle.py_grammar.specs.declared.constructs.Construct.TheVariants.{ChainedAs
 use Rattle.py_grammar.specs.Expressions.{Expression}
 use Rattle.py_grammar.specs.Readings as r
 use Rattle.py_grammar.specs.Readings.{whole}
-use Rattle.py_grammar.specs.Statements.{Place, Cell}
+use Rattle.py_grammar.specs.Statements.{Target, Cell}
 use Rattle.py_grammar.specs.States as m
 use Rattle.py_grammar.specs.States.{outer, showing, giving, deleting, assigning, augmenting, line, in_simple, after_word, in_global, has_global, in_test, after_for, after_for_name, after_else, after_def, after_def_name, in_params, has_params, after_params, after_colon, after_newline, done}
 use Rattle.py_grammar.specs.Outside as g
@@ -22,7 +22,7 @@ use Rattle.py_expressions.proofs.Ends.{is_whole-seen, outside-seen}
 use Rattle.std.proofs.lemmas.Bool.{false≢true}
 use Rattle.py_statements.specs.Steps.{is_done}
 use Rattle.py_statements.specs.Held.{held_outers, held_purpose, held_state}
-use Rattle.py_statements.specs.Outside.{ruleless_word, ruleless, chained, is_bare_of_brackets, behind_deleted, default_at, inline_function, nested, outside_state, outside}
+use Rattle.py_statements.specs.Outside.{ruleless_word, ruleless, chained, ends_target, after_deleted, default_at, inline_function, nested, outside_state, outside}
 
 ruleless-same : (t : Kind) → ruleless t ≡ g.ruleless t
 unfolding ruleless_word
@@ -43,7 +43,7 @@ ruleless-same (t.Keyword k.With) = refl
 ruleless-same (t.Keyword k.Yield) = refl
 ruleless-same t = refl
 
-assigned-same : (b : Bool) (w : Option Expression) (to : Place) → b ≡ is_some w → (if b then Some ChainedAssignment else None) ≡ g.chained_by (assigning to) w
+assigned-same : (b : Bool) (w : Option Expression) (to : Target) → b ≡ is_some w → (if b then Some ChainedAssignment else None) ≡ g.chained_by (assigning to) w
 assigned-same b None to same = ap (λ x. if x then Some ChainedAssignment else None) same
 assigned-same b (Some a) to same = ap (λ x. if x then Some ChainedAssignment else None) same
 
@@ -72,21 +72,21 @@ opened-bare : (os : List r.Opened) (rest : List Kind) → is_empty (held_opened 
 opened-bare [] rest = refl
 opened-bare (r.opened u w k ∷ os) rest = refl
 
-bare-same : (x : r.Reading) (rest : List Kind) → is_bare_of_brackets (held x rest) ≡ g.is_bare_of_brackets x
-bare-same (r.wants os u w) rest = opened-bare os _
-bare-same (r.has os u w p) rest = opened-bare os _
-bare-same (r.has_none os u c) rest = opened-bare os _
-bare-same (r.has_not_none os u c) rest = opened-bare os _
-bare-same (r.after_is os u c) rest = opened-bare os _
-bare-same (r.after_is_not os u c) rest = opened-bare os _
-bare-same (r.after_not os u c) rest = opened-bare os _
-bare-same (r.after_dot os u w p) rest = opened-bare os _
-bare-same (r.after_method os u w p n) rest = opened-bare os _
+ended-same : (x : r.Reading) (rest : List Kind) → ends_target (held x rest) ≡ g.ends_target x
+ended-same (r.wants os u w) rest = refl
+ended-same (r.has os u w p) rest = opened-bare os _
+ended-same (r.has_none os u c) rest = refl
+ended-same (r.has_not_none os u c) rest = refl
+ended-same (r.after_is os u c) rest = refl
+ended-same (r.after_is_not os u c) rest = refl
+ended-same (r.after_not os u c) rest = refl
+ended-same (r.after_dot os u w p) rest = refl
+ended-same (r.after_method os u w p n) rest = refl
 
-deleted-same : (u : m.Purpose) (x : r.Reading) (t : Kind) (rest : List Kind) → behind_deleted (held_purpose u) (held x rest) t ≡ g.behind_deleted u x t
+deleted-same : (u : m.Purpose) (x : r.Reading) (t : Kind) (rest : List Kind) → after_deleted (held_purpose u) (held x rest) t ≡ g.after_deleted u x t
 deleted-same showing x comma rest = refl
 deleted-same giving x comma rest = refl
-deleted-same deleting x comma rest = bare-same x rest
+deleted-same deleting x comma rest = ended-same x rest
 deleted-same (assigning to) x comma rest = refl
 deleted-same (augmenting to by) x comma rest = refl
 deleted-same showing x _ rest = refl
@@ -99,7 +99,7 @@ outside_state-same : (s : m.State) (t : Kind) (rest : List Kind) → outside_sta
 outside_state-same (line os before) t rest = nested-same os t _
 outside_state-same (in_simple os at u s) t rest =
     ap (λ b. if b then None else first_of (chained (held_purpose u) (held s rest) t) (outside_held (held s rest) t)) (deleted-same u s t rest)
-    ∙ ap (λ c. if g.behind_deleted u s t then None else c) (ap (λ x. first_of x (outside_held (held s rest) t)) (chained-same u s t rest) ∙ ap (first_of (g.chained u (whole s) t)) (outside-seen s t rest))
+    ∙ ap (λ c. if g.after_deleted u s t then None else c) (ap (λ x. first_of x (outside_held (held s rest) t)) (chained-same u s t rest) ∙ ap (first_of (g.chained u (whole s) t)) (outside-seen s t rest))
 outside_state-same (after_word os at w) t rest = refl
 outside_state-same (in_global os at ns) t rest = refl
 outside_state-same (has_global os at ns) t rest = refl

@@ -1,4 +1,4 @@
--- The names of the function that is open, behind one more token.
+-- The names of the function that is open, after one more token.
 use Rattle.std.proofs.Common.{◌≡◌, ℕ, Bool, true, false, ◌&&◌, not, cond, IsTrue, if◌then◌else◌, List, [], ◌∷◌, ◌++◌, Option, Some, None, refl, ap, ◌∙◌, sym, subst}
 use Rattle.std.specs.FinMap as finite
 use Rattle.std.specs.Ordering.{nat_cmp}
@@ -12,7 +12,7 @@ use Rattle.py_grammar.specs.Words.{if_word, else_word, elif_word, while_word, fo
 use Rattle.py_grammar.specs.Expressions.{Expression, spell_expression}
 use Rattle.py_grammar.specs.Readings.{Reading, is_none, begun, read, whole, narrow}
 use Rattle.py_grammar.specs.Open.{spell_reading}
-use Rattle.py_grammar.specs.Statements.{Place, Augmentation, by_plus, by_minus, by_times, by_floor, by_modulo, Names, names_one, names_more, Word, Simple, word, leave, give, declare, assign, augment, show, stop, skip, augmentation_sign, spell_names, keyword, spell_simple, Params, no_params, params, params_comma, simple, compound, Head, choose, otherwise, while_true, for_each, define, Branches, Block, inline, indented, Statements, statements_one, statements_more, spell_statements, spell_params, spell_head, spell_branches, spell_block, spell_front, inside, hear, is_name, is_new, head_stands}
+use Rattle.py_grammar.specs.Statements.{Target, Augmentation, by_plus, by_minus, by_times, by_floor, by_modulo, Names, names_one, names_more, Word, Simple, word, return_, give, declare, assign, augment, show, break_, continue_, augmentation_sign, spell_names, keyword, spell_simple, Params, no_params, params, params_comma, simple, compound, Head, choose, otherwise, while_true, for_each, define, Branches, Block, inline, indented, Statements, statements_one, statements_more, spell_statements, spell_params, spell_head, spell_branches, spell_block, spell_front, inside, hear, is_name, is_new, head_stands}
 use Rattle.py_grammar.specs.States.{Outer, outer, Spot, own, behind_head, Purpose, showing, giving, deleting, assigning, augmenting, Lead, lead_if, lead_elif, lead_while, lead_for, State, line, in_simple, after_word, in_global, has_global, in_test, after_for, after_for_name, after_else, after_def, after_def_name, in_params, has_params, after_params, after_colon, after_newline, done, around, heard, spot_around, spot_heard, close, ended, place_read, is_begun, if_made, if_deleted, finished, Continued, continued, last_branches, if_allowed, then_simple, begins, elif_at, else_at, def_at, dedent_at, end_at, on_line, ends, assigns, augments, on_simple, on_word, spell_names_before, is_new_name, add_name, on_global, on_global_name, tested, then_test, on_for, on_for_name, on_else, on_def, on_def_name, on_params, on_param, on_params_end, on_colon, on_newline, step, spell_purpose, spell_lead, spot_stands, state_stands}
 use Rattle.py_grammar.proofs.Spelled.{Adds, Spells, read-adds, whole-spelled}
 use Rattle.py_grammar.proofs.Stepped.{add_statement-spelled, close-spelled, add_name-spelled, params_of-spelled, begun_is}
@@ -46,14 +46,14 @@ new-spelled {f} s i rest =
     let first : is_new i (f []) ≡ is_new i s.tokens = ap (is_new i) (s.spelled []) ∙ is_new-append i s.tokens [] ∙ and_true (is_new i s.tokens) in
     ap (is_new i) (s.spelled rest) ∙ is_new-append i s.tokens rest ∙ ap (λ b. b && is_new i rest) (sym first)
 
--- a name is new behind one more token where it was new and isn't the token
+-- a name is new after one more token where it was new and isn't the token
 abbrev pub Adds1 : List Kind → Kind → List Kind → Type 0
 Adds1 ks t more = (i : List ℕ) → is_new i more ≡ (is_new i ks && not (is_name i t))
 
 pub adds : {f : List Kind → List Kind} → Spelling f → (t : Kind) (more : List Kind) → more ≡ f (t ∷ []) → Adds1 (f []) t more
 adds {f} s t more same = λ i. ap (is_new i) same ∙ new-spelled s i (t ∷ []) ∙ ap (λ b. is_new i (f []) && b) (and_true (not (is_name i t)))
 
--- the same behind more tokens before both
+-- the same after more tokens before both
 pub adds_behind : {f : List Kind → List Kind} → Spelling f → (ks : List Kind) (t : Kind) (more : List Kind) → Adds1 ks t more → Adds1 (f ks) t (f more)
 adds_behind {f} s ks t more a = λ i. new-spelled s i more ∙ ap (λ b. is_new i (f []) && b) (a i) ∙ sym (and_assoc (is_new i (f [])) (is_new i ks) (not (is_name i t))) ∙ ap (λ b. b && not (is_name i t)) (sym (new-spelled s i ks))
 
@@ -183,11 +183,11 @@ made-spelled : (f : Expression → Simple) (g h : List Kind → List Kind) (a : 
 made-spelled f g h None e k = tt
 made-spelled f g h (Some a) e k = λ rest. e a rest ∙ ap g (k rest)
 
-deleted-spelled : (to : Option Place) (h : List Kind → List Kind) → SpellsPlace to h → SpellsSimple (if_deleted to) (λ rest. del_word ∷ h rest)
+deleted-spelled : (to : Option Target) (h : List Kind → List Kind) → SpellsPlace to h → SpellsSimple (if_deleted to) (λ rest. del_word ∷ h rest)
 deleted-spelled None h k = tt
 deleted-spelled (Some to) h k = λ rest. ap (◌∷◌ del_word) (k rest)
 
-left-spelled : (r : Reading) (b : Bool) → (IsTrue b → r ≡ begun) → SpellsSimple (if b then Some leave else if_made give (whole r)) (λ rest. return_word ∷ spell_reading r rest)
+left-spelled : (r : Reading) (b : Bool) → (IsTrue b → r ≡ begun) → SpellsSimple (if b then Some return_ else if_made give (whole r)) (λ rest. return_word ∷ spell_reading r rest)
 left-spelled r true h = λ rest. ap (λ x. return_word ∷ spell_reading x rest) (sym (h refl))
 left-spelled r false h = made-spelled give (λ rest. return_word ∷ rest) (spell_reading r) (whole r) (λ e rest. refl) (whole-spelled r)
 
@@ -198,7 +198,7 @@ finished-spelled deleting r = deleted-spelled (place_read r) (spell_reading r) (
 finished-spelled (assigning to) r = made-spelled (assign to) (spell_purpose (assigning to)) (spell_reading r) (whole r) (λ e rest. refl) (whole-spelled r)
 finished-spelled (augmenting to by) r = made-spelled (augment to by) (spell_purpose (augmenting to by)) (spell_reading r) (whole r) (λ e rest. refl) (whole-spelled r)
 
--- what is heard of a function behind these tokens of a statement
+-- what is heard of a function after these tokens of a statement
 abbrev spot_now : List Outer → Spot → List Kind → Option (List Kind)
 spot_now os at ks = if (spot_around os at).in_function then Some (spot_heard os at ks) else None
 
@@ -219,18 +219,18 @@ then_simple-grown os at (augmenting to by) (Some r) f t k a = spot-grown os at (
 
 begins-grown : (os : List Outer) (at : Spot) (t : Kind) → GrownTo (spot_now os at []) t (begins os at t)
 begins-grown os at pass_word = spot-grown os at (λ rest. rest) pass_word _ none refl
-begins-grown os at break_word = grown_allowed (spot_around os at).in_loop (after_word os at stop) _ break_word (spot-grown os at (λ rest. rest) break_word _ none refl)
-begins-grown os at continue_word = grown_allowed (spot_around os at).in_loop (after_word os at skip) _ continue_word (spot-grown os at (λ rest. rest) continue_word _ none refl)
+begins-grown os at break_word = grown_allowed (spot_around os at).in_loop (after_word os at break_) _ break_word (spot-grown os at (λ rest. rest) break_word _ none refl)
+begins-grown os at continue_word = grown_allowed (spot_around os at).in_loop (after_word os at continue_) _ continue_word (spot-grown os at (λ rest. rest) continue_word _ none refl)
 begins-grown os at return_word = grown_allowed (spot_around os at).in_function (in_simple os at giving begun) _ return_word (spot-grown os at (λ rest. rest) return_word _ none refl)
 begins-grown os at global_word = grown_allowed (spot_around os at).in_function (in_global os at None) _ global_word (spot-grown os at (λ rest. rest) global_word _ none refl)
 begins-grown os at del_word = spot-grown os at (λ rest. rest) del_word _ none refl
 begins-grown os at t = then_simple-grown os at showing (read begun t) (λ rest. rest) t none (read-adds begun t)
 
-assigns-grown : (os : List Outer) (at : Spot) (u : Purpose) (to : Option Place) (f : List Kind → List Kind) → Spelling f → SpellsPlace to f → GrownTo (spot_now os at (spell_purpose u (f []))) assign_sign (assigns os at u to)
+assigns-grown : (os : List Outer) (at : Spot) (u : Purpose) (to : Option Target) (f : List Kind → List Kind) → Spelling f → SpellsPlace to f → GrownTo (spot_now os at (spell_purpose u (f []))) assign_sign (assigns os at u to)
 assigns-grown os at showing (Some to) f k same = spot-grown os at f assign_sign _ k (same (assign_sign ∷ []))
 assigns-grown os at _ _ f k same = tt
 
-augments-grown : (os : List Outer) (at : Spot) (by : Augmentation) (u : Purpose) (to : Option Place) (f : List Kind → List Kind) → Spelling f → SpellsPlace to f → GrownTo (spot_now os at (spell_purpose u (f []))) (augmentation_sign by) (augments os at by u to)
+augments-grown : (os : List Outer) (at : Spot) (by : Augmentation) (u : Purpose) (to : Option Target) (f : List Kind → List Kind) → Spelling f → SpellsPlace to f → GrownTo (spot_now os at (spell_purpose u (f []))) (augmentation_sign by) (augments os at by u to)
 augments-grown os at by showing (Some to) f k same = spot-grown os at f (augmentation_sign by) _ k (same (augmentation_sign by ∷ []))
 augments-grown os at by _ _ f k same = tt
 
@@ -379,7 +379,7 @@ on_def_name-hears before n t rest names = tt
 grown-step : (s : State) (t : Kind) (names : st.Names) → GrownTo (heard_now s) t (step s t) → Hears s names → HearsTo (noted t names) (step s t)
 grown-step s t names g h = grown-hears (heard_now s) t (step s t) names g h
 
--- behind a token that is read the names are those of the function that is open then
+-- after a token that is read the names are those of the function that is open then
 pub step-hears : (s : State) (t : Kind) (rest : List Kind) (names : st.Names) → state_stands s → Hears s names → HearsTo (renamed (held_state s (t ∷ rest)) t names) (step s t)
 step-hears (line os before) t rest names stands h = grown-step (line os before) t names (on_line-grown os before t stands) h
 step-hears (in_simple os at u r) t rest names stands h = grown-step (in_simple os at u r) t names (on_simple-grown os at u r t stands.1) h

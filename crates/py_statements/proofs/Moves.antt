@@ -8,7 +8,7 @@ use Rattle.py_grammar.specs.Readings as r
 use Rattle.py_grammar.specs.Readings.{has, has_none, has_not_none, wants, after_is, after_is_not, after_not, after_dot, after_method, read, whole}
 use Rattle.py_grammar.specs.Open.{spell_reading}
 use Rattle.py_grammar.specs.Statements as g
-use Rattle.py_grammar.specs.Statements.{Params, Branches, Statement, simple, compound, choose, otherwise, while_true, for_each, define, if_true, else_if, indented, declare, word, idle, stop, skip, Statements, statements_one, statements_more, spell_head, spell_names, spell_params, spell_branches, spell_front, is_new}
+use Rattle.py_grammar.specs.Statements.{Params, Branches, Statement, simple, compound, choose, otherwise, while_true, for_each, define, if_true, else_if, indented, declare, word, pass_, break_, continue_, Statements, statements_one, statements_more, spell_head, spell_names, spell_params, spell_branches, spell_front, is_new}
 use Rattle.py_grammar.specs.States as m
 use Rattle.py_grammar.specs.States.{outer, own, behind_head, lead_if, lead_elif, lead_while, lead_for, line, in_simple, after_word, in_global, has_global, in_test, after_for, after_for_name, after_else, after_def, after_def_name, in_params, has_params, after_params, after_colon, after_newline, done, spell_lead}
 use Rattle.py_grammar.proofs.Spelled.{Adds, Spells, read-adds, whole-spelled}
@@ -118,9 +118,9 @@ end_at-shown (outer b hd ∷ os) before rest es = refl
 -- ---- the other places
 
 on_word-shown : (names : Names) (os : List m.Outer) (at : m.Spot) (w : g.Word) (t : Kind) (rest : List Kind) (es : List Entry) → moves (length (t ∷ rest)) (length rest) (held_state (after_word os at w) (t ∷ rest)) names t (written_state (after_word os at w) (t ∷ rest) es) ≡ shown rest es (m.on_word os at w t)
-on_word-shown names os at idle t.Newline rest es = ap Some (ended-shown os at (word idle) rest es)
-on_word-shown names os at stop t.Newline rest es = ap Some (ended-shown os at (word stop) rest es)
-on_word-shown names os at skip t.Newline rest es = ap Some (ended-shown os at (word skip) rest es)
+on_word-shown names os at pass_ t.Newline rest es = ap Some (ended-shown os at (word pass_) rest es)
+on_word-shown names os at break_ t.Newline rest es = ap Some (ended-shown os at (word break_) rest es)
+on_word-shown names os at continue_ t.Newline rest es = ap Some (ended-shown os at (word continue_) rest es)
 on_word-shown names os at w t rest es = refl
 
 on_global_name-shown : (names : Names) (os : List m.Outer) (at : m.Spot) (ns : g.Names) (t : Kind) (rest : List Kind) (es : List Entry) → moves (length (t ∷ rest)) (length rest) (held_state (has_global os at ns) (t ∷ rest)) names t (written_state (has_global os at ns) (t ∷ rest) es) ≡ shown rest es (m.on_global_name os at ns t)

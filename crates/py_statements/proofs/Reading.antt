@@ -3,7 +3,7 @@ use Rattle.std.specs.Option.{option_map}
 use Rattle.std.proofs.Common.{List, Option}
 use Rattle.py_token.specs.declared.kinds.Kind.{Kind}
 use Rattle.py_grammar.specs.Expressions.{Expression}
-use Rattle.py_grammar.specs.Statements.{Place}
+use Rattle.py_grammar.specs.Statements.{Target}
 use Rattle.py_grammar.specs.Readings as r
 use Rattle.py_grammar.specs.Readings.{read, whole}
 use Rattle.py_postfix.specs.declared.entries.Entry.{Entry}
@@ -19,5 +19,5 @@ read_shown rest es o = option_map (λ s. (held s rest, written s rest es)) o
 abbrev pub whole_shown : List Kind → List Entry → Option Expression → Option (List Entry)
 whole_shown rest es o = option_map (λ a. post_expression a rest es) o
 
-abbrev pub place_shown : List Kind → List Entry → Option Place → Option (List Entry)
+abbrev pub place_shown : List Kind → List Entry → Option Target → Option (List Entry)
 place_shown rest es o = option_map (λ to. post_place to rest es) o

@@ -8,7 +8,7 @@ use Rattle.py_grammar.specs.Readings as r
 use Rattle.py_grammar.specs.Readings.{Upper, upper, Lower, lower, has, begun, read, whole, narrow}
 use Rattle.py_grammar.specs.Open.{spell_upper, spell_lower, spell_reading}
 use Rattle.py_grammar.specs.Statements as g
-use Rattle.py_grammar.specs.Statements.{Place, to_name, Augmentation, by_plus, by_minus, by_times, by_floor, by_modulo, Simple, word, leave, give, declare, delete, assign, augment, show, idle, stop, skip, spell_place, augmentation_sign, spell_simple, choose, otherwise, while_true, for_each, define, if_true, else_if, Block, inline, Statements, spell_head, spell_block, spell_front, keyword}
+use Rattle.py_grammar.specs.Statements.{Target, to_name, Augmentation, by_plus, by_minus, by_times, by_floor, by_modulo, Simple, word, return_, give, declare, delete, assign, augment, show, pass_, break_, continue_, spell_target, augmentation_sign, spell_simple, choose, otherwise, while_true, for_each, define, if_true, else_if, Block, inline, Statements, spell_head, spell_block, spell_front, keyword}
 use Rattle.py_grammar.specs.States as m
 use Rattle.py_grammar.specs.States.{outer, own, behind_head, showing, giving, deleting, assigning, augmenting, line, in_simple, after_word, in_global, place_of, place_read, if_made, if_deleted, finished, spell_spot, spell_purpose, close}
 use Rattle.py_grammar.proofs.Spelled.{Adds, Spells, read-adds, whole-spelled}
@@ -82,9 +82,9 @@ ended-shown os (behind_head (outer before hd)) s rest es = closed-shown os befor
 
 -- ---- the simple statement, where it may end
 
-abbrev pub SpellsPlace : Option Place → (List Kind → List Kind) → Type 0
+abbrev pub SpellsPlace : Option Target → (List Kind → List Kind) → Type 0
 SpellsPlace None f = Unit {0}
-SpellsPlace (Some to) f = (rest : List Kind) → spell_place to rest ≡ f rest
+SpellsPlace (Some to) f = (rest : List Kind) → spell_target to rest ≡ f rest
 
 place_of-spelled : (u : Upper) (w : Lower) (p : Primary) → SpellsPlace (place_of u w p) (λ rest. spell_upper u (spell_lower w (spell_primary p rest)))
 place_of-spelled (upper [] None None None zero) (lower None None None []) (name m) = λ rest. refl
@@ -95,7 +95,7 @@ pub place_read-spelled : (r : r.Reading) → SpellsPlace (place_read r) (spell_r
 place_read-spelled (has [] u w p) = place_of-spelled u w p
 place_read-spelled _ = tt
 
--- what is written of a simple statement behind these entries, and where it begins
+-- what is written of a simple statement after these entries, and where it begins
 abbrev Ends : List Kind → (List Kind → List Entry) → List Kind → Option (Node × List Entry) → Option Simple → Type 0
 Ends rest before begin None s = s ≡ None
 Ends rest before begin (Some p) None = ⊥
@@ -115,14 +115,14 @@ made-ends (Some a) f node rest before inner prefix g same entries spelled k =
       e,
     )
 
-deleted-ends : (o : Option Place) (rest : List Kind) (before : List Kind → List Entry) (g : List Kind → List Kind) → SpellsPlace o g
+deleted-ends : (o : Option Target) (rest : List Kind) (before : List Kind → List Entry) (g : List Kind → List Kind) → SpellsPlace o g
     → Ends rest before (del_word ∷ g rest) (valued n.Delete (place_shown rest (before (del_word ∷ g rest)) o)) (if_deleted o)
 deleted-ends None rest before g k = refl
 deleted-ends (Some to) rest before g k = let e = ap (λ x. del_word ∷ x) (sym (k rest)) in (ap (λ x. (n.Delete, post_place to rest (before x))) e, e)
 
 left-ends : (s : r.Reading) (b : Bool) (rest : List Kind) (before : List Kind → List Entry) (o : Option (List Entry)) → (IsTrue b → s ≡ begun)
     → o ≡ whole_shown rest (before (return_word ∷ spell_reading s rest)) (whole s)
-    → Ends rest before (return_word ∷ spell_reading s rest) (if b then Some (n.Return false, written s rest (before (return_word ∷ spell_reading s rest))) else valued (n.Return true) o) (if b then Some leave else if_made give (whole s))
+    → Ends rest before (return_word ∷ spell_reading s rest) (if b then Some (n.Return false, written s rest (before (return_word ∷ spell_reading s rest))) else valued (n.Return true) o) (if b then Some return_ else if_made give (whole s))
 left-ends s true rest before o same k = (ap (λ x. (n.Return false, written x rest (before (return_word ∷ spell_reading x rest)))) (same refl), ap (λ x. return_word ∷ spell_reading x rest) (same refl))
 left-ends s false rest before o same k = subst (λ x. Ends rest before (return_word ∷ spell_reading s rest) (valued (n.Return true) x) (if_made give (whole s))) (sym k)
     (made-ends (whole s) give (n.Return true) rest before (λ _ es. es) (λ x. return_word ∷ x) (spell_reading s) (λ a. refl) (λ a es. refl) (λ a. refl) (whole-spelled s))
@@ -144,8 +144,8 @@ finished-ends giving s rest before =
 finished-ends deleting s rest before =
     subst (λ x. Ends rest before (del_word ∷ spell_reading s rest) (valued n.Delete x) (if_deleted (place_read s))) (sym (place-seen s rest (before (del_word ∷ spell_reading s rest))))
     (deleted-ends (place_read s) rest before (spell_reading s) (place_read-spelled s))
-finished-ends (assigning to) s rest before = valued-ends s (assign to) n.Assign rest before (λ k es. post_place to (assign_sign ∷ k) es) (λ x. spell_place to (assign_sign ∷ x)) (λ a. refl) (λ a es. refl) (λ a. refl)
-finished-ends (augmenting to by) s rest before = valued-ends s (augment to by) (n.Augment (augmentation_op by)) rest before (λ k es. post_place to (augmentation_sign by ∷ k) es) (λ x. spell_place to (augmentation_sign by ∷ x)) (λ a. refl) (λ a es. refl) (λ a. refl)
+finished-ends (assigning to) s rest before = valued-ends s (assign to) n.Assign rest before (λ k es. post_place to (assign_sign ∷ k) es) (λ x. spell_target to (assign_sign ∷ x)) (λ a. refl) (λ a es. refl) (λ a. refl)
+finished-ends (augmenting to by) s rest before = valued-ends s (augment to by) (n.Augment (augmentation_op by)) rest before (λ k es. post_place to (augmentation_sign by ∷ k) es) (λ x. spell_target to (augmentation_sign by ∷ x)) (λ a. refl) (λ a es. refl) (λ a. refl)
 
 ends-shown : (os : List m.Outer) (at : m.Spot) (s : Option Simple) (p : Option (Node × List Entry)) (begin rest : List Kind) (es : List Entry)
     → Ends (t.Newline ∷ rest) (λ k. before_simple os at k es) begin p s
@@ -184,8 +184,8 @@ goes_on-shown os at u (Some s) p t f rest es a e = ap (λ x. goes_on (held_outer
 pub begins-shown : (os : List m.Outer) (at : m.Spot) (t : Kind) (rest : List Kind) (es : List Entry) → begins (length (t ∷ rest)) (length rest) (held_outers os (spell_spot at (t ∷ rest))) (held_spot os at (t ∷ rest)) t (before_simple os at (t ∷ rest) es) ≡ shown rest es (m.begins os at t)
 unfolding begins_word
 begins-shown os at pass_word rest es = refl
-begins-shown os at break_word rest es = allowed-shown (m.spot_around os at).in_loop _ (after_word os at stop) rest es (ap (λ a. a.in_loop) (spot_around-held os at (break_word ∷ rest)))
-begins-shown os at continue_word rest es = allowed-shown (m.spot_around os at).in_loop _ (after_word os at skip) rest es (ap (λ a. a.in_loop) (spot_around-held os at (continue_word ∷ rest)))
+begins-shown os at break_word rest es = allowed-shown (m.spot_around os at).in_loop _ (after_word os at break_) rest es (ap (λ a. a.in_loop) (spot_around-held os at (break_word ∷ rest)))
+begins-shown os at continue_word rest es = allowed-shown (m.spot_around os at).in_loop _ (after_word os at continue_) rest es (ap (λ a. a.in_loop) (spot_around-held os at (continue_word ∷ rest)))
 begins-shown os at return_word rest es = allowed-shown (m.spot_around os at).in_function _ (in_simple os at giving begun) rest es (ap (λ a. a.in_function) (spot_around-held os at (return_word ∷ rest)))
 begins-shown os at global_word rest es = allowed-shown (m.spot_around os at).in_function _ (in_global os at None) rest es (ap (λ a. a.in_function) (spot_around-held os at (global_word ∷ rest)))
 begins-shown os at del_word rest es = refl
@@ -193,7 +193,7 @@ begins-shown os at t rest es = goes_on-shown os at showing (read begun t) _ t (�
 
 -- ---- a place is assigned to
 
-assigns-shown : (os : List m.Outer) (at : m.Spot) (u : m.Purpose) (o : Option Place) (p : Option (List Entry)) (f : List Kind → List Kind) (rest : List Kind) (es : List Entry) → SpellsPlace o f
+assigns-shown : (os : List m.Outer) (at : m.Spot) (u : m.Purpose) (o : Option Target) (p : Option (List Entry)) (f : List Kind → List Kind) (rest : List Kind) (es : List Entry) → SpellsPlace o f
     → (u ≡ showing → p ≡ place_shown (assign_sign ∷ rest) (before_simple os at (f (assign_sign ∷ rest)) es) o)
     → if_showing (held_purpose u) (assigns (length rest) (held_outers os (spell_spot at (spell_purpose u (f (assign_sign ∷ rest))))) (held_spot os at (spell_purpose u (f (assign_sign ∷ rest)))) (held_purpose (assigning (to_name []))) (length (spell_purpose u (f (assign_sign ∷ rest)))) p) ≡ shown rest es (m.assigns os at u o)
 assigns-shown os at showing None p f rest es k same = ap (λ x. assigns (length rest) (held_outers os (spell_spot at (f (assign_sign ∷ rest)))) (held_spot os at (f (assign_sign ∷ rest))) (held_purpose (assigning (to_name []))) (length (f (assign_sign ∷ rest))) x) (same refl)
@@ -204,7 +204,7 @@ assigns-shown os at deleting o p f rest es k same = refl
 assigns-shown os at (assigning to) o p f rest es k same = refl
 assigns-shown os at (augmenting to by) o p f rest es k same = refl
 
-augments-shown : (os : List m.Outer) (at : m.Spot) (by : Augmentation) (u : m.Purpose) (o : Option Place) (p : Option (List Entry)) (f : List Kind → List Kind) (rest : List Kind) (es : List Entry) → SpellsPlace o f
+augments-shown : (os : List m.Outer) (at : m.Spot) (by : Augmentation) (u : m.Purpose) (o : Option Target) (p : Option (List Entry)) (f : List Kind → List Kind) (rest : List Kind) (es : List Entry) → SpellsPlace o f
     → (u ≡ showing → p ≡ place_shown (augmentation_sign by ∷ rest) (before_simple os at (f (augmentation_sign by ∷ rest)) es) o)
     → if_showing (held_purpose u) (assigns (length rest) (held_outers os (spell_spot at (spell_purpose u (f (augmentation_sign by ∷ rest))))) (held_spot os at (spell_purpose u (f (augmentation_sign by ∷ rest)))) (held_purpose (augmenting (to_name []) by)) (length (spell_purpose u (f (augmentation_sign by ∷ rest)))) p) ≡ shown rest es (m.augments os at by u o)
 augments-shown os at by showing None p f rest es k same = ap (λ x. assigns (length rest) (held_outers os (spell_spot at (f (augmentation_sign by ∷ rest)))) (held_spot os at (f (augmentation_sign by ∷ rest))) (held_purpose (augmenting (to_name []) by)) (length (f (augmentation_sign by ∷ rest))) x) (same refl)

@@ -4,7 +4,7 @@ use Rattle.py_token.specs.declared.kinds.Kind.{Kind}
 use Rattle.py_token.specs.declared.kinds.Kind.TheVariants as t
 use Rattle.py_token.specs.declared.kinds.Keyword.{Keyword}
 use Rattle.py_token.specs.declared.kinds.Keyword.TheVariants as k
-use Rattle.py_token.specs.declared.kinds.Op.TheVariants as s
+use Rattle.py_token.specs.declared.kinds.Symbol.TheVariants as s
 use Rattle.py_grammar.specs.declared.constructs.Construct.{Construct}
 use Rattle.py_grammar.specs.declared.constructs.Construct.TheVariants.{Word as Word_, ChainedAssignment, Default, NestedFunction}
 use Rattle.py_grammar.specs.Outside.{first_of}
@@ -46,33 +46,27 @@ abbrev pub is_assigning : Purpose → Bool
 is_assigning purpose.Assigning = true
 is_assigning _ = false
 
--- `=` behind `place = expression`
+-- `=` after `place = expression`
 abbrev pub chained : Purpose → Reading → Kind → Option Construct
-chained u r (t.Op s.Assign) = if is_assigning u then (if is_whole r then Some ChainedAssignment else None) else None
+chained u r (t.Symbol s.Assign) = if is_assigning u then (if is_whole r then Some ChainedAssignment else None) else None
 chained u r _ = None
 
--- outside all brackets
-abbrev pub is_bare_of_brackets : Reading → Bool
-is_bare_of_brackets (x.Wants os u w) = is_empty os
-is_bare_of_brackets (x.Has os u w p from) = is_empty os
-is_bare_of_brackets (x.Related os u from) = is_empty os
-is_bare_of_brackets (x.AfterIs os u from) = is_empty os
-is_bare_of_brackets (x.AfterIsNot os u from) = is_empty os
-is_bare_of_brackets (x.AfterNot os u from) = is_empty os
-is_bare_of_brackets (x.AfterDot os u w from) = is_empty os
-is_bare_of_brackets (x.AfterMethod os u w from m) = is_empty os
+-- a whole operand has been read, outside all brackets
+abbrev pub ends_target : Reading → Bool
+ends_target (x.Has os u w p from) = is_empty os
+ends_target _ = false
 
 abbrev pub is_deleting : Purpose → Bool
 is_deleting purpose.Deleting = true
 is_deleting _ = false
 
--- `,` behind what is deleted, which is no expression
-abbrev pub behind_deleted : Purpose → Reading → Kind → Bool
-behind_deleted u r (t.Op s.Comma) = is_deleting u && is_bare_of_brackets r
-behind_deleted u r _ = false
+-- `,` after a whole target that is deleted, which is no expression
+abbrev pub after_deleted : Purpose → Reading → Kind → Bool
+after_deleted u r (t.Symbol s.Comma) = is_deleting u && ends_target r
+after_deleted u r _ = false
 
 abbrev pub default_at : Kind → Option Construct
-default_at (t.Op s.Assign) = Some Default
+default_at (t.Symbol s.Assign) = Some Default
 default_at _ = None
 
 abbrev pub inline_function : Kind → Option Construct
@@ -85,7 +79,7 @@ nested [] t = None
 nested (o ∷ os) t = inline_function t
 
 abbrev pub in_simple : Purpose → Reading → Kind → Option Construct
-in_simple u r t = if behind_deleted u r t then None else first_of (chained u r t) (outside_held r t)
+in_simple u r t = if after_deleted u r t then None else first_of (chained u r t) (outside_held r t)
 
 abbrev pub outside_state : State → Kind → Option Construct
 outside_state (h.Line os last) t = nested os t

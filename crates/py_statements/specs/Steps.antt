@@ -1,6 +1,6 @@
 -- One more token of a cell, on what the program holds: what it holds then, and what has been written.
 --
--- `at` is how many tokens are left, this one counted, and `left` how many are behind it.
+-- `at` is how many tokens are left, this one counted, and `left` how many are after it.
 use Rattle.std.specs.Prelude.{ℕ, ◌+◌, length, Bool, true, false, if◌then◌else◌, ◌&&◌, List, [], ◌∷◌, Option, Some, None}
 use Rattle.std.specs.FinMap as finite
 use Rattle.std.specs.Ordering.{nat_cmp}
@@ -9,8 +9,8 @@ use Rattle.py_token.specs.declared.kinds.Kind.{Kind}
 use Rattle.py_token.specs.declared.kinds.Kind.TheVariants as t
 use Rattle.py_token.specs.declared.kinds.Keyword.{Keyword}
 use Rattle.py_token.specs.declared.kinds.Keyword.TheVariants as k
-use Rattle.py_token.specs.declared.kinds.Op as sign_of
-use Rattle.py_token.specs.declared.kinds.Op.TheVariants as s
+use Rattle.py_token.specs.declared.kinds.Symbol as sign_of
+use Rattle.py_token.specs.declared.kinds.Symbol.TheVariants as s
 use Rattle.py_tree.specs.declared.expressions.Op.TheVariants as o
 use Rattle.py_grammar.specs.Readings.{is_none}
 use Rattle.py_postfix.specs.declared.entries.Node.{Node}
@@ -41,7 +41,7 @@ use Rattle.py_statements.specs.declared.state.State.{State}
 use Rattle.py_statements.specs.declared.state.State.TheVariants as h
 use Rattle.py_statements.specs.declared.state.Reader.{Reader}
 
--- what is held and written behind a token, if it is read
+-- what is held and written after a token, if it is read
 abbrev pub Step : Type 0
 Step = Option (State × List Entry)
 
@@ -80,9 +80,9 @@ abbrev pub noted : Kind → Names → Names
 noted (t.Name m) names = finite.insert names m true
 noted _ names = names
 
--- `(` behind `def NAME`: another function begins
+-- `(` after `def NAME`: another function begins
 abbrev pub begins_function : State → Kind → Bool
-begins_function (h.AfterDefName from) (t.Op s.OpenParenthesis) = true
+begins_function (h.AfterDefName from) (t.Symbol s.OpenParenthesis) = true
 begins_function _ t = false
 
 abbrev pub renamed : State → Kind → Names → Names
@@ -207,7 +207,7 @@ if_showing purpose.Showing s = s
 if_showing _ s = None
 
 -- how an assignment with this sign goes on, if it is one
-unfoldable pub assignment : sign_of.Op → Option Purpose
+unfoldable pub assignment : sign_of.Symbol → Option Purpose
 assignment s.Assign = Some purpose.Assigning
 assignment s.PlusAssign = Some (purpose.Augmenting o.Plus)
 assignment s.MinusAssign = Some (purpose.Augmenting o.Minus)
@@ -216,16 +216,16 @@ assignment s.FloorAssign = Some (purpose.Augmenting o.Floor)
 assignment s.ModAssign = Some (purpose.Augmenting o.Mod)
 assignment _ = None
 
-abbrev pub sign_behind : ℕ → ℕ → List Outer → Spot → Purpose → ℕ → Reading → sign_of.Op → Option Purpose → List Entry → Step
+abbrev pub sign_behind : ℕ → ℕ → List Outer → Spot → Purpose → ℕ → Reading → sign_of.Symbol → Option Purpose → List Entry → Step
 sign_behind at left os spot u from r sign (Some next) es = if_showing u (assigns left os spot next from (placed r es))
-sign_behind at left os spot u from r sign None es = goes_on os spot u from (e.step at left r (t.Op sign) es)
+sign_behind at left os spot u from r sign None es = goes_on os spot u from (e.step at left r (t.Symbol sign) es)
 
-abbrev pub on_sign : ℕ → ℕ → List Outer → Spot → Purpose → ℕ → Reading → sign_of.Op → List Entry → Step
+abbrev pub on_sign : ℕ → ℕ → List Outer → Spot → Purpose → ℕ → Reading → sign_of.Symbol → List Entry → Step
 on_sign at left os spot u from r sign es = sign_behind at left os spot u from r sign (assignment sign) es
 
 abbrev pub on_simple : ℕ → ℕ → List Outer → Spot → Purpose → ℕ → Reading → Kind → List Entry → Step
 on_simple at left os spot u from r t.Newline es = ends at left os spot from (finished at u r es)
-on_simple at left os spot u from r (t.Op sign) es = on_sign at left os spot u from r sign es
+on_simple at left os spot u from r (t.Symbol sign) es = on_sign at left os spot u from r sign es
 on_simple at left os spot u from r t es = goes_on os spot u from (e.step at left r t es)
 
 abbrev pub word_node : Word → Node
@@ -242,7 +242,7 @@ on_global os spot from names (t.Name m) es = if_allowed (is_new_in names m) (h.H
 on_global os spot from names _ es = None
 
 abbrev pub on_global_name : ℕ → ℕ → List Outer → Spot → ℕ → Kind → List Entry → Step
-on_global_name at left os spot from (t.Op s.Comma) es = Some (h.InGlobal os spot from, es)
+on_global_name at left os spot from (t.Symbol s.Comma) es = Some (h.InGlobal os spot from, es)
 on_global_name at left os spot from t.Newline es = Some (ended at left os spot n.Global from es)
 on_global_name at left os spot from _ es = None
 
@@ -267,7 +267,7 @@ test_goes_on os lead from None = None
 test_goes_on os lead from (Some (r, es)) = Some (h.InTest os lead from r, es)
 
 abbrev pub is_colon : Kind → Bool
-is_colon (t.Op s.Colon) = true
+is_colon (t.Symbol s.Colon) = true
 is_colon _ = false
 
 -- a `:` in a bracket belongs to it, and one outside all brackets ends the head
@@ -283,7 +283,7 @@ on_for_name left os from (t.Keyword k.In) es = Some (h.InTest os lead.For from (
 on_for_name left os from _ es = None
 
 abbrev pub on_else : List Outer → ℕ → Kind → List Entry → Step
-on_else os from (t.Op s.Colon) es = Some (opens os head.Else from es)
+on_else os from (t.Symbol s.Colon) es = Some (opens os head.Else from es)
 on_else os from _ es = None
 
 abbrev pub on_def : ℕ → Kind → List Entry → Step
@@ -291,21 +291,21 @@ on_def from (t.Name m) es = Some (h.AfterDefName from, mark (n.Target m) es)
 on_def from _ es = None
 
 abbrev pub on_def_name : ℕ → Kind → List Entry → Step
-on_def_name from (t.Op s.OpenParenthesis) es = Some (h.InParams from, mark n.NoNames es)
+on_def_name from (t.Symbol s.OpenParenthesis) es = Some (h.InParams from, mark n.NoNames es)
 on_def_name from _ es = None
 
 abbrev pub on_params : ℕ → Names → Kind → List Entry → Step
 on_params from names (t.Name m) es = if_allowed (is_new_in names m) (h.HasParams from) (mark (n.OneName m) es)
-on_params from names (t.Op s.CloseParenthesis) es = Some (h.AfterParams from, es)
+on_params from names (t.Symbol s.CloseParenthesis) es = Some (h.AfterParams from, es)
 on_params from names _ es = None
 
 abbrev pub on_param : ℕ → Kind → List Entry → Step
-on_param from (t.Op s.Comma) es = Some (h.InParams from, es)
-on_param from (t.Op s.CloseParenthesis) es = Some (h.AfterParams from, es)
+on_param from (t.Symbol s.Comma) es = Some (h.InParams from, es)
+on_param from (t.Symbol s.CloseParenthesis) es = Some (h.AfterParams from, es)
 on_param from _ es = None
 
 abbrev pub on_params_end : ℕ → Kind → List Entry → Step
-on_params_end from (t.Op s.Colon) es = Some (opens [] head.Function from es)
+on_params_end from (t.Symbol s.Colon) es = Some (opens [] head.Function from es)
 on_params_end from _ es = None
 
 abbrev pub on_colon : ℕ → ℕ → List Outer → Outer → Kind → List Entry → Step
@@ -329,7 +329,7 @@ function_moves at left (h.HasParams from) names t es = on_param from t es
 function_moves at left (h.AfterParams from) names t es = on_params_end from t es
 function_moves at left _ names t es = None
 
--- in the head of another compound statement, and behind a head
+-- in the head of another compound statement, and after a head
 abbrev pub head_moves : ℕ → ℕ → State → Names → Kind → List Entry → Step
 head_moves at left (h.InTest os lead from r) names t es = on_test at left os lead from r t es
 head_moves at left (h.AfterFor os from) names t es = on_for os from t es
@@ -356,7 +356,7 @@ step at left reader t es = with_names (renamed reader.state t reader.names) (mov
 abbrev pub start : Reader
 start = record { state = h.Line [] last.Nothing; names = finite.empty }
 
--- the tokens before the last `behind` are read
+-- the tokens before the last `after` are read
 abbrev pub run : ℕ → Reader → List Kind → List Entry → Option (Reader × List Entry)
 run behind reader [] es = Some (reader, es)
 run behind reader (t ∷ ts) es = elim (step (length (t ∷ ts) + behind) (length ts + behind) reader t es) [ None ↦ None | Some p ↦ run behind p.0 ts p.1 ]

@@ -1,4 +1,4 @@
--- What has been written of a cell whose forms are open, before these tokens and behind these entries.
+-- What has been written of a cell whose forms are open, before these tokens and after these entries.
 use Rattle.std.specs.Prelude.{List, [], ◌∷◌, Option, Some, None}
 use Rattle.py_token.specs.declared.kinds.Kind.{Kind}
 use Rattle.py_token.specs.declared.kinds.Kind.TheVariants as t
@@ -45,7 +45,7 @@ written_names (Some ms) es = post_names ms (mark n.NoNames es)
 abbrev pub before_simple : List Outer → Spot → List Kind → List Entry → List Entry
 before_simple os at rest es = written_spot at rest (written_outers os (spell_spot at rest) es)
 
--- what has been written where a head begins: a branch stands behind those before it
+-- what has been written where a head begins: a branch stands after those before it
 abbrev pub before_head : List Outer → Option Statements → List Kind → List Entry → List Entry
 before_head os before rest es = post_front before rest (written_outers os (spell_front before rest) es)
 

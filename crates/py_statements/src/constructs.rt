@@ -2,13 +2,13 @@
 ghost use Rattle.std.specs.Prelude.{◌≡◌};
 ghost use Rattle.py_grammar.specs.Outside.{first_of};
 ghost use Rattle.py_grammar.specs.Readings.{is_empty};
-ghost use Rattle.py_statements.specs.Outside.{ruleless_word, ruleless, is_assigning, chained, is_bare_of_brackets, is_deleting, behind_deleted, in_simple, default_at, inline_function, nested, outside_state, outside};
+ghost use Rattle.py_statements.specs.Outside.{ruleless_word, ruleless, is_assigning, chained, ends_target, is_deleting, after_deleted, in_simple, default_at, inline_function, nested, outside_state, outside};
 
 use crate::state::{Outer, Purpose, State};
 use plain_data::Stack;
 use py_expressions::{Opened, Reading, is_whole};
 use py_grammar::Construct;
-use py_token::{Keyword, Kind, Op as Sign};
+use py_token::{Keyword, Kind, Symbol};
 
 #[tactic(auto, unfolding(crate::specs::Outside::ruleless_word))]
 fn ruleless_word(word: Keyword) -> Option<Construct>
@@ -53,12 +53,12 @@ fn is_assigning(purpose: Purpose) -> bool
     }
 }
 
-/// `=` behind `place = expression`.
+/// `=` after `place = expression`.
 fn chained(purpose: Purpose, reading: &Reading, token: &Kind) -> Option<Construct>
     ensures { result ≡ chained purpose reading.now token.now }
 {
     match token {
-        Kind::Op(Sign::Assign) => {
+        Kind::Symbol(Symbol::Assign) => {
             if is_assigning(purpose) && is_whole(reading) {
                 Some(Construct::ChainedAssignment)
             } else {
@@ -75,19 +75,13 @@ fn is_empty(opened: &Stack<Opened>) -> bool
     opened.top().is_none()
 }
 
-/// Whether nothing is open but what stands outside all brackets.
-fn is_bare_of_brackets(reading: &Reading) -> bool
-    ensures { result ≡ is_bare_of_brackets reading.now }
+/// Whether a whole operand has been read, outside all brackets.
+fn ends_target(reading: &Reading) -> bool
+    ensures { result ≡ ends_target reading.now }
 {
     match reading {
-        Reading::Wants { opened, .. } => is_empty(opened),
         Reading::Has { opened, .. } => is_empty(opened),
-        Reading::Related { opened, .. } => is_empty(opened),
-        Reading::AfterIs { opened, .. } => is_empty(opened),
-        Reading::AfterIsNot { opened, .. } => is_empty(opened),
-        Reading::AfterNot { opened, .. } => is_empty(opened),
-        Reading::AfterDot { opened, .. } => is_empty(opened),
-        Reading::AfterMethod { opened, .. } => is_empty(opened),
+        _ => false,
     }
 }
 
@@ -100,12 +94,12 @@ fn is_deleting(purpose: Purpose) -> bool
     }
 }
 
-/// `,` behind what is deleted, which is no expression.
-fn behind_deleted(purpose: Purpose, reading: &Reading, token: &Kind) -> bool
-    ensures { result ≡ behind_deleted purpose reading.now token.now }
+/// `,` after a whole target that is deleted, which is no expression.
+fn after_deleted(purpose: Purpose, reading: &Reading, token: &Kind) -> bool
+    ensures { result ≡ after_deleted purpose reading.now token.now }
 {
     match token {
-        Kind::Op(Sign::Comma) => is_deleting(purpose) && is_bare_of_brackets(reading),
+        Kind::Symbol(Symbol::Comma) => is_deleting(purpose) && ends_target(reading),
         _ => false,
     }
 }
@@ -114,7 +108,7 @@ fn default_at(token: &Kind) -> Option<Construct>
     ensures { result ≡ default_at token.now }
 {
     match token {
-        Kind::Op(Sign::Assign) => Some(Construct::Default),
+        Kind::Symbol(Symbol::Assign) => Some(Construct::Default),
         _ => None,
     }
 }
@@ -142,7 +136,7 @@ fn nested(outers: &Stack<Outer>, token: &Kind) -> Option<Construct>
 fn in_simple(purpose: Purpose, reading: &Reading, token: &Kind) -> Option<Construct>
     ensures { result ≡ in_simple purpose reading.now token.now }
 {
-    if behind_deleted(purpose, reading, token) {
+    if after_deleted(purpose, reading, token) {
         return None;
     }
     match chained(purpose, reading, token) {

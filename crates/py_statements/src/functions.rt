@@ -11,10 +11,10 @@ use crate::state::{Head, State};
 use plain_data::{Stack, TextMap};
 use py_expressions::Stop;
 use py_postfix::{Entry, Node};
-use py_token::{Kind, Op as Sign};
+use py_token::{Kind, Symbol};
 use std::alloc::Global;
 
-/// Behind `def`.
+/// After `def`.
 pub fn on_def(
     alloc: Global,
     from: usize,
@@ -32,12 +32,12 @@ pub fn on_def(
     }
 }
 
-/// Behind the name of a function.
+/// After the name of a function.
 pub fn on_def_name(from: usize, token: &Kind, entries: &mut Stack<Entry>) -> Result<State, Stop>
     ensures { Gives result entries.new (on_def_name from token.now entries.old) }
 {
     match token {
-        Kind::Op(Sign::OpenParenthesis) => {
+        Kind::Symbol(Symbol::OpenParenthesis) => {
             write_mark(Node::NoNames, entries)?;
             Ok(State::InParams { from })
         }
@@ -64,23 +64,23 @@ pub fn on_params(
                 Err(Stop::Refused)
             }
         }
-        Kind::Op(Sign::CloseParenthesis) => Ok(State::AfterParams { from }),
+        Kind::Symbol(Symbol::CloseParenthesis) => Ok(State::AfterParams { from }),
         _ => Err(Stop::Refused),
     }
 }
 
-/// Behind a parameter.
+/// After a parameter.
 pub fn on_param(from: usize, token: &Kind) -> Result<State, Stop>
     ensures { (es : List Entry) → Gives result es (on_param from token.now es) }
 {
     match token {
-        Kind::Op(Sign::Comma) => Ok(State::InParams { from }),
-        Kind::Op(Sign::CloseParenthesis) => Ok(State::AfterParams { from }),
+        Kind::Symbol(Symbol::Comma) => Ok(State::InParams { from }),
+        Kind::Symbol(Symbol::CloseParenthesis) => Ok(State::AfterParams { from }),
         _ => Err(Stop::Refused),
     }
 }
 
-/// Behind the parameters.
+/// After the parameters.
 pub fn on_params_end(
     alloc: Global,
     from: usize,
@@ -90,7 +90,7 @@ pub fn on_params_end(
     ensures { Gives result entries.new (on_params_end from token.now entries.old) }
 {
     match token {
-        Kind::Op(Sign::Colon) => open(Stack::new(alloc), Head::Function, from, entries),
+        Kind::Symbol(Symbol::Colon) => open(Stack::new(alloc), Head::Function, from, entries),
         _ => Err(Stop::Refused),
     }
 }

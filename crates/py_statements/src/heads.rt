@@ -10,7 +10,7 @@ use crate::state::{Head, Last, Lead, Outer, State};
 use plain_data::Stack;
 use py_expressions::{Place, Reading, Stop, begun, end, is_whole, read};
 use py_postfix::{Entry, Node};
-use py_token::{Keyword, Kind, Op as Sign};
+use py_token::{Keyword, Kind, Symbol};
 use std::alloc::Global;
 
 /// A head that is being read: the blocks around it, what it is, and where it begins.
@@ -74,7 +74,7 @@ fn is_colon(token: &Kind) -> bool
     ensures { result ≡ is_colon token.now }
 {
     match token {
-        Kind::Op(Sign::Colon) => true,
+        Kind::Symbol(Symbol::Colon) => true,
         _ => false,
     }
 }
@@ -99,7 +99,7 @@ pub fn on_test(
     }
 }
 
-/// Behind `for`.
+/// After `for`.
 pub fn on_for(
     alloc: Global,
     outers: Stack<Outer>,
@@ -118,7 +118,7 @@ pub fn on_for(
     }
 }
 
-/// Behind the name of a `for`.
+/// After the name of a `for`.
 pub fn on_for_name(
     alloc: Global,
     outers: Stack<Outer>,
@@ -139,7 +139,7 @@ pub fn on_for_name(
     }
 }
 
-/// Behind `else`.
+/// After `else`.
 pub fn on_else(
     outers: Stack<Outer>,
     from: usize,
@@ -149,12 +149,12 @@ pub fn on_else(
     ensures { Gives result entries.new (on_else outers from token.now entries.old) }
 {
     match token {
-        Kind::Op(Sign::Colon) => open(outers, Head::Else, from, entries),
+        Kind::Symbol(Symbol::Colon) => open(outers, Head::Else, from, entries),
         _ => Err(Stop::Refused),
     }
 }
 
-/// Behind the line of a head: its block begins.
+/// After the line of a head: its block begins.
 pub fn on_newline(mut outers: Stack<Outer>, outer: Outer, token: &Kind) -> Result<State, Stop>
     ensures { (es : List Entry) → Gives result es (on_newline outers outer token.now es) }
 {

@@ -18,6 +18,3 @@ mod steps;
 pub use constructs::outside;
 pub use state::{Around, Head, Last, Lead, Outer, Purpose, Reader, Spot, State, Word};
 pub use steps::{is_done, start, step};
-
-#[cfg(test)]
-mod tests;

@@ -1,4 +1,4 @@
-//! The first token of a line, and behind a `:`.
+//! The first token of a line, and after a `:`.
 ghost use Rattle.std.specs.Prelude.{◌≡◌};
 ghost use Rattle.py_expressions.specs.Gives.{Gives};
 ghost use Rattle.py_expressions.specs.Steps.{begun};
@@ -112,7 +112,7 @@ pub fn on_line(
     }
 }
 
-/// Behind the `:` of a head.
+/// After the `:` of a head.
 pub fn on_colon(
     alloc: Global,
     outers: Stack<Outer>,

@@ -4,7 +4,7 @@ ghost use Rattle.py_statements.specs.Steps.{is_new_in, begins_function, noted, r
 
 use crate::state::State;
 use plain_data::{Text, TextMap};
-use py_token::{Kind, Op};
+use py_token::{Kind, Symbol};
 use std::alloc::{AllocError, Global};
 
 pub fn is_new(names: &TextMap<bool>, name: &Text) -> bool
@@ -19,7 +19,7 @@ pub fn begins_function(state: &State, token: &Kind) -> bool
 {
     match state {
         State::AfterDefName { from: _ } => match token {
-            Kind::Op(Op::OpenParenthesis) => true,
+            Kind::Symbol(Symbol::OpenParenthesis) => true,
             _ => false,
         },
         _ => false,

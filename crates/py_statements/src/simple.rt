@@ -1,6 +1,6 @@
 //! Simple statements.
 ghost use Rattle.std.specs.Prelude.{◌≡◌, List, Some};
-ghost use Rattle.py_token.specs.declared.kinds.Kind.TheVariants.{Op as Sign_};
+ghost use Rattle.py_token.specs.declared.kinds.Kind.TheVariants.{Symbol as Symbol_};
 ghost use Rattle.py_postfix.specs.declared.entries.Entry.{Entry};
 ghost use Rattle.py_expressions.specs.Gives.{Gives};
 ghost use Rattle.py_expressions.specs.Steps as expression;
@@ -16,7 +16,7 @@ use crate::state::{Last, Outer, Purpose, Spot, State, Word};
 use plain_data::{Stack, TextMap};
 use py_expressions::{Place, Reading, Stop, begun, end, end_place, is_begun, is_narrow, read};
 use py_postfix::{Entry, Node};
-use py_token::{Keyword, Kind, Op as Sign};
+use py_token::{Keyword, Kind, Symbol};
 use py_tree::Op;
 use std::alloc::Global;
 
@@ -266,16 +266,16 @@ fn assign(
 
 /// How an assignment with this sign goes on, if it is one.
 #[tactic(auto, unfolding(crate::specs::Steps::assignment))]
-fn assignment(sign: Sign) -> Option<Purpose>
+fn assignment(sign: Symbol) -> Option<Purpose>
     ensures { result ≡ assignment sign }
 {
     match sign {
-        Sign::Assign => Some(Purpose::Assigning),
-        Sign::PlusAssign => Some(Purpose::Augmenting(Op::Plus)),
-        Sign::MinusAssign => Some(Purpose::Augmenting(Op::Minus)),
-        Sign::TimesAssign => Some(Purpose::Augmenting(Op::Times)),
-        Sign::FloorAssign => Some(Purpose::Augmenting(Op::Floor)),
-        Sign::ModAssign => Some(Purpose::Augmenting(Op::Mod)),
+        Symbol::Assign => Some(Purpose::Assigning),
+        Symbol::PlusAssign => Some(Purpose::Augmenting(Op::Plus)),
+        Symbol::MinusAssign => Some(Purpose::Augmenting(Op::Minus)),
+        Symbol::TimesAssign => Some(Purpose::Augmenting(Op::Times)),
+        Symbol::FloorAssign => Some(Purpose::Augmenting(Op::Floor)),
+        Symbol::ModAssign => Some(Purpose::Augmenting(Op::Mod)),
         _ => None,
     }
 }
@@ -285,7 +285,7 @@ fn on_sign(
     simple: Simple,
     purpose: Purpose,
     reading: Reading,
-    sign: Sign,
+    sign: Symbol,
     place: Place,
     entries: &mut Stack<Entry>,
 ) -> Result<State, Stop>
@@ -298,7 +298,7 @@ fn on_sign(
             simple,
             purpose,
             reading,
-            &Kind::Op(sign),
+            &Kind::Symbol(sign),
             place,
             entries,
         ),
@@ -322,12 +322,12 @@ pub fn on_simple(
             let node = finish(purpose, reading, place.at, entries)?;
             ended(simple, node, place, entries)
         }
-        Kind::Op(sign) => on_sign(alloc, simple, purpose, reading, *sign, place, entries),
+        Kind::Symbol(sign) => on_sign(alloc, simple, purpose, reading, *sign, place, entries),
         _ => go_on(alloc, simple, purpose, reading, token, place, entries),
     }
 }
 
-/// Behind a statement of one word.
+/// After a statement of one word.
 pub fn on_word(
     simple: Simple,
     word: Word,
@@ -367,7 +367,7 @@ pub fn on_global(
     }
 }
 
-/// Behind a name of a `global`.
+/// After a name of a `global`.
 pub fn on_global_name(
     simple: Simple,
     token: &Kind,
@@ -377,7 +377,7 @@ pub fn on_global_name(
     ensures { Gives result entries.new (on_global_name place.at place.left simple.outers simple.spot simple.from token.now entries.old) }
 {
     match token {
-        Kind::Op(Sign::Comma) => Ok(in_global(simple)),
+        Kind::Symbol(Symbol::Comma) => Ok(in_global(simple)),
         Kind::Newline => ended(simple, Node::Global, place, entries),
         _ => Err(Stop::Refused),
     }

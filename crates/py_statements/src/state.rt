@@ -2,7 +2,7 @@ use plain_data::{Stack, TextMap};
 use py_expressions::Reading;
 use py_tree::Op;
 
-/// What a block stands behind.
+/// What a block stands after.
 #[derive(Clone, Copy, Debug, PartialEq, Eq)]
 pub enum Head {
     If,
@@ -29,7 +29,7 @@ pub struct Outer {
     pub around: Around,
 }
 
-/// Where a simple statement stands: on a line of its own, or behind the `:` of a head.
+/// Where a simple statement stands: on a line of its own, or after the `:` of a head.
 #[derive(Clone, Copy, Debug, PartialEq, Eq)]
 pub enum Spot {
     Own,

@@ -57,7 +57,7 @@ fn function_moves(
     }
 }
 
-/// In the head of another compound statement, and behind a head.
+/// In the head of another compound statement, and after a head.
 fn head_moves(
     alloc: Global,
     state: State,

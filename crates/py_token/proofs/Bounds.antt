@@ -8,7 +8,7 @@ use Rattle.std.specs.Cmp.Lexicographic.{pointwise}
 use Rattle.py_names.specs.Names.{begins_name, continues_name}
 use Rattle.py_token.specs.declared.lines.Lexeme.{Lexeme}
 use Rattle.py_token.specs.Spellings.{sign, operators}
-use Rattle.py_token.specs.Lexemes.{belongs, digits_behind, name_at, number_at, text_at, operator_at, lexeme_at}
+use Rattle.py_token.specs.Lexemes.{belongs, digits_after, name_at, number_at, text_at, operator_at, lexeme_at}
 use Rattle.py_token.specs.Bodies.{IsWithin}
 use Rattle.py_token.proofs.Bytes.{prefix_len-le}
 use Rattle.py_token.proofs.Escapes.{eqb_is}
@@ -55,7 +55,7 @@ cond_le : (b : Bool) (m n k : ℕ) → m ≤ k → n ≤ k → cond b m n ≤ k
 cond_le true m n k hm hn = hm
 cond_le false m n k hm hn = hn
 
-digits_within : (first : ℕ) (bytes : List ℕ) → digits_behind first bytes ≤ length bytes
+digits_within : (first : ℕ) (bytes : List ℕ) → digits_after first bytes ≤ length bytes
 digits_within first [] = omega arith
 digits_within first (c ∷ []) = cond_le (belongs first c) 1 0 _ (omega arith) (omega arith)
 digits_within first (c ∷ d ∷ rest) =

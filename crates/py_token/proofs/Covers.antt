@@ -45,16 +45,16 @@ tile_stands : (code front : List ℕ) (at : ℕ) (t : Token) (bytes : List ℕ) 
 tile_stands code front at t bytes tile is long =
     let split : code ≡ front ++ (tile.gap ++ (tile.spelling ++ tile.rest)) = is ∙ ap (λ b. front ++ b) tile.parts in
     let whole : length code ≡ length front + (length tile.gap + (length tile.spelling + length tile.rest)) = ap length split ∙ length-append front _ ∙ ap (λ n. length front + n) (length-append tile.gap _ ∙ ap (λ n. length tile.gap + n) (length-append tile.spelling tile.rest)) in
-    let behind : drop at code ≡ tile.gap ++ (tile.spelling ++ tile.rest) = ap (drop at) split ∙ drop_at front _ at long in
+    let after : drop at code ≡ tile.gap ++ (tile.spelling ++ tile.rest) = ap (drop at) split ∙ drop_at front _ at long in
     let joined : code ≡ (front ++ tile.gap) ++ (tile.spelling ++ tile.rest) = split ∙ sym (append_assoc front tile.gap _) in
     let place : length (front ++ tile.gap) ≡ t.start = length-append front tile.gap ∙ ap (λ n. n + length tile.gap) long ∙ sym tile.start in
     let there : drop t.start code ≡ tile.spelling ++ tile.rest = ap (drop t.start) joined ∙ drop_at (front ++ tile.gap) _ t.start place in
     let gap_width : t.start - at ≡ length tile.gap = omega (arith, tile.start) in
     let width : t.end - t.start ≡ length tile.spelling = omega (arith, tile.stop) in
-    let gap_is : take (t.start - at) (drop at code) ≡ tile.gap = ap (λ n. take n (drop at code)) gap_width ∙ ap (take (length tile.gap)) behind ∙ take-append_seam tile.gap _ in
+    let gap_is : take (t.start - at) (drop at code) ≡ tile.gap = ap (λ n. take n (drop at code)) gap_width ∙ ap (take (length tile.gap)) after ∙ take-append_seam tile.gap _ in
     let spelling_is : take (t.end - t.start) (drop t.start code) ≡ tile.spelling = ap (λ n. take n (drop t.start code)) width ∙ ap (take (length tile.spelling)) there ∙ take-append_seam tile.spelling tile.rest in
     record {
-      behind = omega (arith, tile.start);
+      after = omega (arith, tile.start);
       ordered = omega (arith, tile.stop);
       within = omega (arith, tile.start, tile.stop);
       blank = subst (λ g. Blank g (drop t.start code)) (sym gap_is) (subst (Blank tile.gap) (sym there) tile.blank);
@@ -197,10 +197,10 @@ stops p (x ∷ xs) = by_first (p x) refl (stops p xs)
     by_first true e inner = rw one-add inner
     by_first false e inner = e
 
-comment_more : (c : ℕ) (rest : List ℕ) → c ≡ 35 → (gap behind : List ℕ) → drop (prefix_len in_comment rest) rest ≡ gap ++ behind → Blank gap behind
-    → Blank ((c ∷ take (prefix_len in_comment rest) rest) ++ gap) behind
-comment_more c rest at gap behind is blank =
-    subst (λ k. Blank ((k ∷ take (prefix_len in_comment rest) rest) ++ gap) behind) (sym at)
+comment_more : (c : ℕ) (rest : List ℕ) → c ≡ 35 → (gap after : List ℕ) → drop (prefix_len in_comment rest) rest ≡ gap ++ after → Blank gap after
+    → Blank ((c ∷ take (prefix_len in_comment rest) rest) ++ gap) after
+comment_more c rest at gap after is blank =
+    subst (λ k. Blank ((k ∷ take (prefix_len in_comment rest) rest) ++ gap) after) (sym at)
     (comment (take (prefix_len in_comment rest) rest) (front_passes in_comment rest) (ap (λ b. not (next_is in_comment b)) (sym is) ∙ ap not (stops in_comment rest)) blank)
 
 -- what a turn says of the bytes that it takes

@@ -1,10 +1,10 @@
 -- The last token, and the place of a fault.
-use Rattle.std.proofs.Common.{◌≡◌, ℕ, zero, suc, pred, ◌+◌, ◌-◌, ◌<◌, Bool, true, false, cond, eqb, ltb, List, [], ◌∷◌, ◌++◌, length, drop, Option, Some, None, Result, Ok, Err, refl, sym, ap, ◌∙◌, subst, append_assoc, arith}
+use Rattle.std.proofs.Common.{◌&&◌, ◌≡◌, ℕ, zero, suc, pred, ◌+◌, ◌-◌, ◌<◌, Bool, true, false, cond, eqb, ltb, List, [], ◌∷◌, ◌++◌, length, drop, Option, Some, None, Result, Ok, Err, refl, sym, ap, ◌∙◌, subst, append_assoc, arith}
 use Rattle.std.specs.List.{prefix_len}
 use Rattle.std.specs.Char.{is_ascii_digit}
 use Rattle.py_names.specs.Names.{begins_name, continues_name}
 use Rattle.py_token.specs.declared.kinds.Kind.TheVariants.{End}
-use Rattle.py_token.specs.declared.kinds.Op as operator
+use Rattle.py_token.specs.declared.kinds.Symbol as operator
 use Rattle.py_token.specs.declared.kinds.Token.{Token}
 use Rattle.py_token.specs.declared.faults.TokenFault.{TokenFault}
 use Rattle.py_token.specs.declared.faults.TokenFault.TheVariants.{BadChar, OpenText, BadIndent, Tab, WideNumber, LongName}
@@ -18,7 +18,7 @@ use Rattle.py_token.specs.declared.pieces.Body.{Body}
 use Rattle.py_token.specs.declared.pieces.Body.TheVariants.{Closed, Unclosed, Spoiled}
 use Rattle.py_token.specs.Spellings.{is_quote}
 use Rattle.py_token.specs.Lexemes.{next_is, name_at, follows_no_number, number_width, number_at, body, text_of, text_at, operator_lexeme, operator_at, lexeme_at, ends_line}
-use Rattle.py_token.specs.Lines.{token, ends_block, shallower, indented, begun, is_deeper, placed, passed, line_ended, with_tab, without_tab, lone, turn, closing, last_newline, before, followed, read, start, tokens_of}
+use Rattle.py_token.specs.Lines.{token, ends_block, shallower, indented, begun, is_deeper, placed, passed, line_ended, with_tab, without_tab, turn, closing, last_newline, before, followed, read, start, tokens_of}
 use Rattle.py_token.specs.declared.faults.TokenError.{TokenError}
 use Rattle.py_token.specs.declared.faults.TokenError.TheVariants.{OutOfMemory, Fault}
 use Rattle.py_token.specs.Gives.{Fails, AtFault}
@@ -111,7 +111,7 @@ text_fault : (at c : ℕ) (rest : List ℕ) (f : TokenFault) → text_at at c re
 unfolding text_at
 text_fault at c rest f h = text_fault_by at c rest (body c zero rest) f (body_within c zero rest) h
 
-operator_fault_by : (at n : ℕ) (o : Option operator.Op) (f : TokenFault) → operator_lexeme at o ≡ Err f → at < n → place f < n
+operator_fault_by : (at n : ℕ) (o : Option operator.Symbol) (f : TokenFault) → operator_lexeme at o ≡ Err f → at < n → place f < n
 operator_fault_by at n None f h p = by_place {A = Lexeme} (BadChar at) f n h p
 operator_fault_by at n (Some p) f h q = cc
 
@@ -174,11 +174,6 @@ placed_fault at n line (Err g) r f h p q = p (ap Err (fault_same {A = Turn} g f 
 placed_fault at n line (Ok e) (Err g) f h p q = q (ap Err (fault_same {A = Turn} g f h))
 placed_fault at n line (Ok e) (Ok l) f h p q = cc
 
-lone_place : (at n : ℕ) (spot : Spot) → TabBefore at spot → at < n → place (lone at spot) < n
-lone_place at n (Start from (Some tab)) t p = omega arith
-lone_place at n (Start from None) t p = p
-lone_place at n Inside t p = p
-
 line_fault : (at : ℕ) (line : Line) (spot : Spot) (f : TokenFault) → line_ended at line spot ≡ Err f → ⊥
 line_fault at line (Start from tab) f h = cc
 line_fault at line Inside f h = by_brackets (eqb line.brackets 0) _ _ h
@@ -187,22 +182,21 @@ line_fault at line Inside f h = by_brackets (eqb line.brackets 0) _ _ h
     by_brackets true t u e = cc
     by_brackets false t u e = cc
 
-turn_fault_by : (b1 b2 b3 b4 b5 e : Bool) (l1 l2 l3 : Line) (w : ℕ) (r4 r6 : Result Turn TokenFault) (g f : TokenFault) (n : ℕ)
-    → (r4 ≡ Err f → ⊥) → place g < n → (r6 ≡ Err f → place f < n)
-    → cond b1 (passed 1 l1) (cond b2 (passed 1 l2) (cond b3 (passed w l3) (cond b4 r4 (cond b5 (cond e (passed 1 l1) (Err g)) r6)))) ≡ Err f → place f < n
-turn_fault_by true b2 b3 b4 b5 e l1 l2 l3 w r4 r6 g f n p4 p5 p6 h = cc
-turn_fault_by false true b3 b4 b5 e l1 l2 l3 w r4 r6 g f n p4 p5 p6 h = cc
-turn_fault_by false false true b4 b5 e l1 l2 l3 w r4 r6 g f n p4 p5 p6 h = cc
-turn_fault_by false false false true b5 e l1 l2 l3 w r4 r6 g f n p4 p5 p6 h = absurd (p4 h)
-turn_fault_by false false false false true true l1 l2 l3 w r4 r6 g f n p4 p5 p6 h = cc
-turn_fault_by false false false false true false l1 l2 l3 w r4 r6 g f n p4 p5 p6 h = by_place {A = Turn} g f n h p5
-turn_fault_by false false false false false e l1 l2 l3 w r4 r6 g f n p4 p5 p6 h = p6 h
+turn_fault_by : (b1 b2 b3 b4 b5 e : Bool) (l1 l2 l3 : Line) (w : ℕ) (r4 r6 : Result Turn TokenFault) (f : TokenFault) (n : ℕ)
+    → (r4 ≡ Err f → ⊥) → (r6 ≡ Err f → place f < n)
+    → cond b1 (passed 1 l1) (cond b2 (passed 1 l2) (cond b3 (passed w l3) (cond b4 r4 (cond (b5 && e) (passed 1 l1) r6)))) ≡ Err f → place f < n
+turn_fault_by true b2 b3 b4 b5 e l1 l2 l3 w r4 r6 f n p4 p6 h = cc
+turn_fault_by false true b3 b4 b5 e l1 l2 l3 w r4 r6 f n p4 p6 h = cc
+turn_fault_by false false true b4 b5 e l1 l2 l3 w r4 r6 f n p4 p6 h = cc
+turn_fault_by false false false true b5 e l1 l2 l3 w r4 r6 f n p4 p6 h = absurd (p4 h)
+turn_fault_by false false false false true true l1 l2 l3 w r4 r6 f n p4 p6 h = cc
+turn_fault_by false false false false true false l1 l2 l3 w r4 r6 f n p4 p6 h = p6 h
+turn_fault_by false false false false false e l1 l2 l3 w r4 r6 f n p4 p6 h = p6 h
 
 turn_fault : (at : ℕ) (line : Line) (c : ℕ) (rest : List ℕ) (f : TokenFault) → turn at line (c ∷ rest) ≡ Err f → TabBefore at line.spot → place f < at + suc (length rest)
 unfolding turn
 turn_fault at line c rest f h t =
-    turn_fault_by (eqb c 32) (eqb c 9) (eqb c 35) (eqb c 10) (eqb c 13) (ends_line rest) line _ _ _ _ _ _ f _ (line_fault at line line.spot f)
-    (lone_place at _ line.spot t (omega arith))
+    turn_fault_by (eqb c 32) (eqb c 9) (eqb c 35) (eqb c 10) (eqb c 13) (ends_line rest) line _ _ _ _ _ f _ (line_fault at line line.spot f)
     (λ e. placed_fault at _ line _ _ f e (λ d. begun_fault at _ line.spot line.depths f d t (omega arith)) (lexeme_fault at c rest f)) h
 
 with_tab_before : (at : ℕ) (spot : Spot) → TabBefore at spot → TabBefore (suc at) (with_tab at spot)

@@ -5,8 +5,8 @@ use Rattle.std.specs.List.{starts_with, prefix_len}
 use Rattle.std.specs.Char.{is_ascii_digit}
 use Rattle.py_names.specs.Names.{begins_name, continues_name}
 use Rattle.py_token.specs.declared.kinds.Kind.{Kind}
-use Rattle.py_token.specs.declared.kinds.Kind.TheVariants.{Number, Text, Op}
-use Rattle.py_token.specs.declared.kinds.Op as operator
+use Rattle.py_token.specs.declared.kinds.Kind.TheVariants.{Number, Text, Symbol}
+use Rattle.py_token.specs.declared.kinds.Symbol as operator
 use Rattle.py_token.specs.declared.faults.TokenFault.{TokenFault}
 use Rattle.py_token.specs.declared.lines.Lexeme.{Lexeme}
 use Rattle.py_token.specs.declared.pieces.Body.{Body}
@@ -55,12 +55,12 @@ pub text_ok : (at quote : ℕ) (rest : List ℕ) (l : Lexeme) → text_at at quo
 unfolding text_at
 text_ok at quote rest l h = text_by at (quote ∷ rest) (body quote zero rest) l h
 
-operator_by : (at : ℕ) (o : Option operator.Op) (l : Lexeme) → operator_lexeme at o ≡ Ok l → (p : operator.Op) × (o ≡ Some p) × (record { kind = Op p; width = length (sign p) } ≡ l)
+operator_by : (at : ℕ) (o : Option operator.Symbol) (l : Lexeme) → operator_lexeme at o ≡ Ok l → (p : operator.Symbol) × (o ≡ Some p) × (record { kind = Symbol p; width = length (sign p) } ≡ l)
 operator_by at None l h = cc
 operator_by at (Some p) l h = (p, refl, ok_same _ l h)
 
 pub operator_ok : (at : ℕ) (bytes : List ℕ) (l : Lexeme) → operator_at at bytes ≡ Ok l
-    → (p : operator.Op) × (find (λ o. starts_with nat_eq bytes (sign o)) operators ≡ Some p) × (record { kind = Op p; width = length (sign p) } ≡ l)
+    → (p : operator.Symbol) × (find (λ o. starts_with nat_eq bytes (sign o)) operators ≡ Some p) × (record { kind = Symbol p; width = length (sign p) } ≡ l)
 unfolding operator_at
 operator_ok at bytes l h = operator_by at _ l h
 

@@ -1,5 +1,5 @@
 -- Reading on, turn by turn.
-use Rattle.std.proofs.Common.{◌≡◌, ℕ, zero, suc, pred, ◌+◌, ◌-◌, ◌<◌, ◌≤◌, Bool, true, false, cond, eqb, List, [], ◌∷◌, ◌++◌, length, take, drop, get_or, Result, Ok, Err, refl, sym, ap, ◌∙◌, subst, append_assoc, arith, length-drop, IsUtf8, take-append-drop}
+use Rattle.std.proofs.Common.{◌&&◌, ◌≡◌, ℕ, zero, suc, pred, ◌+◌, ◌-◌, ◌<◌, ◌≤◌, Bool, true, false, cond, eqb, List, [], ◌∷◌, ◌++◌, length, take, drop, get_or, Result, Ok, Err, refl, sym, ap, ◌∙◌, subst, append_assoc, arith, length-drop, IsUtf8, take-append-drop}
 use Rattle.std.proofs.lemmas.List.{drop-drop, drop_all, take_rest}
 use Rattle.std.proofs.Math.Seq.{drop-cons}
 use Rattle.std.specs.List.{prefix_len}
@@ -8,8 +8,8 @@ use Rattle.py_token.specs.declared.kinds.Kind.{Kind}
 use Rattle.py_token.specs.declared.faults.TokenFault.{TokenFault}
 use Rattle.py_token.specs.declared.lines.Line.{Line}
 use Rattle.py_token.specs.declared.lines.Turn.{Turn}
-use Rattle.py_token.specs.declared.kinds.Kind.TheVariants.{Op, Newline}
-use Rattle.py_token.specs.declared.kinds.Op.TheVariants as o
+use Rattle.py_token.specs.declared.kinds.Kind.TheVariants.{Symbol, Newline}
+use Rattle.py_token.specs.declared.kinds.Symbol.TheVariants as o
 use Rattle.py_token.specs.declared.lines.Depths.{Depths}
 use Rattle.py_token.specs.declared.lines.Lexeme.{Lexeme}
 use Rattle.py_token.specs.declared.lines.Spot.{Spot}
@@ -46,17 +46,17 @@ same_turn : (t u : Turn) → ◌≡◌ {A = Result Turn TokenFault} (Ok t) (Ok u
 same_turn t u h = cc
 
 -- by the first byte
-turn_by : (P : Turn → Type 0) (b1 b2 b3 b4 b5 e : Bool) (l1 l2 l3 : Line) (w : ℕ) (r4 r6 : Result Turn TokenFault) (f : TokenFault) (t : Turn)
+turn_by : (P : Turn → Type 0) (b1 b2 b3 b4 b5 e : Bool) (l1 l2 l3 : Line) (w : ℕ) (r4 r6 : Result Turn TokenFault) (t : Turn)
     → (b1 ≡ true → P (quiet 1 l1)) → (b2 ≡ true → P (quiet 1 l2)) → (b3 ≡ true → P (quiet w l3)) → (b4 ≡ true → r4 ≡ Ok t → P t)
     → (b5 ≡ true → e ≡ true → P (quiet 1 l1)) → (r6 ≡ Ok t → P t)
-    → cond b1 (passed 1 l1) (cond b2 (passed 1 l2) (cond b3 (passed w l3) (cond b4 r4 (cond b5 (cond e (passed 1 l1) (Err f)) r6)))) ≡ Ok t → P t
-turn_by P true b2 b3 b4 b5 e l1 l2 l3 w r4 r6 f t p1 p2 p3 p4 p5 p6 h = subst P (same_turn _ t h) (p1 refl)
-turn_by P false true b3 b4 b5 e l1 l2 l3 w r4 r6 f t p1 p2 p3 p4 p5 p6 h = subst P (same_turn _ t h) (p2 refl)
-turn_by P false false true b4 b5 e l1 l2 l3 w r4 r6 f t p1 p2 p3 p4 p5 p6 h = subst P (same_turn _ t h) (p3 refl)
-turn_by P false false false true b5 e l1 l2 l3 w r4 r6 f t p1 p2 p3 p4 p5 p6 h = p4 refl h
-turn_by P false false false false true true l1 l2 l3 w r4 r6 f t p1 p2 p3 p4 p5 p6 h = subst P (same_turn _ t h) (p5 refl refl)
-turn_by P false false false false true false l1 l2 l3 w r4 r6 f t p1 p2 p3 p4 p5 p6 h = cc
-turn_by P false false false false false e l1 l2 l3 w r4 r6 f t p1 p2 p3 p4 p5 p6 h = p6 h
+    → cond b1 (passed 1 l1) (cond b2 (passed 1 l2) (cond b3 (passed w l3) (cond b4 r4 (cond (b5 && e) (passed 1 l1) r6)))) ≡ Ok t → P t
+turn_by P true b2 b3 b4 b5 e l1 l2 l3 w r4 r6 t p1 p2 p3 p4 p5 p6 h = subst P (same_turn _ t h) (p1 refl)
+turn_by P false true b3 b4 b5 e l1 l2 l3 w r4 r6 t p1 p2 p3 p4 p5 p6 h = subst P (same_turn _ t h) (p2 refl)
+turn_by P false false true b4 b5 e l1 l2 l3 w r4 r6 t p1 p2 p3 p4 p5 p6 h = subst P (same_turn _ t h) (p3 refl)
+turn_by P false false false true b5 e l1 l2 l3 w r4 r6 t p1 p2 p3 p4 p5 p6 h = p4 refl h
+turn_by P false false false false true true l1 l2 l3 w r4 r6 t p1 p2 p3 p4 p5 p6 h = subst P (same_turn _ t h) (p5 refl refl)
+turn_by P false false false false true false l1 l2 l3 w r4 r6 t p1 p2 p3 p4 p5 p6 h = p6 h
+turn_by P false false false false false e l1 l2 l3 w r4 r6 t p1 p2 p3 p4 p5 p6 h = p6 h
 
 pub turn_ok : (P : Turn → Type 0) (at : ℕ) (line : Line) (c : ℕ) (rest : List ℕ) (t : Turn)
     → (eqb c 32 ≡ true → P (quiet 1 line)) → (eqb c 9 ≡ true → P (quiet 1 (at_spot (with_tab at line.spot) line)))
@@ -64,7 +64,7 @@ pub turn_ok : (P : Turn → Type 0) (at : ℕ) (line : Line) (c : ℕ) (rest : L
     → (eqb c 10 ≡ true → line_ended at line line.spot ≡ Ok t → P t) → (eqb c 13 ≡ true → ends_line rest ≡ true → P (quiet 1 line))
     → (placed at line (begun at line.spot line.depths) (lexeme_at at (c ∷ rest)) ≡ Ok t → P t) → turn at line (c ∷ rest) ≡ Ok t → P t
 unfolding turn
-turn_ok P at line c rest t p1 p2 p3 p4 p5 p6 h = turn_by P (eqb c 32) (eqb c 9) (eqb c 35) (eqb c 10) (eqb c 13) (ends_line rest) line _ _ _ _ _ _ t p1 p2 p3 p4 p5 p6 h
+turn_ok P at line c rest t p1 p2 p3 p4 p5 p6 h = turn_by P (eqb c 32) (eqb c 9) (eqb c 35) (eqb c 10) (eqb c 13) (ends_line rest) line _ _ _ _ _ t p1 p2 p3 p4 p5 p6 h
 
 -- a line's end
 pub line_ok : (P : Turn → Type 0) (at : ℕ) (line : Line) (spot : Spot) (t : Turn)
@@ -89,12 +89,12 @@ placed_ok at line (Ok e) (Err f) t h = cc
 placed_ok at line (Ok e) (Ok l) t h = (e, l, refl, refl, same_turn _ t h)
 
 brackets_few : (k : Kind) (n : ℕ) → brackets_after k n ≤ n + 1
-brackets_few (Op o.OpenParenthesis) n = omega arith
-brackets_few (Op o.OpenBracket) n = omega arith
-brackets_few (Op o.OpenBrace) n = omega arith
-brackets_few (Op o.CloseParenthesis) n = omega arith
-brackets_few (Op o.CloseBracket) n = omega arith
-brackets_few (Op o.CloseBrace) n = omega arith
+brackets_few (Symbol o.OpenParenthesis) n = omega arith
+brackets_few (Symbol o.OpenBracket) n = omega arith
+brackets_few (Symbol o.OpenBrace) n = omega arith
+brackets_few (Symbol o.CloseParenthesis) n = omega arith
+brackets_few (Symbol o.CloseBracket) n = omega arith
+brackets_few (Symbol o.CloseBrace) n = omega arith
 brackets_few _ n = omega arith
 
 pub turn_is : (at : ℕ) (line : Line) (bytes : List ℕ) (t : Turn) → 0 < length bytes → turn at line bytes ≡ Ok t → IsTurn line bytes t

@@ -17,7 +17,7 @@ use Rattle.py_token.specs.declared.pieces.Piece.TheVariants.{Quote, LineEnd, Bad
 use Rattle.py_token.specs.declared.pieces.Body.{Body}
 use Rattle.py_token.specs.declared.pieces.Body.TheVariants.{Closed, Unclosed, Spoiled}
 use Rattle.py_token.specs.Spellings.{word, keywords, sign, operators, are_digits, decimal, is_quote, escape, is_plain, Writes, nothing, plain, escaped, Spells}
-use Rattle.py_token.specs.Lexemes.{keyword_of, named, name_at, belongs, digits_behind, number_at, piece, behind, spoil, follow, body, text_at, operator_at, lexeme_at}
+use Rattle.py_token.specs.Lexemes.{keyword_of, named, name_at, belongs, digits_after, number_at, piece, after, spoil, follow, body, text_at, operator_at, lexeme_at}
 use Rattle.py_token.proofs.Escapes.{eqb_is, IsEscape, piece_escaped, piece_plain, piece_quote}
 use Rattle.py_token.proofs.Bounds.{same_bytes, found_passes, name_longer}
 use Rattle.py_token.proofs.Inverted.{name_ok, number_ok, text_ok, operator_ok, lexeme_ok, no_lexeme}
@@ -108,11 +108,11 @@ two_taken true u d c e n m rest hd hb hu one two = then_second (is_ascii_digit d
 two_taken false true d c e n m rest hd hb hu one two = then_first (is_ascii_digit d) (eqb c 95) _ _ hd (hu refl).0 (two (hu refl).1)
 two_taken false false d c e n m rest hd hb hu one two = hd
 
-digits_taken : (first d : ℕ) (rest : List ℕ) → is_ascii_digit d ≡ true → are_digits (d ∷ take (digits_behind first rest) rest) ≡ true
+digits_taken : (first d : ℕ) (rest : List ℕ) → is_ascii_digit d ≡ true → are_digits (d ∷ take (digits_after first rest) rest) ≡ true
 digits_taken first d [] h = h
 digits_taken first d (c ∷ []) h = one_taken (belongs first c) d c h (digit_belongs first c)
 digits_taken first d (c ∷ e ∷ rest) h =
-    two_taken (belongs first c) (eqb c 95 && belongs first e) d c e (digits_behind first (e ∷ rest)) (digits_behind first rest) rest h (digit_belongs first c)
+    two_taken (belongs first c) (eqb c 95 && belongs first e) d c e (digits_after first (e ∷ rest)) (digits_after first rest) rest h (digit_belongs first c)
     (λ u. (and_first _ _ u, digit_belongs first e (and_second (eqb c 95) _ u))) (digits_taken first c (e ∷ rest)) (digits_taken first e rest)
 
 abbrev written : ℕ → ℕ → ℕ
@@ -135,13 +135,13 @@ two_zeros false true c e n m rest hb hu one two =
     ap (λ k. fold written (written k e) (take m rest)) (none_written c (and_first _ _ hu)) ∙ ap (λ k. fold written k (take m rest)) (zero_written e (and_second (eqb c 95) _ hu)) ∙ two
 two_zeros false false c e n m rest hb hu one two = refl
 
-zeros_taken : (rest : List ℕ) → decimal (take (digits_behind 48 rest) rest) ≡ 0
+zeros_taken : (rest : List ℕ) → decimal (take (digits_after 48 rest) rest) ≡ 0
 zeros_taken [] = refl
 zeros_taken (c ∷ []) = one_zero (eqb c 48) c refl
-zeros_taken (c ∷ e ∷ rest) = two_zeros (eqb c 48) (eqb c 95 && eqb e 48) c e (digits_behind 48 (e ∷ rest)) (digits_behind 48 rest) rest refl refl (zeros_taken (e ∷ rest)) (zeros_taken rest)
+zeros_taken (c ∷ e ∷ rest) = two_zeros (eqb c 48) (eqb c 95 && eqb e 48) c e (digits_after 48 (e ∷ rest)) (digits_after 48 rest) rest refl refl (zeros_taken (e ∷ rest)) (zeros_taken rest)
 
-leads_by : (b : Bool) (c : ℕ) (rest : List ℕ) → eqb c 48 ≡ b → (c ≢ 48) ⊎ (decimal (take (digits_behind c rest) rest) ≡ 0)
-leads_by true c rest h = inr (ap (λ k. decimal (take (digits_behind k rest) rest)) (eqb_is c 48 h) ∙ zeros_taken rest)
+leads_by : (b : Bool) (c : ℕ) (rest : List ℕ) → eqb c 48 ≡ b → (c ≢ 48) ⊎ (decimal (take (digits_after c rest) rest) ≡ 0)
+leads_by true c rest h = inr (ap (λ k. decimal (take (digits_after k rest) rest)) (eqb_is c 48 h) ∙ zeros_taken rest)
 leads_by false c rest h = inl (λ e. let same = ap (λ k. eqb k 48) e in cc)
 
 below : (m v : ℕ) → leb m v ≡ false → v < m
@@ -159,24 +159,24 @@ number_spells at c rest l first h =
 
 -- ---- texts
 
--- those bytes, and then the closing quote behind what writes the value
+-- those bytes, and then the closing quote after what writes the value
 abbrev IfWritten : ℕ → List ℕ → List ℕ → Body → Type 0
 IfWritten quote front bytes Unclosed = Unit {0}
 IfWritten quote front bytes (Spoiled n) = Unit {0}
 IfWritten quote front bytes (Closed value width) = (inner : List ℕ) × (take width bytes ≡ front ++ (inner ++ quote ∷ [])) × Writes quote inner value
 
-skip_written : (quote c : ℕ) (front rest : List ℕ) (b : Body) → IfWritten quote front rest b → IfWritten quote (c ∷ front) (c ∷ rest) (behind [] b)
+skip_written : (quote c : ℕ) (front rest : List ℕ) (b : Body) → IfWritten quote front rest b → IfWritten quote (c ∷ front) (c ∷ rest) (after [] b)
 skip_written quote c front rest Unclosed h = tt
 skip_written quote c front rest (Spoiled n) h = tt
 skip_written quote c front rest (Closed value width) h = (h.0, ap (λ r. c ∷ r) h.1, h.2)
 
-plain_written : (quote c d : ℕ) (rest : List ℕ) (b : Body) → d ≡ c → is_plain quote c ≡ true → IfWritten quote [] rest b → IfWritten quote [] (c ∷ rest) (behind (d ∷ []) b)
+plain_written : (quote c d : ℕ) (rest : List ℕ) (b : Body) → d ≡ c → is_plain quote c ≡ true → IfWritten quote [] rest b → IfWritten quote [] (c ∷ rest) (after (d ∷ []) b)
 plain_written quote c d rest Unclosed e p h = tt
 plain_written quote c d rest (Spoiled n) e p h = tt
 plain_written quote c d rest (Closed value width) e p h = (c ∷ h.0, ap (λ r. c ∷ r) h.1, subst (λ k. Writes quote (c ∷ h.0) (k ∷ value)) (sym e) (plain p h.2))
 
 escape_written : (quote c : ℕ) (rest : List ℕ) (e : Escape) (b : Body) → c ≡ 92 → IsEscape rest e → IfWritten quote (take e.width rest) rest b
-    → IfWritten quote [] (c ∷ rest) (behind (encode_utf8 e.character) b)
+    → IfWritten quote [] (c ∷ rest) (after (encode_utf8 e.character) b)
 escape_written quote c rest e Unclosed at is h = tt
 escape_written quote c rest e (Spoiled n) at is h = tt
 escape_written quote c rest e (Closed value width) at is h =

@@ -21,9 +21,9 @@ pub data Blank : List ℕ → List ℕ → Type 0 where
   comment : (words : List ℕ) {gap rest : List ℕ} → IsTrue (list_all in_comment words) → IsTrue (not (next_is in_comment (gap ++ rest))) → Blank gap rest
       → Blank (35 ∷ words ++ gap) rest
 
--- the next token behind a place: its span lies there within the text and spells it, and what is between is blank
+-- the next token after a place: its span lies there within the text and spells it, and what is between is blank
 pub record Stands (code : List ℕ) (from : ℕ) (t : Token) : Type 0 where
-  pub behind : from ≤ t.start
+  pub after : from ≤ t.start
   pub ordered : t.start ≤ t.end
   pub within : t.end ≤ length code
   pub blank : Blank (slice_range code from t.start) (drop t.start code)

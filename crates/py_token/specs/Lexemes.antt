@@ -4,9 +4,9 @@ use Rattle.std.specs.List.{starts_with, prefix_len}
 use Rattle.std.specs.Char.{is_ascii_digit}
 use Rattle.py_names.specs.Names.{begins_name, continues_name, same_text}
 use Rattle.py_token.specs.declared.kinds.Kind.{Kind}
-use Rattle.py_token.specs.declared.kinds.Kind.TheVariants.{Name, Number, Text, Keyword, Op}
+use Rattle.py_token.specs.declared.kinds.Kind.TheVariants.{Name, Number, Text, Keyword, Symbol}
 use Rattle.py_token.specs.declared.kinds.Keyword as keyword
-use Rattle.py_token.specs.declared.kinds.Op as operator
+use Rattle.py_token.specs.declared.kinds.Symbol as operator
 use Rattle.py_token.specs.declared.faults.TokenFault.{TokenFault}
 use Rattle.py_token.specs.declared.faults.TokenFault.TheVariants.{BadChar, OpenText, WideNumber, LongName}
 use Rattle.py_token.specs.declared.pieces.Escape.{Escape}
@@ -22,7 +22,7 @@ abbrev pub next_is : (ℕ → Bool) → List ℕ → Bool
 next_is p [] = false
 next_is p (c ∷ rest) = p c
 
--- a lexeme of that width, unless what stands directly behind it passes the test, which is then a bad character
+-- a lexeme of that width, unless what stands directly after it passes the test, which is then a bad character
 abbrev pub unless_next : (ℕ → Bool) → ℕ → List ℕ → ℕ → Kind → Result Lexeme TokenFault
 unless_next bad at bytes width kind =
     if next_is bad (drop width bytes) then Err (BadChar (at + width)) else Ok (record { kind = kind; width = width })
@@ -44,17 +44,17 @@ name_at at bytes =
 
 -- ---- numbers
 
--- behind a first 0 only 0s belong to its number
+-- after a first 0 only 0s belong to its number
 abbrev pub belongs : ℕ → ℕ → Bool
 belongs first c = if nat_eq first 48 then nat_eq c 48 else is_ascii_digit c
 
--- how many bytes of digits, with single underscores between them, stand behind such a first digit
-abbrev pub digits_behind : ℕ → List ℕ → ℕ
-digits_behind first [] = 0
-digits_behind first (c ∷ []) = if belongs first c then 1 else 0
-digits_behind first (c ∷ d ∷ rest) =
-    if belongs first c then suc (digits_behind first (d ∷ rest))
-    else (if nat_eq c 95 && belongs first d then suc (suc (digits_behind first rest)) else 0)
+-- how many bytes of digits, with single underscores between them, stand after such a first digit
+abbrev pub digits_after : ℕ → List ℕ → ℕ
+digits_after first [] = 0
+digits_after first (c ∷ []) = if belongs first c then 1 else 0
+digits_after first (c ∷ d ∷ rest) =
+    if belongs first c then suc (digits_after first (d ∷ rest))
+    else (if nat_eq c 95 && belongs first d then suc (suc (digits_after first rest)) else 0)
 
 abbrev pub follows_no_number : ℕ → Bool
 follows_no_number c = continues_name c || nat_eq c 46
@@ -62,7 +62,7 @@ follows_no_number c = continues_name c || nat_eq c 46
 -- 0s alone, or a digit 1 to 9 and digits
 abbrev pub number_width : List ℕ → ℕ
 number_width [] = 0
-number_width (c ∷ rest) = suc (digits_behind c rest)
+number_width (c ∷ rest) = suc (digits_after c rest)
 
 unfoldable pub number_at : ℕ → List ℕ → Result Lexeme TokenFault
 number_at at bytes =
@@ -79,7 +79,7 @@ abbrev pub escaped : Option Escape → Piece
 escaped None = Bad
 escaped (Some e) = Escaped e
 
--- what stands at a place between the quotes, by its first byte and the bytes behind it
+-- what stands at a place between the quotes, by its first byte and the bytes after it
 unfoldable pub piece : ℕ → ℕ → List ℕ → Piece
 piece quote c rest =
     if nat_eq c quote then Quote
@@ -89,10 +89,10 @@ piece quote c rest =
     else Plain c)))
 
 -- one more byte in front, which writes these
-abbrev pub behind : List ℕ → Body → Body
-behind written (Closed value width) = Closed (written ++ value) (suc width)
-behind written Unclosed = Unclosed
-behind written (Spoiled n) = Spoiled (suc n)
+abbrev pub after : List ℕ → Body → Body
+after written (Closed value width) = Closed (written ++ value) (suc width)
+after written Unclosed = Unclosed
+after written (Spoiled n) = Spoiled (suc n)
 
 -- a bad character in front
 abbrev pub spoil : Body → Body
@@ -104,13 +104,13 @@ abbrev pub follow : Piece → (ℕ → Body) → Body
 follow Quote next = Closed [] 1
 follow LineEnd next = Unclosed
 follow Bad next = spoil (next zero)
-follow (Plain c) next = behind (c ∷ []) (next zero)
-follow (Escaped e) next = behind (encode_utf8 e.character) (next e.width)
+follow (Plain c) next = after (c ∷ []) (next zero)
+follow (Escaped e) next = after (encode_utf8 e.character) (next e.width)
 
--- what stands behind an opening quote; the number counts the bytes of an escape that are passed over
+-- what stands after an opening quote; the number counts the bytes of an escape that are passed over
 unfoldable pub body : ℕ → ℕ → List ℕ → Body
 body quote skip [] = Unclosed
-body quote (suc n) (c ∷ rest) = behind [] (body quote n rest)
+body quote (suc n) (c ∷ rest) = after [] (body quote n rest)
 body quote zero (c ∷ rest) = follow (piece quote c rest) (λ n. body quote n rest)
 
 abbrev pub text_of : ℕ → List ℕ → Body → Result Lexeme TokenFault
@@ -123,9 +123,9 @@ text_at at quote rest = text_of at (quote ∷ rest) (body quote zero rest)
 
 -- ---- operators
 
-abbrev pub operator_lexeme : ℕ → Option operator.Op → Result Lexeme TokenFault
+abbrev pub operator_lexeme : ℕ → Option operator.Symbol → Result Lexeme TokenFault
 operator_lexeme at None = Err (BadChar at)
-operator_lexeme at (Some o) = Ok (record { kind = Op o; width = length (sign o) })
+operator_lexeme at (Some o) = Ok (record { kind = Symbol o; width = length (sign o) })
 
 unfoldable pub operator_at : ℕ → List ℕ → Result Lexeme TokenFault
 operator_at at bytes = operator_lexeme at (find (λ o. starts_with nat_eq bytes (sign o)) operators)

@@ -4,3 +4,4 @@ pub mod Lines
 pub mod Laws
 pub mod Gives
 pub mod Bodies
+pub mod Texts

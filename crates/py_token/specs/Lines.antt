@@ -1,9 +1,9 @@
 -- Lines, indentation and the whole text.
-use Rattle.std.specs.Prelude.{ℕ, zero, suc, pred, ◌+◌, ◌-◌, Bool, false, ◌||◌, not, nat_eq, nat_lt, if◌then◌else◌, List, [], ◌∷◌, ◌++◌, Some, None, Result, Ok, Err}
+use Rattle.std.specs.Prelude.{ℕ, zero, suc, pred, ◌+◌, ◌-◌, Bool, false, ◌&&◌, ◌||◌, not, nat_eq, nat_lt, if◌then◌else◌, List, [], ◌∷◌, ◌++◌, Some, None, Result, Ok, Err}
 use Rattle.std.specs.List.{prefix_len}
 use Rattle.py_token.specs.declared.kinds.Kind.{Kind}
-use Rattle.py_token.specs.declared.kinds.Kind.TheVariants.{Newline, Indent, Dedent, End, Op}
-use Rattle.py_token.specs.declared.kinds.Op.TheVariants.{OpenParenthesis, CloseParenthesis, OpenBracket, CloseBracket, OpenBrace, CloseBrace}
+use Rattle.py_token.specs.declared.kinds.Kind.TheVariants.{Newline, Indent, Dedent, End, Symbol}
+use Rattle.py_token.specs.declared.kinds.Symbol.TheVariants.{OpenParenthesis, CloseParenthesis, OpenBracket, CloseBracket, OpenBrace, CloseBrace}
 use Rattle.py_token.specs.declared.kinds.Token.{Token}
 use Rattle.py_token.specs.declared.faults.TokenFault.{TokenFault}
 use Rattle.py_token.specs.declared.faults.TokenFault.TheVariants.{BadChar, BadIndent, Tab}
@@ -51,12 +51,12 @@ begun at (Start from (Some tab)) depths = Err (Tab tab)
 
 -- brackets, whatever their kind
 abbrev pub brackets_after : Kind → ℕ → ℕ
-brackets_after (Op OpenParenthesis) n = n + 1
-brackets_after (Op OpenBracket) n = n + 1
-brackets_after (Op OpenBrace) n = n + 1
-brackets_after (Op CloseParenthesis) n = n - 1
-brackets_after (Op CloseBracket) n = n - 1
-brackets_after (Op CloseBrace) n = n - 1
+brackets_after (Symbol OpenParenthesis) n = n + 1
+brackets_after (Symbol OpenBracket) n = n + 1
+brackets_after (Symbol OpenBrace) n = n + 1
+brackets_after (Symbol CloseParenthesis) n = n - 1
+brackets_after (Symbol CloseBracket) n = n - 1
+brackets_after (Symbol CloseBrace) n = n - 1
 brackets_after _ n = n
 
 -- a token, with what it begins and ends of blocks
@@ -96,12 +96,6 @@ abbrev pub without_tab : Spot → Spot
 without_tab (Start from tab) = Start from None
 without_tab Inside = Inside
 
--- a CR that no LF follows
-abbrev pub lone : ℕ → Spot → TokenFault
-lone at (Start from (Some tab)) = Tab tab
-lone at (Start from None) = BadChar at
-lone at Inside = BadChar at
-
 abbrev pub in_comment : ℕ → Bool
 in_comment c = not (nat_eq c 10 || nat_eq c 13)
 
@@ -113,7 +107,7 @@ turn at line (c ∷ rest) =
     else (if nat_eq c 9 then passed 1 (at_spot (with_tab at line.spot) line)
     else (if nat_eq c 35 then passed (1 + prefix_len in_comment rest) (at_spot (without_tab line.spot) line)
     else (if nat_eq c 10 then line_ended at line line.spot
-    else (if nat_eq c 13 then (if ends_line rest then passed 1 line else Err (lone at line.spot))
+    else (if nat_eq c 13 && ends_line rest then passed 1 line
     else placed at line (begun at line.spot line.depths) (lexeme_at at (c ∷ rest))))))
 
 -- ---- the whole text

@@ -4,11 +4,11 @@ use Rattle.std.specs.Char.{is_ascii_digit, is_ascii_hexdigit, digit_value}
 use Rattle.py_names.specs.Names.{is_variable}
 use Rattle.py_token.specs.declared.pieces.Escape.{Escape}
 use Rattle.py_token.specs.declared.kinds.Kind.{Kind}
-use Rattle.py_token.specs.declared.kinds.Kind.TheVariants.{Name, Number, Text, Keyword, Op, Newline, Indent, Dedent, End}
+use Rattle.py_token.specs.declared.kinds.Kind.TheVariants.{Name, Number, Text, Keyword, Symbol, Newline, Indent, Dedent, End}
 use Rattle.py_token.specs.declared.kinds.Keyword as keyword
 use Rattle.py_token.specs.declared.kinds.Keyword.TheVariants as k
-use Rattle.py_token.specs.declared.kinds.Op as operator
-use Rattle.py_token.specs.declared.kinds.Op.TheVariants as o
+use Rattle.py_token.specs.declared.kinds.Symbol as operator
+use Rattle.py_token.specs.declared.kinds.Symbol.TheVariants as o
 
 -- ---- keywords and operators
 
@@ -55,7 +55,7 @@ keywords = k.False ∷ k.None ∷ k.True ∷ k.And ∷ k.As ∷ k.Assert ∷ k.A
     ∷ k.Except ∷ k.Finally ∷ k.For ∷ k.From ∷ k.Global ∷ k.If ∷ k.Import ∷ k.In ∷ k.Is ∷ k.Lambda ∷ k.Nonlocal ∷ k.Not ∷ k.Or ∷ k.Pass ∷ k.Raise ∷ k.Return
     ∷ k.Try ∷ k.While ∷ k.With ∷ k.Yield ∷ []
 
-abbrev pub sign : operator.Op → List ℕ
+abbrev pub sign : operator.Symbol → List ℕ
 sign o.FloorAssign = codes "//="
 sign o.PlusAssign = codes "+="
 sign o.MinusAssign = codes "-="
@@ -84,7 +84,7 @@ sign o.Comma = codes ","
 sign o.Dot = codes "."
 
 -- the longer spelling before its beginning
-unfoldable pub operators : List operator.Op
+unfoldable pub operators : List operator.Symbol
 operators = o.FloorAssign ∷ o.PlusAssign ∷ o.MinusAssign ∷ o.TimesAssign ∷ o.ModAssign ∷ o.Equal ∷ o.NotEqual ∷ o.AtMost ∷ o.AtLeast ∷ o.Floor ∷ o.Plus
     ∷ o.Minus ∷ o.Times ∷ o.Mod ∷ o.Less ∷ o.More ∷ o.Assign ∷ o.OpenParenthesis ∷ o.CloseParenthesis ∷ o.OpenBracket ∷ o.CloseBracket ∷ o.OpenBrace
     ∷ o.CloseBrace ∷ o.Colon ∷ o.Comma ∷ o.Dot ∷ []
@@ -117,7 +117,7 @@ hexadecimal (h ∷ l ∷ rest) =
     if is_ascii_hexdigit h && is_ascii_hexdigit l then Some (record { character = digit_value h * 16 + digit_value l; width = 3 }) else None
 hexadecimal _ = None
 
--- the character that a backslash and the bytes behind it stand for, and how many of these bytes it takes
+-- the character that a backslash and the bytes after it stand for, and how many of these bytes it takes
 abbrev pub escape : List ℕ → Option Escape
 escape [] = None
 escape (c ∷ rest) =
@@ -162,7 +162,7 @@ Spells (Keyword k) bytes = bytes ≡ word k
 Spells (Number (pos n)) bytes = SpellsNumber bytes n
 Spells (Number (negsuc n)) bytes = ⊥
 Spells (Text value) bytes = SpellsText bytes value
-Spells (Op o) bytes = bytes ≡ sign o
+Spells (Symbol o) bytes = bytes ≡ sign o
 Spells Newline bytes = (bytes ≡ 10 ∷ []) ⊎ (bytes ≡ [])
 Spells Indent bytes = bytes ≡ []
 Spells Dedent bytes = bytes ≡ []

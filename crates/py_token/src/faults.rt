@@ -1,4 +1,6 @@
 use std::alloc::AllocError;
+use std::error::Error;
+use std::fmt;
 
 /// Why a text has no tokens: what offends first, and the place of it as a byte offset.
 #[derive(Clone, Copy, Debug, PartialEq, Eq)]
@@ -17,6 +19,27 @@ pub enum TokenFault {
     LongName(u32),
 }
 
+/// What offends, and at which byte.
+impl fmt::Display for TokenFault {
+    ghost use Rattle.std.specs.Prelude.{Some};
+    ghost use Rattle.py_token.specs.Texts.{fault_text};
+
+    ghost output = { λ fault. Some (fault_text fault) };
+
+    fn fmt<W: fmt::Write>(&self, f: &mut fmt::Formatter<W>) -> fmt::Result {
+        match *self {
+            TokenFault::BadChar(at) => write!(f, "bad character at byte {at}"),
+            TokenFault::OpenText(at) => write!(f, "open text at byte {at}"),
+            TokenFault::BadIndent(at) => write!(f, "bad indent at byte {at}"),
+            TokenFault::Tab(at) => write!(f, "tab in indent at byte {at}"),
+            TokenFault::WideNumber(at) => write!(f, "number too wide at byte {at}"),
+            TokenFault::LongName(at) => write!(f, "name too long at byte {at}"),
+        }
+    }
+}
+
+impl Error for TokenFault {}
+
 /// Why `tokens` gives no tokens.
 #[derive(Clone, Copy, Debug, PartialEq, Eq)]
 pub enum TokenError {
@@ -34,3 +57,14 @@ impl From<AllocError> for TokenError {
         TokenError::OutOfMemory
     }
 }
+
+impl fmt::Display for TokenError {
+    fn fmt<W: fmt::Write>(&self, f: &mut fmt::Formatter<W>) -> fmt::Result {
+        match self {
+            TokenError::OutOfMemory => write!(f, "out of memory"),
+            TokenError::Fault(fault) => write!(f, "{fault}"),
+        }
+    }
+}
+
+impl Error for TokenError {}

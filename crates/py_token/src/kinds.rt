@@ -16,7 +16,7 @@ pub enum Kind {
     /// The characters of a text, its escapes replaced.
     Text(Text),
     Keyword(Keyword),
-    Op(Op),
+    Symbol(Symbol),
     /// The end of a line that holds tokens.
     Newline,
     /// The line begins a deeper block.
@@ -69,7 +69,7 @@ pub enum Keyword {
 
 /// An operator or a bracket, by its spelling.
 #[derive(Clone, Copy, Debug, PartialEq, Eq)]
-pub enum Op {
+pub enum Symbol {
     FloorAssign,
     PlusAssign,
     MinusAssign,

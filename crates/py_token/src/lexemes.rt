@@ -20,7 +20,7 @@ fn operator_at(at: u32, bytes: &[u8]) -> Result<Lexeme, TokenError>
 {
     match operator_of(bytes) {
         Some(op) => Ok(Lexeme {
-            kind: Kind::Op(op),
+            kind: Kind::Symbol(op),
             width: sign_width(op) as u32,
         }),
         None => Err(TokenError::Fault(TokenFault::BadChar(at))),

@@ -10,13 +10,11 @@ mod names;
 mod numbers;
 mod pieces;
 mod read;
-#[cfg(test)]
-mod tests;
 mod texts;
 mod turns;
 mod words;
 
 pub use faults::{TokenError, TokenFault};
-pub use kinds::{Keyword, Kind, Op, Token};
+pub use kinds::{Keyword, Kind, Symbol, Token};
 pub use read::tokens;
 pub use words::word;

@@ -6,7 +6,7 @@ use plain_data::{Items, Stack};
 pub enum Spot {
     /// Among the blanks at the line's start: the place where the line begins, and that of the first tab since.
     Start { from: u32, tab: Option<u32> },
-    /// Behind a token of the line, or inside brackets.
+    /// After a token of the line, or inside brackets.
     Inside,
 }
 

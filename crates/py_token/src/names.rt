@@ -11,7 +11,7 @@ use crate::kinds::Kind;
 use crate::lines::Lexeme;
 use crate::words::keyword_of;
 use plain_data::Text;
-use py_names::continues_name;
+use py_names::{MAX_NAME, continues_name};
 use std::alloc::{AllocError, Global};
 use std::str;
 
@@ -72,7 +72,7 @@ pub fn name_at(alloc: Global, at: u32, bytes: &[u8]) -> Result<Lexeme, TokenErro
     ensures { Gives result (name_at at bytes.now) }
 {
     let width = name_width(bytes);
-    if width > 255 {
+    if width > MAX_NAME {
         return Err(TokenError::Fault(TokenFault::LongName(at)));
     }
     if quote_follows(&bytes[width..]) {

@@ -1,6 +1,6 @@
 ghost use Rattle.std.specs.Prelude.{◌≡◌, ◌+◌, ◌-◌, ◌^◌, ◌<◌, ◌≤◌, zero, length, drop, min};
 ghost use Rattle.py_token.specs.Spellings.{decimal};
-ghost use Rattle.py_token.specs.Lexemes.{next_is, belongs, digits_behind, follows_no_number, number_width, number_at};
+ghost use Rattle.py_token.specs.Lexemes.{next_is, belongs, digits_after, follows_no_number, number_width, number_at};
 ghost use Rattle.py_token.specs.Gives.{Gives};
 
 use crate::faults::{TokenError, TokenFault};
@@ -21,8 +21,8 @@ fn belongs(first: u8, byte: u8) -> bool
 /// How many bytes carry the number on: a digit, an underscore and a digit, or none.
 fn next_digit(first: u8, bytes: &[u8]) -> usize
     ensures within { result ≤ length bytes.now }
-    ensures rest { digits_behind first bytes.now ≡ result + digits_behind first (drop result bytes.now) }
-    ensures none { result ≡ 0 → digits_behind first bytes.now ≡ 0 }
+    ensures rest { digits_after first bytes.now ≡ result + digits_after first (drop result bytes.now) }
+    ensures none { result ≡ 0 → digits_after first bytes.now ≡ 0 }
 {
     match bytes {
         [byte, ..] if belongs(first, *byte) => 1,
@@ -69,6 +69,9 @@ fn follows_no_number(bytes: &[u8]) -> bool
     }
 }
 
+/// One past the greatest number.
+const LIMIT: u128 = 1 << 127;
+
 /// The number at the front of the bytes, which stand at that place.
 #[tactic(auto, unfolding(crate::specs::Lexemes::number_at))]
 pub fn number_at(at: u32, bytes: &[u8]) -> Result<Lexeme, TokenError>
@@ -78,7 +81,7 @@ pub fn number_at(at: u32, bytes: &[u8]) -> Result<Lexeme, TokenError>
 {
     let width = number_width(bytes);
     let value = decimal(&bytes[..width]);
-    if value >= 1 << 127 {
+    if value >= LIMIT {
         return Err(TokenError::Fault(TokenFault::WideNumber(at)));
     }
     if follows_no_number(&bytes[width..]) {

@@ -1,13 +1,13 @@
 use plain_data::Items;
 
-/// The character that an escape stands for, and how many bytes it takes behind its backslash.
+/// The character that an escape stands for, and how many bytes it takes after its backslash.
 #[derive(Clone, Copy)]
 pub struct Escape {
     pub character: u8,
     pub width: usize,
 }
 
-/// What stands at a place behind an opening quote.
+/// What stands at a place after an opening quote.
 #[derive(Clone, Copy)]
 pub enum Piece {
     /// The closing quote.
@@ -21,7 +21,7 @@ pub enum Piece {
     Escaped(Escape),
 }
 
-/// What stands behind an opening quote.
+/// What stands after an opening quote.
 #[derive(Drop)]
 pub enum Body {
     /// The bytes that are written, and how many bytes there are up to the closing quote and with it.

@@ -42,9 +42,9 @@ fn start(alloc: Global) -> Result<Line, AllocError>
 /// bracket is open, the `Dedent`s and `End`.
 ///
 /// A name is a letter or `_`, then letters, digits and `_`, at most 255 bytes. A number is `0`s alone, or a digit 1 to 9
-/// and digits, with single `_` between digits, at most 2^127 - 1; no letter, digit, `_` or `.` may stand directly behind
+/// and digits, with single `_` between digits, at most 2^127 - 1; no letter, digit, `_` or `.` may stand directly after
 /// it. A text stands between two quotes of one sort on one line, with the escapes `\\`, `\'`, `\"`, `\n`, `\r`, `\t` and
-/// `\x` with two hexadecimal digits. No quote may stand directly behind a name or a text. Operators are read longest
+/// `\x` with two hexadecimal digits. No quote may stand directly after a name or a text. Operators are read longest
 /// first. Any other character is a fault; those past ASCII may stand in texts and comments.
 ///
 /// The fault that is reported is the one with the least place; at one place a wrong depth comes before a bad token.

@@ -71,7 +71,7 @@ fn escape(bytes: &[u8]) -> Option<Escape>
     }
 }
 
-/// What stands at a place behind an opening quote: this byte, and these behind it.
+/// What stands at a place after an opening quote: this byte, and these after it.
 #[tactic(auto, unfolding(crate::specs::Lexemes::piece))]
 fn piece(quote: u8, byte: u8, rest: &[u8]) -> Piece
     ensures { result ≡ piece quote byte rest.now }
@@ -106,7 +106,7 @@ fn push_character(written: &mut Items<u8>, character: u8) -> Result<(), AllocErr
     Ok(())
 }
 
-/// The closing quote comes, behind these bytes and this first bad character.
+/// The closing quote comes, after these bytes and this first bad character.
 fn closed(written: Items<u8>, bad: Option<usize>, width: usize) -> Body
     ensures { result ≡ closed written bad width }
 {
@@ -116,7 +116,7 @@ fn closed(written: Items<u8>, bad: Option<usize>, width: usize) -> Body
     }
 }
 
-/// What stands behind an opening quote.
+/// What stands after an opening quote.
 fn body(alloc: Global, quote: u8, bytes: &[u8]) -> Result<Body, AllocError>
     ensures value { IfOk result (λ found. found ≡ body quote zero bytes.now) }
     ensures within { IfOk result (λ found. IsWithin found (length bytes.now)) }
@@ -145,7 +145,7 @@ fn body(alloc: Global, quote: u8, bytes: &[u8]) -> Result<Body, AllocError>
     Ok(Body::Unclosed)
 }
 
-/// The text at the front of some bytes: its opening quote, which stands at that place, and the bytes behind it.
+/// The text at the front of some bytes: its opening quote, which stands at that place, and the bytes after it.
 #[tactic(auto, unfolding(crate::specs::Lexemes::text_at))]
 pub fn text_at(alloc: Global, at: u32, quote: u8, rest: &[u8]) -> Result<Lexeme, TokenError>
     requires ascii { quote < 128 }

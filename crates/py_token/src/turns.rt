@@ -1,13 +1,13 @@
 ghost use Rattle.std.specs.Prelude.{◌≡◌, ◌+◌, ◌≤◌, length, IfOk};
 ghost use Rattle.std.specs.List.{prefix_len};
 ghost use Rattle.py_token.specs.Lexemes.{lexeme_at};
-ghost use Rattle.py_token.specs.Lines.{passed, at_spot, next_line, line_ended, with_tab, without_tab, lone, in_comment, brackets_after, begun, placed, turn, ended, last_newline};
+ghost use Rattle.py_token.specs.Lines.{passed, at_spot, next_line, line_ended, with_tab, without_tab, in_comment, brackets_after, begun, placed, turn, ended, last_newline};
 ghost use Rattle.py_token.specs.Bodies.{EndsText};
 ghost use Rattle.py_token.specs.Gives.{Gives};
 
 use crate::blocks::{begun, close, token};
-use crate::faults::{TokenError, TokenFault};
-use crate::kinds::{Kind, Op, Token};
+use crate::faults::TokenError;
+use crate::kinds::{Kind, Symbol, Token};
 use crate::lexemes::lexeme_at;
 use crate::lines::{Depths, Lexeme, Line, Spot, Turn};
 use crate::texts::ends_line;
@@ -97,16 +97,6 @@ fn without_tab(spot: Spot) -> Spot
     }
 }
 
-/// The fault of a CR that no LF follows.
-fn lone(at: u32, spot: Spot) -> TokenFault
-    ensures { result ≡ lone at spot }
-{
-    match spot {
-        Spot::Start { tab: Some(tab), .. } => TokenFault::Tab(tab),
-        _ => TokenFault::BadChar(at),
-    }
-}
-
 #[tactic(auto, using(crate::proofs::Bytes::widths))]
 fn comment_width(bytes: &[u8]) -> usize
     ensures value { result ≡ prefix_len in_comment bytes.now }
@@ -123,8 +113,9 @@ fn brackets_after(kind: &Kind, brackets: u32) -> u32
     ensures { result ≡ brackets_after kind.now brackets }
 {
     match kind {
-        Kind::Op(Op::OpenParenthesis | Op::OpenBracket | Op::OpenBrace) => brackets + 1,
-        Kind::Op(Op::CloseParenthesis | Op::CloseBracket | Op::CloseBrace) => {
+        Kind::Symbol(Symbol::OpenParenthesis | Symbol::OpenBracket | Symbol::OpenBrace) => brackets
+            + 1,
+        Kind::Symbol(Symbol::CloseParenthesis | Symbol::CloseBracket | Symbol::CloseBrace) => {
             brackets.saturating_sub(1)
         }
         _ => brackets,
@@ -179,7 +170,7 @@ pub fn turn(alloc: Global, at: u32, line: Line, bytes: &[u8]) -> Result<Turn, To
             if ends_line(rest) {
                 passed(alloc, 1, line)
             } else {
-                Err(TokenError::Fault(lone(at, line.spot)))
+                placed(alloc, at, line, bytes)
             }
         }
         [_, ..] => placed(alloc, at, line, bytes),

@@ -4,7 +4,7 @@ ghost use Rattle.py_names.specs.Names.{same_text};
 ghost use Rattle.py_token.specs.Spellings.{word, keywords, sign, operators};
 ghost use Rattle.py_token.specs.Lexemes.{keyword_of};
 
-use crate::kinds::{Keyword, Op};
+use crate::kinds::{Keyword, Symbol};
 
 const KEYWORDS: [Keyword; 35] = [
     Keyword::False,
@@ -44,33 +44,33 @@ const KEYWORDS: [Keyword; 35] = [
     Keyword::Yield,
 ];
 
-const OPERATORS: [Op; 26] = [
-    Op::FloorAssign,
-    Op::PlusAssign,
-    Op::MinusAssign,
-    Op::TimesAssign,
-    Op::ModAssign,
-    Op::Equal,
-    Op::NotEqual,
-    Op::AtMost,
-    Op::AtLeast,
-    Op::Floor,
-    Op::Plus,
-    Op::Minus,
-    Op::Times,
-    Op::Mod,
-    Op::Less,
-    Op::More,
-    Op::Assign,
-    Op::OpenParenthesis,
-    Op::CloseParenthesis,
-    Op::OpenBracket,
-    Op::CloseBracket,
-    Op::OpenBrace,
-    Op::CloseBrace,
-    Op::Colon,
-    Op::Comma,
-    Op::Dot,
+const OPERATORS: [Symbol; 26] = [
+    Symbol::FloorAssign,
+    Symbol::PlusAssign,
+    Symbol::MinusAssign,
+    Symbol::TimesAssign,
+    Symbol::ModAssign,
+    Symbol::Equal,
+    Symbol::NotEqual,
+    Symbol::AtMost,
+    Symbol::AtLeast,
+    Symbol::Floor,
+    Symbol::Plus,
+    Symbol::Minus,
+    Symbol::Times,
+    Symbol::Mod,
+    Symbol::Less,
+    Symbol::More,
+    Symbol::Assign,
+    Symbol::OpenParenthesis,
+    Symbol::CloseParenthesis,
+    Symbol::OpenBracket,
+    Symbol::CloseBracket,
+    Symbol::OpenBrace,
+    Symbol::CloseBrace,
+    Symbol::Colon,
+    Symbol::Comma,
+    Symbol::Dot,
 ];
 
 /// The spelling of a keyword.
@@ -116,36 +116,36 @@ pub fn word(keyword: Keyword) -> &'static str
     }
 }
 
-fn sign(op: Op) -> &'static [u8]
+fn sign(op: Symbol) -> &'static [u8]
     ensures { result.now ≡ sign op }
 {
     match op {
-        Op::FloorAssign => b"//=",
-        Op::PlusAssign => b"+=",
-        Op::MinusAssign => b"-=",
-        Op::TimesAssign => b"*=",
-        Op::ModAssign => b"%=",
-        Op::Equal => b"==",
-        Op::NotEqual => b"!=",
-        Op::AtMost => b"<=",
-        Op::AtLeast => b">=",
-        Op::Floor => b"//",
-        Op::Plus => b"+",
-        Op::Minus => b"-",
-        Op::Times => b"*",
-        Op::Mod => b"%",
-        Op::Less => b"<",
-        Op::More => b">",
-        Op::Assign => b"=",
-        Op::OpenParenthesis => b"(",
-        Op::CloseParenthesis => b")",
-        Op::OpenBracket => b"[",
-        Op::CloseBracket => b"]",
-        Op::OpenBrace => b"{",
-        Op::CloseBrace => b"}",
-        Op::Colon => b":",
-        Op::Comma => b",",
-        Op::Dot => b".",
+        Symbol::FloorAssign => b"//=",
+        Symbol::PlusAssign => b"+=",
+        Symbol::MinusAssign => b"-=",
+        Symbol::TimesAssign => b"*=",
+        Symbol::ModAssign => b"%=",
+        Symbol::Equal => b"==",
+        Symbol::NotEqual => b"!=",
+        Symbol::AtMost => b"<=",
+        Symbol::AtLeast => b">=",
+        Symbol::Floor => b"//",
+        Symbol::Plus => b"+",
+        Symbol::Minus => b"-",
+        Symbol::Times => b"*",
+        Symbol::Mod => b"%",
+        Symbol::Less => b"<",
+        Symbol::More => b">",
+        Symbol::Assign => b"=",
+        Symbol::OpenParenthesis => b"(",
+        Symbol::CloseParenthesis => b")",
+        Symbol::OpenBracket => b"[",
+        Symbol::CloseBracket => b"]",
+        Symbol::OpenBrace => b"{",
+        Symbol::CloseBrace => b"}",
+        Symbol::Colon => b":",
+        Symbol::Comma => b",",
+        Symbol::Dot => b".",
     }
 }
 
@@ -155,7 +155,7 @@ fn is_word(keyword: Keyword, name: &[u8]) -> bool
     word(keyword).as_bytes() == name
 }
 
-fn begins_with(bytes: &[u8], op: Op) -> bool
+fn begins_with(bytes: &[u8], op: Symbol) -> bool
     ensures { result ≡ starts_with nat_eq bytes.now (sign op) }
 {
     bytes.starts_with(sign(op))
@@ -174,14 +174,14 @@ pub fn keyword_of(name: &[u8]) -> Option<Keyword>
 
 /// The longest operator at the front of the bytes.
 #[tactic(auto, unfolding(crate::specs::Spellings::operators))]
-pub fn operator_of(bytes: &[u8]) -> Option<Op>
+pub fn operator_of(bytes: &[u8]) -> Option<Symbol>
     ensures { result ≡ find (λ op. starts_with nat_eq bytes.now (sign op)) operators }
 {
     OPERATORS.iter().copied().find(|op| begins_with(bytes, *op))
 }
 
 /// How many bytes spell the operator.
-pub fn sign_width(op: Op) -> usize
+pub fn sign_width(op: Symbol) -> usize
     ensures { result ≡ length (sign op) }
 {
     sign(op).len()

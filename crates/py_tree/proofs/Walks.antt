@@ -5,7 +5,7 @@ use Rattle.std.proofs.lemmas.Grind.{common_steps}
 use Rattle.std.specs.Prelude.{map}
 use Rattle.py_tree.specs.declared.expressions.Expr.{Expr}
 use Rattle.py_tree.specs.declared.expressions.Op.{Op}
-use Rattle.py_tree.specs.declared.expressions.Place.{Place}
+use Rattle.py_tree.specs.declared.expressions.Target.{Target}
 use Rattle.py_tree.specs.declared.locals.Names as collected
 use Rattle.py_tree.specs.declared.statements.Arm.{Arm, out-Arm}
 use Rattle.py_tree.specs.declared.statements.Def.{Def}
@@ -48,13 +48,13 @@ pub global-return : (e : Option Expr) → global_by (s.Return e) ≡ []
 unfolding global_by global_by_arm
 global-return e = ap global_by (sym (s.rolls-Return e)) ∙ fold-roll-Stmt Names Names Names globals_step arm_step def_step (Stmt-F.Return e)
 
-pub bound-show : (e : Expr) → bound_by (s.Show e) ≡ []
+pub bound-show : (e : Expr) → bound_by (s.Expression e) ≡ []
 unfolding bound_by bound_by_arm
-bound-show e = ap bound_by (sym (s.rolls-Show e)) ∙ fold-roll-Stmt Names Names Names bound_step arm_step def_step (Stmt-F.Show e)
+bound-show e = ap bound_by (sym (s.rolls-Expression e)) ∙ fold-roll-Stmt Names Names Names bound_step arm_step def_step (Stmt-F.Expression e)
 
-pub global-show : (e : Expr) → global_by (s.Show e) ≡ []
+pub global-show : (e : Expr) → global_by (s.Expression e) ≡ []
 unfolding global_by global_by_arm
-global-show e = ap global_by (sym (s.rolls-Show e)) ∙ fold-roll-Stmt Names Names Names globals_step arm_step def_step (Stmt-F.Show e)
+global-show e = ap global_by (sym (s.rolls-Expression e)) ∙ fold-roll-Stmt Names Names Names globals_step arm_step def_step (Stmt-F.Expression e)
 
 pub bound-function : (d : Def) → bound_by (s.Function d) ≡ []
 unfolding bound_by bound_by_arm
@@ -72,29 +72,29 @@ pub global-global : (names : Names) → global_by (s.Global names) ≡ names
 unfolding global_by global_by_arm
 global-global names = ap global_by (sym (s.rolls-Global names)) ∙ fold-roll-Stmt Names Names Names globals_step arm_step def_step (Stmt-F.Global names)
 
-pub bound-delete : (place : Place) → bound_by (s.Delete place) ≡ bound_at place
+pub bound-delete : (target : Target) → bound_by (s.Delete target) ≡ bound_at target
 unfolding bound_by bound_by_arm
-bound-delete place = ap bound_by (sym (s.rolls-Delete place)) ∙ fold-roll-Stmt Names Names Names bound_step arm_step def_step (Stmt-F.Delete place)
+bound-delete target = ap bound_by (sym (s.rolls-Delete target)) ∙ fold-roll-Stmt Names Names Names bound_step arm_step def_step (Stmt-F.Delete target)
 
-pub global-delete : (place : Place) → global_by (s.Delete place) ≡ []
+pub global-delete : (target : Target) → global_by (s.Delete target) ≡ []
 unfolding global_by global_by_arm
-global-delete place = ap global_by (sym (s.rolls-Delete place)) ∙ fold-roll-Stmt Names Names Names globals_step arm_step def_step (Stmt-F.Delete place)
+global-delete target = ap global_by (sym (s.rolls-Delete target)) ∙ fold-roll-Stmt Names Names Names globals_step arm_step def_step (Stmt-F.Delete target)
 
-pub bound-assign : (place : Place) (e : Expr) → bound_by (s.Assign place e) ≡ bound_at place
+pub bound-assign : (target : Target) (e : Expr) → bound_by (s.Assign target e) ≡ bound_at target
 unfolding bound_by bound_by_arm
-bound-assign place e = ap bound_by (sym (s.rolls-Assign place e)) ∙ fold-roll-Stmt Names Names Names bound_step arm_step def_step (Stmt-F.Assign place e)
+bound-assign target e = ap bound_by (sym (s.rolls-Assign target e)) ∙ fold-roll-Stmt Names Names Names bound_step arm_step def_step (Stmt-F.Assign target e)
 
-pub global-assign : (place : Place) (e : Expr) → global_by (s.Assign place e) ≡ []
+pub global-assign : (target : Target) (e : Expr) → global_by (s.Assign target e) ≡ []
 unfolding global_by global_by_arm
-global-assign place e = ap global_by (sym (s.rolls-Assign place e)) ∙ fold-roll-Stmt Names Names Names globals_step arm_step def_step (Stmt-F.Assign place e)
+global-assign target e = ap global_by (sym (s.rolls-Assign target e)) ∙ fold-roll-Stmt Names Names Names globals_step arm_step def_step (Stmt-F.Assign target e)
 
-pub bound-augment : (place : Place) (op : Op) (e : Expr) → bound_by (s.Augment place op e) ≡ bound_at place
+pub bound-augment : (target : Target) (op : Op) (e : Expr) → bound_by (s.Augment target op e) ≡ bound_at target
 unfolding bound_by bound_by_arm
-bound-augment place op e = ap bound_by (sym (s.rolls-Augment place op e)) ∙ fold-roll-Stmt Names Names Names bound_step arm_step def_step (Stmt-F.Augment place op e)
+bound-augment target op e = ap bound_by (sym (s.rolls-Augment target op e)) ∙ fold-roll-Stmt Names Names Names bound_step arm_step def_step (Stmt-F.Augment target op e)
 
-pub global-augment : (place : Place) (op : Op) (e : Expr) → global_by (s.Augment place op e) ≡ []
+pub global-augment : (target : Target) (op : Op) (e : Expr) → global_by (s.Augment target op e) ≡ []
 unfolding global_by global_by_arm
-global-augment place op e = ap global_by (sym (s.rolls-Augment place op e)) ∙ fold-roll-Stmt Names Names Names globals_step arm_step def_step (Stmt-F.Augment place op e)
+global-augment target op e = ap global_by (sym (s.rolls-Augment target op e)) ∙ fold-roll-Stmt Names Names Names globals_step arm_step def_step (Stmt-F.Augment target op e)
 
 pub bound-if : (arms : List Arm) (other : List Stmt) → bound_by (s.If arms other) ≡ bound_in_arms arms ++ bound_in other
 unfolding bound_by bound_by_arm

@@ -2,8 +2,8 @@
 use Rattle.std.specs.Prelude.{ℕ, Bool, not, nat_eq, List, [], ◌∷◌, ◌++◌, map, filter, if◌then◌else◌}
 use Rattle.std.specs.List.{list_any}
 use Rattle.std.specs.Cmp.Lexicographic.{pointwise}
-use Rattle.py_tree.specs.declared.expressions.Place.{Place}
-use Rattle.py_tree.specs.declared.expressions.Place.TheVariants.{Name, Item}
+use Rattle.py_tree.specs.declared.expressions.Target.{Target}
+use Rattle.py_tree.specs.declared.expressions.Target.TheVariants.{Name, Item}
 use Rattle.py_tree.specs.declared.statements.Arm.{Arm}
 use Rattle.py_tree.specs.declared.statements.Def.{Def, out-Def}
 use Rattle.py_tree.specs.declared.statements.Stmt.{Stmt}
@@ -20,15 +20,15 @@ joined (names ∷ others) = names ++ joined others
 -- ---- bound by a block, in the order of the text
 
 -- an item of a list or dict binds no name
-abbrev pub bound_at : Place → Names
+abbrev pub bound_at : Target → Names
 bound_at (Name name) = name ∷ []
 bound_at (Item value at) = []
 
 -- by one statement, with the names of each inner statement in its place
 abbrev pub bound_step : Stmt-F Names Names Names → Names
-bound_step (Stmt-F.Delete place) = bound_at place
-bound_step (Stmt-F.Assign place value) = bound_at place
-bound_step (Stmt-F.Augment place op value) = bound_at place
+bound_step (Stmt-F.Delete target) = bound_at target
+bound_step (Stmt-F.Assign target value) = bound_at target
+bound_step (Stmt-F.Augment target op value) = bound_at target
 bound_step (Stmt-F.If arms other) = joined arms ++ joined other
 bound_step (Stmt-F.While test body) = joined body
 bound_step (Stmt-F.For name source body) = name ∷ joined body
@@ -81,14 +81,14 @@ globals_in_arms arms = joined (map global_by_arm arms)
 abbrev pub is_among : Names → List ℕ → Bool
 is_among names name = list_any (λ other. pointwise nat_eq other name) names
 
--- the names behind those, each at its first place alone
-abbrev pub distinct_behind : Names → Names → Names
-distinct_behind seen [] = []
-distinct_behind seen (name ∷ names) =
-    if is_among seen name then distinct_behind seen names else name ∷ distinct_behind (seen ++ name ∷ []) names
+-- the names after those, each at its first place alone
+abbrev pub distinct_after : Names → Names → Names
+distinct_after seen [] = []
+distinct_after seen (name ∷ names) =
+    if is_among seen name then distinct_after seen names else name ∷ distinct_after (seen ++ name ∷ []) names
 
 abbrev pub distinct : Names → Names
-distinct names = distinct_behind [] names
+distinct names = distinct_after [] names
 
 -- the parameters, then what the body binds and doesn't declare global
 unfoldable pub locals : List (List ℕ) → List Stmt → Names

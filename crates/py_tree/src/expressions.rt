@@ -39,7 +39,7 @@ pub enum Expr {
     /// `{a: b}`
     DictOf(Items<Pair>),
     /// `yes if test else no`
-    Pick {
+    Conditional {
         test: Boxed<Expr>,
         yes: Boxed<Expr>,
         no: Boxed<Expr>,
@@ -109,7 +109,7 @@ pub struct Operand {
     pub value: Expr,
 }
 
-/// One step of a chain of comparisons. The `None` behind `is` belongs to it and is no expression.
+/// One step of a chain of comparisons. The `None` after `is` belongs to it and is no expression.
 #[cycle(expression)]
 #[derive(Drop)]
 pub enum Relation {
@@ -120,7 +120,7 @@ pub enum Relation {
 
 /// What is assigned to or deleted.
 #[derive(Drop)]
-pub enum Place {
+pub enum Target {
     Name(Text),
     /// `value[at]`
     Item { value: Expr, at: Expr },

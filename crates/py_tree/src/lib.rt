@@ -4,9 +4,7 @@
 mod expressions;
 mod locals;
 mod statements;
-#[cfg(test)]
-mod tests;
 
-pub use expressions::{Expr, Literal, Op, Operand, Pair, Place, Relation};
+pub use expressions::{Expr, Literal, Op, Operand, Pair, Relation, Target};
 pub use locals::locals_of;
 pub use statements::{Arm, Def, Stmt, Tree};

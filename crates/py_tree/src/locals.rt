@@ -2,7 +2,7 @@ ghost use Rattle.std.specs.Prelude.{◌≡◌, ◌++◌, ◌∷◌, [], IfOk, On
 ghost use Rattle.py_tree.specs.Added.{added};
 ghost use Rattle.py_tree.specs.Locals.{bound_at, bound_by, global_by, bound_in, globals_in, bound_in_arms, globals_in_arms, is_among, distinct, locals_of};
 
-use crate::expressions::Place;
+use crate::expressions::Target;
 use crate::statements::{Arm, Def, Stmt};
 use plain_data::{Items, Text};
 use std::alloc::{AllocError, Global};
@@ -29,12 +29,12 @@ fn copy_all(alloc: Global, names: &mut Items<Text>, others: &Items<Text>) -> Res
     Ok(())
 }
 
-fn collect_place(alloc: Global, place: &Place, names: &mut Names) -> Result<(), AllocError>
-    ensures { OnOk result (names.new ≡ added names.old (bound_at place.now) []) }
+fn collect_target(alloc: Global, target: &Target, names: &mut Names) -> Result<(), AllocError>
+    ensures { OnOk result (names.new ≡ added names.old (bound_at target.now) []) }
 {
-    match place {
-        Place::Name(name) => copy_onto(alloc, &mut names.bound, name),
-        Place::Item { .. } => Ok(()),
+    match target {
+        Target::Name(name) => copy_onto(alloc, &mut names.bound, name),
+        Target::Item { .. } => Ok(()),
     }
 }
 
@@ -45,9 +45,9 @@ fn collect_statement(alloc: Global, statement: &Stmt, names: &mut Names) -> Resu
     ensures { OnOk result (names.new ≡ added names.old (bound_by statement.now) (global_by statement.now)) }
 {
     match statement {
-        Stmt::Delete(place) => collect_place(alloc, place, names),
-        Stmt::Assign { place, .. } => collect_place(alloc, place, names),
-        Stmt::Augment { place, .. } => collect_place(alloc, place, names),
+        Stmt::Delete(target) => collect_target(alloc, target, names),
+        Stmt::Assign { target, .. } => collect_target(alloc, target, names),
+        Stmt::Augment { target, .. } => collect_target(alloc, target, names),
         Stmt::Global(global) => copy_all(alloc, &mut names.global, global),
         Stmt::If { arms, other } => {
             collect_arms(alloc, arms.as_slice(), names)?;
@@ -62,12 +62,12 @@ fn collect_statement(alloc: Global, statement: &Stmt, names: &mut Names) -> Resu
         | Stmt::Break
         | Stmt::Continue
         | Stmt::Return(_)
-        | Stmt::Show(_)
+        | Stmt::Expression(_)
         | Stmt::Function(_) => Ok(()),
     }
 }
 
-/// Adds the names of the blocks behind some tests.
+/// Adds the names of the blocks after some tests.
 #[cycle(names)]
 fn collect_arms(alloc: Global, arms: &[Arm], names: &mut Names) -> Result<(), AllocError>
     ensures { OnOk result (names.new ≡ added names.old (bound_in_arms arms.now) (globals_in_arms arms.now)) }

@@ -1,4 +1,4 @@
-use crate::expressions::{Expr, Op, Place};
+use crate::expressions::{Expr, Op, Target};
 use plain_data::{Items, Shared, Text};
 
 /// What is read of a whole text.
@@ -16,20 +16,20 @@ pub enum Stmt {
     Continue,
     Return(Option<Expr>),
     Global(Items<Text>),
-    Delete(Place),
+    Delete(Target),
     Assign {
-        place: Place,
+        target: Target,
         value: Expr,
     },
     /// `place op= value`
     Augment {
-        place: Place,
+        target: Target,
         op: Op,
         value: Expr,
     },
     /// An expression by itself.
-    Show(Expr),
-    /// The `if` and each `elif`, and the block behind `else`, which is empty where no `else` stands.
+    Expression(Expr),
+    /// The `if` and each `elif`, and the block after `else`, which is empty where no `else` stands.
     If {
         arms: Items<Arm>,
         other: Items<Stmt>,
@@ -46,7 +46,7 @@ pub enum Stmt {
     Function(Shared<Def>),
 }
 
-/// A test, and the block behind it.
+/// A test, and the block after it.
 #[cycle(statement)]
 #[derive(Drop)]
 pub struct Arm {

@@ -40,7 +40,7 @@ escaped_character quote c q h =
     by_size false true = one quote _ _ q (omega arith) (one quote _ _ q (omega arith) (one quote _ _ q (omega arith) refl))
     by_size false false = one quote _ _ q (omega arith) (one quote _ _ q (omega arith) (one quote _ _ q (omega arith) (one quote _ _ q (omega arith) refl)))
 
--- one character more shows behind the others
+-- one character more shows after the others
 pub shown_more : (quote : ℕ) (cs : List ℕ) (c : ℕ) (before now : List ℕ)
     → before ≡ quote ∷ flat_map (escaped quote) (encode_utf8_all cs)
     → now ≡ before ++ flat_map (escaped quote) (encode_utf8 c)

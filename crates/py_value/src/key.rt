@@ -8,6 +8,8 @@ ghost use Rattle.py_value.specs.Keys as spec;
 use crate::value::Value;
 use plain_data::Text;
 use std::alloc::{AllocError, Global};
+use std::error::Error;
+use std::fmt;
 use std::hash::{Hash, Hasher};
 
 /// What may be the key of a dict.
@@ -38,6 +40,17 @@ impl From<AllocError> for KeyFault {
         KeyFault::OutOfMemory
     }
 }
+
+impl fmt::Display for KeyFault {
+    fn fmt<W: fmt::Write>(&self, f: &mut fmt::Formatter<W>) -> fmt::Result {
+        match self {
+            KeyFault::OutOfMemory => write!(f, "out of memory"),
+            KeyFault::Unhashable => write!(f, "an object or a built-in function is no key"),
+        }
+    }
+}
+
+impl Error for KeyFault {}
 
 impl Key {
     /// An equal key.

@@ -3,6 +3,9 @@ ghost use Rattle.std.specs.Char.{is_ascii_digit};
 ghost use Rattle.std.specs.List.{list_all};
 ghost use Rattle.py_value.specs.Numbers as spec;
 
+use std::error::Error;
+use std::fmt;
+
 /// Why a text spells no number.
 #[derive(Clone, Copy, Debug, PartialEq, Eq)]
 pub enum NumberFault {
@@ -11,6 +14,17 @@ pub enum NumberFault {
     /// The number is outside -2^127 to 2^127 - 1.
     Wide,
 }
+
+impl fmt::Display for NumberFault {
+    fn fmt<W: fmt::Write>(&self, f: &mut fmt::Formatter<W>) -> fmt::Result {
+        match self {
+            NumberFault::Invalid => write!(f, "the text spells no number"),
+            NumberFault::Wide => write!(f, "the number has more than 128 bits"),
+        }
+    }
+}
+
+impl Error for NumberFault {}
 
 /// One past the greatest number, and the size of the least.
 const LIMIT: u128 = 1 << 127;
@@ -87,7 +101,7 @@ fn decimal(bytes: &[u8]) -> Option<u128>
     Some(number)
 }
 
-/// The number that digits spell behind a plus or no sign.
+/// The number that digits spell after a plus or no sign.
 #[tactic(auto, unfolding(crate::specs::Numbers::positive))]
 fn positive(digits: &[u8]) -> Result<i128, NumberFault>
     ensures { result ≡ spec.positive digits.now }
@@ -101,7 +115,7 @@ fn positive(digits: &[u8]) -> Result<i128, NumberFault>
     }
 }
 
-/// The number that digits spell behind a minus.
+/// The number that digits spell after a minus.
 #[tactic(auto, unfolding(crate::specs::Numbers::negative))]
 fn negative(digits: &[u8]) -> Result<i128, NumberFault>
     ensures { result ≡ spec.negative digits.now }
@@ -116,7 +130,7 @@ fn negative(digits: &[u8]) -> Result<i128, NumberFault>
     }
 }
 
-/// The number that a text spells: one or more ASCII digits behind a sign or none, with ASCII white space around them
+/// The number that a text spells: one or more ASCII digits after a sign or none, with ASCII white space around them
 /// (space, TAB, LF, VT, FF, CR). Takes no memory.
 #[tactic(auto, unfolding(crate::specs::Numbers::signed))]
 pub fn number_of(text: &str) -> Result<i128, NumberFault>

@@ -11,11 +11,11 @@ overflow_add-open c = let s = sum_fits _ _ _ _ c.loop-left.invariant.1 (c.index.
 pub overflow_sub-open : goal.overflow_sub-open
 overflow_sub-open c = (enough _ _ _ _ _ c.loop-left.invariant.1 (c.index.ensures ∙ c.in_ok-begun.ensures.counts.each _ _ c.loop-left.invariant.0) (c.index-in-loop-left.ensures ∙ c.in_ok-ended.ensures.counts.each _ _ c.loop-left.invariant.0)).0
 
-pub returns-then-open-gt64 : goal.returns-then-open-gt64
-returns-then-open-gt64 c = found _ _ _ _ _ c.loop-left.invariant.1 (c.index.ensures ∙ c.in_ok-begun.ensures.counts.each _ _ c.loop-left.invariant.0) (c.index-in-loop-left.ensures ∙ c.in_ok-ended.ensures.counts.each _ _ c.loop-left.invariant.0) c.if-open-gt64.true
+pub returns-then-open-gt-MAX_DEPTH : goal.returns-then-open-gt-MAX_DEPTH
+returns-then-open-gt-MAX_DEPTH c = found _ _ _ _ _ c.loop-left.invariant.1 (c.index.ensures ∙ c.in_ok-begun.ensures.counts.each _ _ c.loop-left.invariant.0) (c.index-in-loop-left.ensures ∙ c.in_ok-ended.ensures.counts.each _ _ c.loop-left.invariant.0) c.if-open-gt-MAX_DEPTH.true
 
 pub loop-left-preserved : goal.loop-left-preserved
-loop-left-preserved c = (omega arith, walked_next _ _ _ _ _ c.loop-left-test.true c.loop-left.invariant.1 (c.index.ensures ∙ c.in_ok-begun.ensures.counts.each _ _ c.loop-left.invariant.0) (c.index-in-loop-left.ensures ∙ c.in_ok-ended.ensures.counts.each _ _ c.loop-left.invariant.0) c.if-open-gt64.false)
+loop-left-preserved c = (omega arith, walked_next _ _ _ _ _ c.loop-left-test.true c.loop-left.invariant.1 (c.index.ensures ∙ c.in_ok-begun.ensures.counts.each _ _ c.loop-left.invariant.0) (c.index-in-loop-left.ensures ∙ c.in_ok-ended.ensures.counts.each _ _ c.loop-left.invariant.0) c.if-open-gt-MAX_DEPTH.false)
 
 pub returns : goal.returns
 returns c = let z : c.loop-left.left ≡ 0 = omega arith in none _ c.loop-left.open (subst (λ n. Walked c.args.entries.now n c.loop-left.open) z c.loop-left.invariant.1)
