@@ -1,0 +1,36 @@
+ghost use Rattle.std.specs.Prelude.{◌≡◌, IfOk};
+
+use std::alloc::{AllocError, Global};
+
+/// What a feed gives.
+#[derive(Clone, Copy, Debug, PartialEq, Eq)]
+pub enum Drawn {
+    /// The next word.
+    Word(u64),
+    /// The feed met a fault, or has nothing left.
+    Failed,
+}
+
+/// Where the words of `draw()` come from.
+pub trait Feed: Drop {
+    ghost use Rattle.nb_outside.specs.Feeds.{Seen, Gives};
+
+    // The answers that it was made with and those left, where it tells them, and how many faults it has met.
+    ghost seen: { Self → Seen };
+
+    /// Gives the next word.
+    fn draw(&mut self) -> Drawn
+        ensures { Gives (seen self.old) result (seen self.new) };
+}
+
+/// Where the feeds of sessions come from.
+pub trait Feeds {
+    ghost use Rattle.nb_outside.specs.Feeds.{HasAll};
+
+    /// The feed of one session.
+    type Feed: Feed;
+
+    /// A feed for the session of this kernel. One that tells has all its answers left.
+    fn open(&mut self, alloc: Global, kernel: u128) -> Result<Self::Feed, AllocError>
+        ensures { IfOk result (λ feed. HasAll (Self.Feed.seen feed)) };
+}
