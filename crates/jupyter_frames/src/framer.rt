@@ -1,0 +1,138 @@
+ghost use Rattle.std.specs.Prelude.{◌≡◌, ◌+◌, ◌≤◌, ◌<◌, [], ◌++◌, length, take, drop, IfOk, OnOk, OnErr, MatchResult};
+ghost use Rattle.jupyter_frames.specs.Framing.{frame, length_of};
+ghost use Rattle.jupyter_frames.specs.Answers.{Gives, IsCut};
+
+use byteorder::{BigEndian, ByteOrder};
+use plain_data::Items;
+use std::alloc::{AllocError, Global};
+use std::marker::Model;
+
+/// What is wrong with a stream. Places are those of the first byte of a frame's length, counted from the stream's first
+/// byte; they stand still at 2^64 - 1.
+#[derive(Clone, Copy, Debug, PartialEq, Eq)]
+pub enum FrameFault {
+    /// At that place stands this length, which is 0 or above 1,048,576.
+    BadLength(u64, u32),
+    /// The stream ends in a frame that began at that place.
+    Cut(u64),
+}
+
+/// What comes next on a stream.
+#[derive(Debug, Drop)]
+pub enum Next {
+    /// The body of the next frame.
+    Frame(Items<u8>),
+    /// All whole frames so far were given.
+    NotYet,
+    /// They were given, and after them stands a bad length. It stays so.
+    Bad(FrameFault),
+    /// Memory ran out; nothing is changed.
+    OutOfMemory,
+}
+
+/// A stream that comes in pieces.
+#[derive(Debug, Drop)]
+pub struct Framer {
+    bytes: Vec<u8>,
+    /// Where the bytes that weren't given yet begin.
+    at: usize,
+    place: u64,
+}
+
+impl Model for Framer {
+    ghost use Rattle.std.specs.Prelude.{◌≤◌, drop, vec_len};
+    ghost use Rattle.jupyter_frames.specs.Framing.{Held};
+
+    ghost Value = { Held };
+
+    ghost view = { λ f. record { place = f.place; bytes = drop f.at f.bytes.items } };
+
+    ghost invariant = { λ f. f.at ≤ vec_len f.bytes };
+}
+
+/// The length that the bytes begin with.
+fn length_said(bytes: &[u8]) -> u32
+    requires { 4 ≤ length bytes.now }
+    ensures { result ≡ length_of bytes.now }
+{
+    BigEndian::read_u32(bytes)
+}
+
+/// The body of the frame at the front, which has this length.
+fn body_of(alloc: Global, bytes: &[u8], n: u32) -> Result<Items<u8>, AllocError>
+    requires n { n ≡ length_of bytes.now }
+    requires whole { 4 + n ≤ length bytes.now }
+    ensures { IfOk result (λ body. (length body ≡ n) × (frame body ++ drop (4 + n) bytes.now ≡ bytes.now)) }
+{
+    Items::from_slice(alloc, &bytes[4..4 + n as usize])
+}
+
+/// The most bytes of a frame's body.
+const MOST: u32 = 1_048_576;
+
+impl Framer {
+    /// A stream of which nothing has come. Takes no memory.
+    pub fn new(alloc: Global) -> Framer
+        ensures { result ≡ record { place = 0; bytes = [] } }
+    {
+        Framer {
+            bytes: Vec::new(alloc),
+            at: 0,
+            place: 0,
+        }
+    }
+
+    /// Takes the next piece of the stream. After an error nothing is changed.
+    pub fn feed(&mut self, alloc: Global, piece: &[u8]) -> Result<(), AllocError>
+        ensures ok { OnOk result (self.new.bytes ≡ self.old.bytes ++ piece.now) }
+        ensures err { OnErr result (self.new.bytes ≡ self.old.bytes) }
+        ensures place { self.new.place ≡ self.old.place }
+    {
+        if self.at == 0 {
+            return self.bytes.extend_from_slice(piece);
+        }
+        // What was given is let go of.
+        let mut bytes = Vec::from_slice(alloc, &self.bytes[self.at..])?;
+        bytes.extend_from_slice(piece)?;
+        self.bytes = bytes;
+        self.at = 0;
+        Ok(())
+    }
+
+    /// Gives the next whole frame.
+    pub fn next(&mut self, alloc: Global) -> Next
+        ensures { Gives self.old result self.new }
+    {
+        let held = &self.bytes[self.at..];
+        if held.len() < 4 {
+            return Next::NotYet;
+        }
+        let length = length_said(held);
+        if length == 0 || MOST < length {
+            return Next::Bad(FrameFault::BadLength(self.place, length));
+        }
+        let end = 4 + length as usize;
+        if held.len() < end {
+            return Next::NotYet;
+        }
+        match body_of(alloc, held, length) {
+            Ok(body) => {
+                self.at += end;
+                self.place = self.place.saturating_add(end as u64);
+                Next::Frame(body)
+            }
+            Err(_) => Next::OutOfMemory,
+        }
+    }
+
+    /// Whether the stream may end here: `Cut` where bytes of a frame are held.
+    pub fn end(&self) -> Result<(), FrameFault>
+        ensures { IsCut self.now result }
+    {
+        if self.at < self.bytes.len() {
+            Err(FrameFault::Cut(self.place))
+        } else {
+            Ok(())
+        }
+    }
+}

@@ -1,0 +1,24 @@
+use Rattle.std.proofs.Common.{◌≡◌, true, false, ◌++◌, ◌∷◌, [], refl, sym, ap, ◌∙◌, subst}
+use Rattle.session_core.specs.Legal.{progress_of, asked}
+use Rattle.session_core.proofs.Stepping.{ends_legal, ends_phase, ends_asked, dead_stays, dead_served}
+use Rattle.session_core.proofs.alone.Alone.answer.Goals as goal
+
+pub invariant_of-result-then-dead : goal.invariant_of-result-then-dead
+invariant_of-result-then-dead g c =
+    let old = c.self.inside.journal.entries in
+    let new = c.answer_dead.new.journal.entries in
+    let ends = c.answer_dead.ensures.noted c.self.inside.hosts in
+    let h = c.self.invariant in
+    let is : c.self.inside.dead ≡ true = c.if-dead.true in
+    let was = sym h.dead ∙ is in record {
+      legal = ends_legal g.E.Engine.meaning c.self.inside.hosts old new c.args.request ends h.legal;
+      phase = ends_phase g.E.Engine.meaning c.self.inside.hosts old new c.args.request ends h.phase;
+      dead = is ∙ sym (dead_stays g.E.Engine.meaning c.self.inside.hosts old new c.args.request ends was);
+      alive = λ alive. let never : true ≡ false = sym is ∙ alive in cc;
+      counts = λ _. h.counts is ∙ ap g.E.Engine.meaning.count (sym (dead_served g.E.Engine.meaning c.self.inside.hosts old new c.args.request ends was));
+    }
+
+pub returns-then-dead-clause-answered : goal.returns-then-dead-clause-answered
+returns-then-dead-clause-answered g c =
+    ends_asked g.E.Engine.meaning c.self.inside.hosts c.self.inside.journal.entries c.answer_dead.new.journal.entries c.args.request (c.answer_dead.ensures.noted c.self.inside.hosts) c.self.invariant.phase
+    ∙ ap (λ z. asked z.entries ++ c.args.request ∷ []) c.self.view_is

@@ -1,0 +1,58 @@
+use Rattle.std.proofs.Common.{◌≡◌, ◌||◌, refl, sym, ap, ◌∙◌, subst}
+use Rattle.session_core.specs.declared.entry.Entry.TheVariants.{Ran, Died}
+use Rattle.session_core.specs.Asks.{is_end}
+use Rattle.session_core.specs.Legal.{progress_of}
+use Rattle.session_core.proofs.Progressing.{progress_more}
+use Rattle.session_core.proofs.Stepping.{alive_has_no_end, cause_is}
+use Rattle.session_core.proofs.steps.serve.Goals as goal
+
+pub returns-in-Ok-clause-noted : goal.returns-in-Ok-clause-noted
+returns-in-Ok-clause-noted g c = λ hosts.
+    let es = c.args.journal.now.entries in
+    let ran = c.in-Ok.ensures.reply (progress_of es).served c.requires.stands (alive_has_no_end es c.requires.alive) in (
+      Ran c.settled_owner-host.result c.args.request c.in-Ok.done.draws c.in-Ok.done.reply,
+      refl,
+      ((c.requires.settled, c.requires.alive, c.settled_owner-host.ensures, c.requires.work, ran.0, ran.1), c.push.ensures.entries),
+    )
+
+pub returns-in-Ok-clause-stands : goal.returns-in-Ok-clause-stands
+returns-in-Ok-clause-stands g c = λ _.
+    let es = c.args.journal.now.entries in
+    let now = ap progress_of c.push.ensures.entries ∙ progress_more es (Ran c.settled_owner-host.result c.args.request c.in-Ok.done.draws c.in-Ok.done.reply) in
+    subst (λ z. g.E.Engine.stands_for c.run.new.self z) (ap (λ p. p.served) (sym now))
+    (c.in-Ok.ensures.stands (progress_of es).served c.requires.stands (alive_has_no_end es c.requires.alive))
+
+pub returns-in-Err-clause-noted : goal.returns-in-Err-clause-noted
+returns-in-Err-clause-noted g c = λ hosts.
+    let es = c.args.journal.now.entries in
+    let failed = c.in-Err.ensures.reply (progress_of es).served c.requires.stands (alive_has_no_end es c.requires.alive) in (
+      Died c.settled_owner-host.result c.args.request c.count-count.result c.died_by-cause.result,
+      refl,
+      (
+        (
+          c.requires.settled,
+          c.requires.alive,
+          c.settled_owner-host.ensures,
+          c.requires.work,
+          c.count-count.ensures (progress_of es).served c.requires.stands,
+          cause_is g.E.Engine.meaning hosts (progress_of es) c.args.request.ask c.in-Err.fault c.died_by-cause.result failed c.died_by-cause.ensures,
+        ),
+        c.push-in-Err.ensures.entries,
+      ),
+    )
+
+pub returns-in-Err-clause-dead : goal.returns-in-Err-clause-dead
+returns-in-Err-clause-dead g c = λ _.
+    let es = c.args.journal.now.entries in
+    ap (λ p. p.dead) (ap progress_of c.push-in-Err.ensures.entries ∙ progress_more es (Died c.settled_owner-host.result c.args.request c.count-count.result c.died_by-cause.result))
+
+pub returns-in-Ok-clause-ends : goal.returns-in-Ok-clause-ends
+returns-in-Ok-clause-ends g c = λ _.
+    let es = c.args.journal.now.entries in
+    ap (λ p. p.dead) (ap progress_of c.push.ensures.entries ∙ progress_more es (Ran c.settled_owner-host.result c.args.request c.in-Ok.done.draws c.in-Ok.done.reply))
+    ∙ ap (λ b. b || is_end c.args.request.ask) c.requires.alive
+
+pub returns-in-Err-clause-served : goal.returns-in-Err-clause-served
+returns-in-Err-clause-served g c = λ _.
+    let es = c.args.journal.now.entries in
+    ap (λ p. p.served) (ap progress_of c.push-in-Err.ensures.entries ∙ progress_more es (Died c.settled_owner-host.result c.args.request c.count-count.result c.died_by-cause.result))

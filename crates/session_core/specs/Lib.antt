@@ -1,0 +1,11 @@
+pub mod Asks
+pub mod Entries
+pub mod Meanings
+pub mod Legal
+pub mod Machine
+pub mod Journals
+pub mod Engines
+pub mod Answering
+pub mod Stepping
+pub mod Aloneness
+pub mod Counting

@@ -1,0 +1,62 @@
+-- What the steps of a session on one thread decide.
+use Rattle.std.specs.Prelude.{◌≡◌, ◌≢◌, ℕ, ◌<◌, ◌≤◌, true, false, ◌⊎◌, List, [], ◌∷◌, ◌++◌, Option, Some, None}
+use Rattle.session_core.specs.declared.engine.RunFault.{RunFault}
+use Rattle.session_core.specs.declared.engine.RunFault.TheVariants as run
+use Rattle.session_core.specs.declared.entry.DiedCause.{DiedCause}
+use Rattle.session_core.specs.declared.entry.DiedCause.TheVariants as died
+use Rattle.session_core.specs.declared.entry.MoveRefusal.{MoveRefusal}
+use Rattle.session_core.specs.declared.entry.MoveRefusal.TheVariants.{Stuck, SameHost, UnknownHost, BadWeights, DeadKernel}
+use Rattle.graph_model.specs.declared.plan.Certified.{Certified}
+use Rattle.session_core.specs.declared.request.Request.{Request}
+use Rattle.session_core.specs.declared.entry.Entry.{Entry}
+use Rattle.session_core.specs.declared.entry.Entry.TheVariants.{Sealed, Moved, Adopted, Resumed}
+use Rattle.session_core.specs.declared.engine.Packed.{Packed}
+use Rattle.session_core.specs.declared.engine.PackFault.{PackFault}
+use Rattle.session_core.specs.declared.engine.PackFault.TheVariants as pack
+use Rattle.session_core.specs.Meanings.{Served, Meaning, IsPacked}
+use Rattle.session_core.specs.Legal.{Progress, progress_of, settled, IsLegal, asked}
+
+-- why a session dies at a fault of its engine
+abbrev pub cause_of : RunFault → DiedCause
+cause_of run.OutOfMemory = died.OutOfMemory
+cause_of (run.TooMany which draws) = died.TooMany which draws
+
+-- a reason that needs no plan: the session is dead, is on that host, or there is no such host
+abbrev pub IsEarly : ℕ → Progress → ℕ → MoveRefusal → Type 0
+IsEarly hosts p to DeadKernel = p.dead ≡ true
+IsEarly hosts p to SameHost = (p.dead ≡ false) × (to ≡ p.owner)
+IsEarly hosts p to (UnknownHost host) = (p.dead ≡ false) × (to ≢ p.owner) × (hosts ≤ to) × (host ≡ to)
+IsEarly hosts p to (BadWeights fault) = ⊥
+IsEarly hosts p to (Stuck version cell names) = ⊥
+
+-- none of them
+abbrev pub IsFree : ℕ → Progress → ℕ → Type 0
+IsFree hosts p to = (p.dead ≡ false) × (to ≢ p.owner) × (to < hosts)
+
+-- the pack is one of what this list leaves, by a certified plan under some weights
+abbrev pub IsPackOf : Meaning → List Served → Packed → Type 0
+IsPackOf meaning served packed = IsPacked meaning served packed.certified.plan packed.bytes
+
+-- a move of a session with these entries: it is sealed for the host and moved there, and then adopted with all its objects,
+-- or resumed by its owner; and this holds of the host that owns it then
+abbrev pub HasGone : Meaning → List Entry → List Entry → ℕ → Request → Request → Certified → (ℕ → Type 0) → Type 0
+HasGone meaning old new to request again certified Holds =
+    let host = (progress_of old).owner in
+    ((objects : ℕ) × meaning.HasObjects (progress_of old).served objects × Holds to
+    × (new ≡ ((old ++ Sealed host request to ∷ []) ++ Moved to ∷ []) ++ Adopted host to again certified objects ∷ []))
+    ⊎ (Holds host × (new ≡ ((old ++ Sealed host request to ∷ []) ++ Moved to ∷ []) ++ Resumed host again ∷ []))
+
+-- A request ended: a legal journal stays legal, it answers this request and no other, and the session is settled, with the
+-- same served and no more dead than before.
+pub record HasEnded (meaning : Meaning) (hosts : ℕ) (old new : List Entry) (request : Request) : Type 0 where
+  pub legal : IsLegal meaning hosts old → IsLegal meaning hosts new
+  pub answers : asked new ≡ asked old ++ request ∷ []
+  pub phase : (progress_of new).phase ≡ settled
+  pub served : (progress_of new).served ≡ (progress_of old).served
+  pub dead : (progress_of new).dead ≡ (progress_of old).dead
+
+-- why a pack that failed keeps a session where it is; none for want of memory
+abbrev pub reason_of : PackFault → Option MoveRefusal
+reason_of pack.OutOfMemory = None
+reason_of (pack.BadWeights fault) = Some (BadWeights fault)
+reason_of (pack.Stuck version cell names) = Some (Stuck version cell names)

@@ -1,0 +1,22 @@
+//! A session: what is asked of it, what it answers, its journal, and which journals are legal histories.
+//!
+//! An engine is known by its definitions alone (`Engine`). Under these, `specs/Legal` says which journals are legal, and
+//! `specs/Machine` what may happen to a session at once: a request is admitted, a cell ends, the session is packed, moved
+//! or adopted. `laws` has what holds after every list of such events. docs/JOURNAL.md tells it in words.
+#![tactic(auto)]
+
+mod alone;
+mod engine;
+mod entry;
+mod journal;
+pub mod laws;
+mod reply;
+mod request;
+pub mod steps;
+
+pub use alone::Alone;
+pub use engine::{Engine, PackFault, Packed, RunFault};
+pub use entry::{DiedCause, Entry, MoveRefusal};
+pub use journal::Journal;
+pub use reply::{Completion, Done, Reply};
+pub use request::{Ask, Channel, Header, Request};

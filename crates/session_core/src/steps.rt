@@ -1,0 +1,319 @@
+//! The steps of a session on one thread: each puts the entry at the journal's end that may come there.
+
+ghost use Rattle.std.specs.Prelude.{◌≡◌, ℕ, ◌+◌, ◌≤◌, ◌<◌, true, false, [], ◌∷◌, ◌++◌, Some, IfSome, IfNone, MatchOption, Ok, Err};
+ghost use Rattle.graph_model.specs.declared.plan.Weights.{Weights};
+ghost use Rattle.session_core.specs.declared.request.Ask.TheVariants as asks;
+ghost use Rattle.session_core.specs.declared.entry.Entry.{Entry};
+ghost use Rattle.session_core.specs.Asks.{IsWork, is_move, is_end};
+ghost use Rattle.session_core.specs.Entries.{IsEnd};
+ghost use Rattle.session_core.specs.Legal.{settled, progress_of, CanGo, IsReason, IsLegal, asked};
+ghost use Rattle.session_core.specs.Machine.{IsNoted};
+ghost use Rattle.session_core.specs.Stepping.{cause_of, IsEarly, IsFree, IsPackOf, HasGone, HasEnded, reason_of};
+ghost use Rattle.session_core.specs.Engines.{Packs};
+
+use crate::engine::{Engine, PackFault, Packed, RunFault};
+use crate::entry::{DiedCause, Entry, MoveRefusal};
+use crate::journal::Journal;
+use crate::reply::Done;
+use crate::request::{Ask, Request};
+use graph_model::Weights;
+use nb_outside::Feed;
+use std::alloc::Global;
+
+/// The host of a session that is settled.
+fn settled_owner(journal: &Journal) -> u32
+    requires { (progress_of journal.now.entries).phase ≡ settled }
+    ensures { result ≡ (progress_of journal.now.entries).owner }
+{
+    journal.owner().unwrap()
+}
+
+/// Serves a request that is no move on a session that is alive: it ran, or the session died.
+pub fn serve<E: Engine, F: Feed>(
+    alloc: Global,
+    journal: &mut Journal,
+    engine: &mut E,
+    feed: &mut F,
+    request: Request,
+) -> bool
+    requires spare { 1 ≤ journal.old.spare }
+    requires work { IsWork request.ask }
+    requires settled { (progress_of journal.old.entries).phase ≡ settled }
+    requires alive { (progress_of journal.old.entries).dead ≡ false }
+    requires stands { E.stands_for engine.old (progress_of journal.old.entries).served }
+    ensures noted { (hosts : ℕ) → (entry : Entry) × IsEnd (λ r. r ≡ request) entry × IsNoted E.meaning hosts journal.old.entries journal.new.entries entry }
+    ensures stands { result ≡ true → E.stands_for engine.new (progress_of journal.new.entries).served }
+    ensures host { result ≡ true → E.host_of engine.new ≡ E.host_of engine.old }
+    ensures ends { result ≡ true → (progress_of journal.new.entries).dead ≡ is_end request.ask }
+    ensures dead { result ≡ false → (progress_of journal.new.entries).dead ≡ true }
+    ensures served { result ≡ false → (progress_of journal.new.entries).served ≡ (progress_of journal.old.entries).served }
+    ensures spare { journal.old.spare ≡ journal.new.spare + 1 }
+{
+    let host = settled_owner(journal);
+    let count = engine.count();
+    match engine.run(alloc, &request.ask, feed) {
+        Ok(done) => {
+            let Done { reply, draws } = done;
+            journal.push(Entry::Ran {
+                host,
+                request,
+                draws,
+                reply,
+            });
+            true
+        }
+        Err(fault) => {
+            let cause = died_by(fault);
+            journal.push(Entry::Died {
+                host,
+                request,
+                count,
+                cause,
+            });
+            false
+        }
+    }
+}
+
+fn died_by(fault: RunFault) -> DiedCause
+    ensures { result ≡ cause_of fault }
+{
+    match fault {
+        RunFault::OutOfMemory => DiedCause::OutOfMemory,
+        RunFault::TooMany { which, draws } => DiedCause::TooMany { which, draws },
+    }
+}
+
+/// Answers a request that is no move on a session that is dead, whose count this is.
+pub fn answer_dead<E: Engine>(_engine: &E, journal: &mut Journal, count: u32, request: Request)
+    requires spare { 1 ≤ journal.old.spare }
+    requires work { IsWork request.ask }
+    requires settled { (progress_of journal.old.entries).phase ≡ settled }
+    requires dead { (progress_of journal.old.entries).dead ≡ true }
+    requires count { count ≡ E.meaning.count (progress_of journal.old.entries).served }
+    ensures noted { (hosts : ℕ) → (entry : Entry) × IsEnd (λ r. r ≡ request) entry × IsNoted E.meaning hosts journal.old.entries journal.new.entries entry }
+    ensures spare { journal.old.spare ≡ journal.new.spare + 1 }
+{
+    let host = settled_owner(journal);
+    journal.push(Entry::Dead {
+        host,
+        request,
+        count,
+    });
+}
+
+/// The host and the weights of a move.
+fn aim_of(ask: &Ask) -> (u64, Weights)
+    requires { is_move ask.now ≡ true }
+    ensures { ask.now ≡ asks.Migrate result.0 result.1 }
+{
+    match ask {
+        Ask::Migrate { to, weights } => (*to, *weights),
+        _ => unreachable!(),
+    }
+}
+
+/// The first reason not to plan a move: the session is dead, it is on that host, or there is no such host.
+fn reason_before_planning(journal: &Journal, hosts: u32, dead: bool, to: u64) -> Option<MoveRefusal>
+    requires settled { (progress_of journal.now.entries).phase ≡ settled }
+    requires dead { dead ≡ (progress_of journal.now.entries).dead }
+    ensures { MatchOption result (IsFree hosts (progress_of journal.now.entries) to) (IsEarly hosts (progress_of journal.now.entries) to) }
+{
+    if dead {
+        return Some(MoveRefusal::DeadKernel);
+    }
+    if to == u64::from(settled_owner(journal)) {
+        return Some(MoveRefusal::SameHost);
+    }
+    if to >= u64::from(hosts) {
+        return Some(MoveRefusal::UnknownHost(to));
+    }
+    None
+}
+
+/// Puts the entry that it doesn't move, and why.
+fn refuse(journal: &mut Journal, request: Request, reason: MoveRefusal)
+    requires spare { 1 ≤ journal.old.spare }
+    requires settled { (progress_of journal.old.entries).phase ≡ settled }
+    ensures entries { journal.new.entries ≡ journal.old.entries ++ Entry.Refused (progress_of journal.old.entries).owner request reason ∷ [] }
+{
+    let host = settled_owner(journal);
+    journal.push(Entry::Refused {
+        host,
+        request,
+        reason,
+    });
+}
+
+/// Puts the entry that it stays for want of memory.
+fn resume(journal: &mut Journal, host: u32, request: Request)
+    requires { 1 ≤ journal.old.spare }
+    ensures { journal.new.entries ≡ journal.old.entries ++ Entry.Resumed host request ∷ [] }
+{
+    journal.push(Entry::Resumed { host, request });
+}
+
+/// A move by this pack: sealed, moved, and then adopted or, for want of memory, resumed.
+fn go<E: Engine + Drop>(
+    alloc: Global,
+    journal: &mut Journal,
+    engine: E,
+    to: u32,
+    packed: Packed,
+    requests: (Request, Request),
+) -> E
+    requires spare { 3 ≤ journal.old.spare }
+    requires settled { (progress_of journal.old.entries).phase ≡ settled }
+    requires packed { IsPackOf E.meaning (progress_of journal.old.entries).served packed }
+    requires stands { E.stands_for engine (progress_of journal.old.entries).served × (E.host_of engine ≡ (progress_of journal.old.entries).owner) }
+    ensures { HasGone E.meaning journal.old.entries journal.new.entries to requests.0 requests.1 packed.certified
+        (λ host. E.stands_for result (progress_of journal.old.entries).served × (E.host_of result ≡ host)) }
+{
+    let host = settled_owner(journal);
+    let Packed { bytes, certified } = packed;
+    let (request, again) = requests;
+    journal.push(Entry::Sealed { host, request, to });
+    journal.push(Entry::Moved { to });
+    match E::unpack(alloc, bytes.as_slice(), to) {
+        Ok((arrived, objects)) => {
+            journal.push(Entry::Adopted {
+                from: host,
+                to,
+                request: again,
+                certified,
+                objects,
+            });
+            arrived
+        }
+        Err(_) => {
+            resume(journal, host, again);
+            engine
+        }
+    }
+}
+
+/// Why a pack that failed keeps the session where it is; None for want of memory.
+fn reason_against(fault: PackFault) -> Option<MoveRefusal>
+    ensures { result ≡ reason_of fault }
+{
+    match fault {
+        PackFault::OutOfMemory => None,
+        PackFault::BadWeights(fault) => Some(MoveRefusal::BadWeights(fault)),
+        PackFault::Stuck {
+            version,
+            cell,
+            names,
+        } => Some(MoveRefusal::Stuck {
+            version,
+            cell,
+            names,
+        }),
+    }
+}
+
+/// A move that can't be packed: it is refused or, for want of memory, resumed.
+fn stay_behind<E: Engine>(
+    _engine: &E,
+    journal: &mut Journal,
+    hosts: u32,
+    to: u32,
+    weights: &Weights,
+    request: Request,
+    fault: PackFault,
+)
+    requires spare { 1 ≤ journal.old.spare }
+    requires settled { (progress_of journal.old.entries).phase ≡ settled }
+    requires asked { request.ask ≡ asks.Migrate to weights.now }
+    requires free { IsFree hosts (progress_of journal.old.entries) to }
+    requires fault { Packs E.meaning (progress_of journal.old.entries).served weights.now (Err fault) }
+    ensures ended { HasEnded E.meaning hosts journal.old.entries journal.new.entries request }
+    ensures owner { (progress_of journal.new.entries).owner ≡ (progress_of journal.old.entries).owner }
+{
+    match reason_against(fault) {
+        Some(reason) => refuse(journal, request, reason),
+        None => resume(journal, settled_owner(&*journal), request),
+    }
+}
+
+/// A move by a pack of the session: it is adopted or, for want of memory, resumed.
+fn depart<E: Engine + Drop>(
+    alloc: Global,
+    journal: &mut Journal,
+    engine: E,
+    hosts: u32,
+    to: u32,
+    weights: &Weights,
+    request: Request,
+    packed: Packed,
+) -> E
+    requires spare { 3 ≤ journal.old.spare }
+    requires settled { (progress_of journal.old.entries).phase ≡ settled }
+    requires asked { request.ask ≡ asks.Migrate to weights.now }
+    requires free { IsFree hosts (progress_of journal.old.entries) to }
+    requires stands { E.stands_for engine (progress_of journal.old.entries).served × (E.host_of engine ≡ (progress_of journal.old.entries).owner) }
+    requires packed { Packs E.meaning (progress_of journal.old.entries).served weights.now (Ok packed) }
+    ensures ended { HasEnded E.meaning hosts journal.old.entries journal.new.entries request }
+    ensures stands { E.stands_for result (progress_of journal.new.entries).served × (E.host_of result ≡ (progress_of journal.new.entries).owner) }
+{
+    match request.copy(alloc) {
+        Ok(again) => go(alloc, journal, engine, to, packed, (request, again)),
+        Err(_) => {
+            resume(journal, settled_owner(&*journal), request);
+            engine
+        }
+    }
+}
+
+/// The plan for a move to a host that is there, and the move by it: it is adopted, refused or, for want of memory, resumed.
+fn plan_and_go<E: Engine + Drop>(
+    alloc: Global,
+    journal: &mut Journal,
+    engine: E,
+    hosts: u32,
+    to: u32,
+    weights: &Weights,
+    request: Request,
+) -> E
+    requires spare { 3 ≤ journal.old.spare }
+    requires settled { (progress_of journal.old.entries).phase ≡ settled }
+    requires asked { request.ask ≡ asks.Migrate to weights.now }
+    requires free { IsFree hosts (progress_of journal.old.entries) to }
+    requires stands { E.stands_for engine (progress_of journal.old.entries).served × (E.host_of engine ≡ (progress_of journal.old.entries).owner) }
+    ensures ended { HasEnded E.meaning hosts journal.old.entries journal.new.entries request }
+    ensures stands { E.stands_for result (progress_of journal.new.entries).served × (E.host_of result ≡ (progress_of journal.new.entries).owner) }
+{
+    match engine.pack(alloc, weights) {
+        Ok(packed) => depart(alloc, journal, engine, hosts, to, weights, request, packed),
+        Err(fault) => {
+            stay_behind(&engine, journal, hosts, to, weights, request, fault);
+            engine
+        }
+    }
+}
+
+/// Answers a request to move: it is adopted, refused for the first reason that holds, or, for want of memory, resumed.
+pub fn attempt<E: Engine + Drop>(
+    alloc: Global,
+    journal: &mut Journal,
+    engine: E,
+    hosts: u32,
+    dead: bool,
+    request: Request,
+) -> E
+    requires spare { 3 ≤ journal.old.spare }
+    requires settled { (progress_of journal.old.entries).phase ≡ settled }
+    requires asked { is_move request.ask ≡ true }
+    requires dead { dead ≡ (progress_of journal.old.entries).dead }
+    requires stands { dead ≡ false → E.stands_for engine (progress_of journal.old.entries).served × (E.host_of engine ≡ (progress_of journal.old.entries).owner) }
+    ensures ended { HasEnded E.meaning hosts journal.old.entries journal.new.entries request }
+    ensures stands { dead ≡ false → E.stands_for result (progress_of journal.new.entries).served × (E.host_of result ≡ (progress_of journal.new.entries).owner) }
+{
+    let (to, weights) = aim_of(&request.ask);
+    match reason_before_planning(&*journal, hosts, dead, to) {
+        Some(reason) => {
+            refuse(journal, request, reason);
+            engine
+        }
+        None => plan_and_go(alloc, journal, engine, hosts, to as u32, &weights, request),
+    }
+}
