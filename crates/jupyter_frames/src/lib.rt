@@ -10,3 +10,6 @@ mod write;
 
 pub use framer::{FrameFault, Framer, Next};
 pub use write::write_frame;
+
+#[cfg(test)]
+mod tests;
