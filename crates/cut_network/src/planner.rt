@@ -16,6 +16,8 @@ use flow_arcs::max_flow_with_cut;
 use graph_model::{Certified, Graph, Plan, Weights};
 use plain_data::Items;
 use std::alloc::{AllocError, Global};
+use std::error::Error;
+use std::fmt;
 
 /// Why there is no plan.
 #[derive(Clone, Copy, Debug, PartialEq, Eq)]
@@ -32,6 +34,19 @@ impl From<AllocError> for PlanFault {
         PlanFault::OutOfMemory
     }
 }
+
+impl fmt::Display for PlanFault {
+    fn fmt<W: fmt::Write>(&self, f: &mut fmt::Formatter<W>) -> fmt::Result {
+        match *self {
+            PlanFault::OutOfMemory => write!(f, "out of memory"),
+            PlanFault::Stuck { version, cell } => {
+                write!(f, "version {version} is stuck with cell {cell}")
+            }
+        }
+    }
+}
+
+impl Error for PlanFault {}
 
 /// The active versions that a cut leaves outside.
 fn copied_by(

@@ -24,6 +24,19 @@ fn has_drawn(graph: &Graph, c: u32) -> bool
     }
 }
 
+/// Whether some cell drew.
+fn some_drew(graph: &Graph) -> bool
+    requires { IsGraph graph.now }
+    ensures { result ≡ false → (c : ℕ) → ¬ HasDrawn graph.now c }
+{
+    for before in 0..graph.cell_count() {
+        if has_drawn(graph, before + 1) {
+            return true;
+        }
+    }
+    false
+}
+
 /// The least of these cells that drew.
 fn first_drawn(graph: &Graph, cells: &[u32]) -> Option<u32>
     requires { Ascends (λ m n. m < n) cells.now }
@@ -165,6 +178,9 @@ pub(crate) fn first_stuck(alloc: Global, graph: &Graph) -> Result<Option<StuckPa
     requires { IsGraph graph.now }
     ensures { IfOk result (λ pair. MatchOption pair ((v c : ℕ) → ¬ IsStuck graph.now v c) (λ p. IsFirstStuck graph.now p.version p.cell)) }
 {
+    if !some_drew(graph) {
+        return Ok(None);
+    }
     let marks = drawn_marks(alloc, graph)?;
     for before in 0..graph.version_count() {
         let version = before + 1;

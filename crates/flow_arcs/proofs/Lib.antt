@@ -5,3 +5,5 @@ pub mod Solving
 pub mod Partners
 pub mod Ways
 pub mod Listing
+pub mod Resting
+pub mod Chaining

@@ -4,6 +4,8 @@ ghost use Rattle.flow_arcs.specs.Faults.{IsFirstFault};
 
 use crate::flow::{Flow, sums_at};
 use crate::network::Network;
+use std::error::Error;
+use std::fmt;
 
 /// What is wrong with a flow.
 #[derive(Clone, Copy, Debug, PartialEq, Eq)]
@@ -15,6 +17,18 @@ pub enum FlowFault {
     /// That inner node doesn't give what it takes, and it is the first.
     Unbalanced(u32),
 }
+
+impl fmt::Display for FlowFault {
+    fn fmt<W: fmt::Write>(&self, f: &mut fmt::Formatter<W>) -> fmt::Result {
+        match *self {
+            FlowFault::Length => write!(f, "the flow hasn't one number for each arc"),
+            FlowFault::Over(arc) => write!(f, "arc {arc} carries more than its capacity"),
+            FlowFault::Unbalanced(node) => write!(f, "node {node} doesn't give what it takes"),
+        }
+    }
+}
+
+impl Error for FlowFault {}
 
 /// Whether a flow is legal, and else its first fault: its length, then the arcs, then the nodes. Takes no memory.
 pub fn check_flow(net: &Network, flow: &Flow) -> Result<(), FlowFault>

@@ -2,10 +2,11 @@
 //!
 //! A network is built arc by arc; each arc has two directed ones, 2i along it and 2i + 1 back, and each node a list of those
 //! that leave it. `max_flow` and `max_flow_with_cut` first send flow down an order of the nodes, each amount going on from
-//! node to node as one; then down the distances to the sink, as long as that sends any; then along single shortest paths,
-//! until the sink isn't reached. The nodes that are reached then are a cut whose capacity is the flow's value, so no flow
-//! is greater: that rests on the last search alone, and each pass before it keeps the flow legal. `check_flow` says
-//! whether a flow is legal, and else its first fault, by one walk along each node's list.
+//! node to node as one. Then, as long as a search from the source reaches the sink, they send flow along the path that it
+//! found, and down the distances to the sink until that sends none. The nodes that the last search reached are a cut whose
+//! capacity is the flow's value, so no flow is greater: that rests on this search alone, and each pass before it keeps the
+//! flow legal. So the ranks, by which flow is sent, promise their number alone, and whatever they are the flow is greatest.
+//! `check_flow` says whether a flow is legal, and else its first fault, by one walk along each node's list.
 #![tactic(auto)]
 
 mod chains;

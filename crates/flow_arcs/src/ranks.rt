@@ -4,7 +4,11 @@ use crate::lists::number_at;
 use crate::network::Network;
 use crate::pairs::partner;
 use crate::send::{SHUT, SINK, Turns};
+use flow_model::Arc;
 use std::alloc::{AllocError, Global};
+
+/// How often the arcs are walked for an order of the nodes.
+const WALKS: u32 = 8;
 
 /// Ranks of nodes, and the nodes in the order in which they got them.
 #[derive(Drop)]
@@ -64,36 +68,6 @@ impl Ranking {
         }
         Ok(())
     }
-
-    /// Counts this node out of those that its arcs come from, and gives a rank to those of which it was the last.
-    fn count_out(
-        &mut self,
-        turns: &Turns,
-        degree: &mut [u32],
-        node: u32,
-        value: u32,
-    ) -> Result<(), AllocError>
-        ensures { OnOk result (length self.new.rank.items ≡ length self.old.rank.items) }
-    {
-        let mut place = number_at(&turns.first, node);
-        'arcs: for _ in 0..turns.next.len() {
-            if place == 0 {
-                break;
-            }
-            let arc = place - 1;
-            if arc % 2 == 1 {
-                let from = number_at(&turns.to, arc);
-                if let Some(count) = degree.get_mut(from as usize) {
-                    *count = count.saturating_sub(1);
-                    if *count == 0 {
-                        self.give(from, value)?;
-                    }
-                }
-            }
-            place = number_at(&turns.next, arc);
-        }
-        Ok(())
-    }
 }
 
 /// How far each node is from the sink along arcs that may carry more; shut where it doesn't reach the sink.
@@ -119,36 +93,35 @@ pub fn distances(
     Ok(ranking.rank)
 }
 
-/// How many arcs leave each node.
-fn degrees(alloc: Global, net: &Network) -> Result<Vec<u32>, AllocError> {
-    let mut degree = vec![in alloc; 0u32; net.nodes() as usize]?;
-    for arc in net.arcs() {
-        if let Some(count) = degree.get_mut(arc.from as usize) {
-            *count = count.saturating_add(1);
+/// Lifts nodes above those that their arcs go to, arc by arc, and says whether it lifted any.
+fn lift(arcs: &[Arc], rank: &mut Vec<u32>) -> bool
+    ensures { length rank.new.items ≡ length rank.old.items }
+{
+    let mut lifted = false;
+    for arc in arcs {
+        let least = number_at(rank, arc.to).saturating_add(1);
+        if let Some(place) = rank.get_mut(arc.from as usize) {
+            if *place < least {
+                *place = least;
+                lifted = true;
+            }
         }
     }
-    Ok(degree)
+    lifted
 }
 
-/// An order of the nodes in which each arc goes to a lower rank; shut where arcs run in a circle.
-pub fn downward(alloc: Global, net: &Network, turns: &Turns) -> Result<Vec<u32>, AllocError>
+/// An order of the nodes in which each arc goes to a lower rank, where a few walks over the arcs find one. Else arcs
+/// may go up.
+pub fn downward(alloc: Global, net: &Network) -> Result<Vec<u32>, AllocError>
     ensures { IfOk result (λ rank. length rank.items ≡ net.now.nodes) }
 {
-    let mut ranking = Ranking::new(alloc, net.nodes())?;
-    let mut degree = degrees(alloc, net)?;
-    'ends: for node in 0..net.nodes() {
-        if number_at(&degree, node) == 0 {
-            ranking.give(node, 0)?;
+    let mut rank = vec![in alloc; 1u32; net.nodes() as usize]?;
+    rank[0] = SHUT - 1;
+    rank[1] = 0;
+    'walks: for _ in 0..WALKS {
+        if !lift(net.arcs(), &mut rank) {
+            break;
         }
     }
-    'nodes: for done in 0..net.nodes() {
-        match ranking.order.get(done as usize) {
-            Some(node) => {
-                let node = *node;
-                ranking.count_out(turns, &mut degree, node, done.saturating_add(1))?;
-            }
-            None => break,
-        }
-    }
-    Ok(ranking.rank)
+    Ok(rank)
 }

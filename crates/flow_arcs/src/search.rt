@@ -4,7 +4,7 @@ ghost use Rattle.flow_arcs.specs.Ends.{arc_at, near_end};
 ghost use Rattle.flow_arcs.specs.Chains.{IsChain};
 ghost use Rattle.flow_arcs.specs.Searches.{reached_at, IsSearch, Grows, IsShut, IsDone, IsClosed};
 
-use crate::chains::Chain;
+use crate::chains::{Chain, chain_arcs};
 use crate::ends::{far_end, spare_room};
 use crate::network::Network;
 use flow_model::Arc;
@@ -74,7 +74,7 @@ fn spread_from(
     requires few { length arcs.now < 2 ^ 32 }
     requires search { IsSearch arcs.now on.now search.old.tree.items search.old.seen.items }
     requires at { at < length search.old.tree.items }
-    requires chain { IsChain leaving (length search.old.seen.items) arcs.now (length arcs.now) chain.now.first.items chain.now.next.items }
+    requires chain { IsChain leaving (length search.old.seen.items) arcs.now on.now (length arcs.now) chain.now.first.items chain.now.next.items }
     ensures search { OnOk result (IsSearch arcs.now on.now search.new.tree.items search.new.seen.items) }
     ensures grows { OnOk result (Grows search.old.tree.items search.new.tree.items search.old.seen.items search.new.seen.items) }
     ensures done { OnOk result (IsDone leaving arcs.now on.now search.new.seen.items (reached_at search.old.tree.items at).node) }
@@ -89,26 +89,20 @@ fn spread_from(
 }
 
 /// Searches from the source along arcs with room, nearest nodes first, until the sink is reached or nothing is left.
-pub fn search_room(
-    alloc: Global,
-    net: &Network,
-    on: &[u64],
-    leaving: &Chain,
-    entering: &Chain,
-) -> Result<Search, AllocError>
+pub fn search_room(alloc: Global, net: &Network, on: &[u64]) -> Result<Search, AllocError>
     requires within { IsWithin net.now.arcs on.now }
-    requires leaving { IsChain true net.now.nodes net.now.arcs (length net.now.arcs) leaving.now.first.items leaving.now.next.items }
-    requires entering { IsChain false net.now.nodes net.now.arcs (length net.now.arcs) entering.now.first.items entering.now.next.items }
     ensures search { IfOk result (λ search. IsSearch net.now.arcs on.now search.tree.items search.seen.items) }
     ensures nodes { IfOk result (λ search. length search.seen.items ≡ net.now.nodes) }
     ensures closed { IfOk result (λ search. slice_index search.seen.items 1 ≡ 0 → IsClosed net.now.arcs on.now search.seen.items) }
 {
-    let mut search = begin_search(alloc, net, on)?;
     let arcs = net.arcs();
+    let leaving = chain_arcs(alloc, net.nodes(), arcs, on, true)?;
+    let entering = chain_arcs(alloc, net.nodes(), arcs, on, false)?;
+    let mut search = begin_search(alloc, net, on)?;
     let mut done = 0usize;
     while done < search.tree.len() && search.seen[1] == 0 {
-        spread_from(arcs, on, leaving, done, true, &mut search)?;
-        spread_from(arcs, on, entering, done, false, &mut search)?;
+        spread_from(arcs, on, &leaving, done, true, &mut search)?;
+        spread_from(arcs, on, &entering, done, false, &mut search)?;
         done += 1;
     }
     Ok(search)

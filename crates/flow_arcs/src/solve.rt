@@ -2,8 +2,7 @@ ghost use Rattle.std.specs.Prelude.{◌≡◌, IfOk, length, map, nat_lt};
 ghost use Rattle.flow_model.specs.Flows.{IsLegal, IsGreatest, IsCut, value, cut_capacity};
 ghost use Rattle.flow_arcs.specs.Sides.{side};
 
-use crate::chains::chain_arcs;
-use crate::fast::fast_flow;
+use crate::fast::{levelled_flow, swept_flow};
 use crate::flow::{Cut, Flow};
 use crate::network::Network;
 use crate::push::push_along;
@@ -29,11 +28,9 @@ pub fn max_flow_with_cut(alloc: Global, net: &Network) -> Result<(Flow, Cut), Al
     ensures least { IfOk result (λ both. cut_capacity (side both.1.inside) net.now.arcs ≡ value net.now both.0.on) }
 {
     let arcs = net.arcs();
-    let leaving = chain_arcs(alloc, net.nodes(), arcs, true)?;
-    let entering = chain_arcs(alloc, net.nodes(), arcs, false)?;
-    let mut on = fast_flow(alloc, net)?;
+    let mut on = swept_flow(alloc, net)?;
     loop {
-        let search = search_room(alloc, net, &on, &leaving, &entering)?;
+        let search = search_room(alloc, net, &on)?;
         if search.seen[1] == 0 {
             let flow = Flow {
                 on: Items::from_vec(on),
@@ -44,6 +41,7 @@ pub fn max_flow_with_cut(alloc: Global, net: &Network) -> Result<(Flow, Cut), Al
             return Ok((flow, cut));
         }
         push_along(net, &mut on, &search);
+        on = levelled_flow(alloc, net, &on)?;
     }
 }
 

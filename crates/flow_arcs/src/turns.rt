@@ -1,8 +1,9 @@
-ghost use Rattle.std.specs.Prelude.{◌≡◌, ◌<◌, ◌≤◌, ◌^◌, length, replicate, IfOk};
-ghost use Rattle.flow_model.specs.Flows.{IsNet};
+ghost use Rattle.std.specs.Prelude.{◌≡◌, ◌<◌, ◌≤◌, ◌^◌, length, IfOk};
+ghost use Rattle.flow_model.specs.Flows.{IsNet, IsWithin, IsLegal};
 ghost use Rattle.flow_arcs.specs.Pairs.{heads, IsPaired, carried};
 ghost use Rattle.flow_arcs.specs.Ways.{IsTurns};
 
+use crate::ends::spare_room;
 use crate::network::Network;
 use crate::pairs::partner;
 use crate::send::{SINK, Turns};
@@ -21,15 +22,27 @@ fn heads_of(alloc: Global, arcs: &[Arc]) -> Result<Vec<u32>, AllocError>
     Ok(to)
 }
 
-/// How much each directed arc may carry while nothing flows.
-pub fn fresh_rests(alloc: Global, arcs: &[Arc]) -> Result<Vec<u64>, AllocError>
-    ensures paired { IfOk result (λ rest. IsPaired arcs.now rest.items) }
-    ensures idle { IfOk result (λ rest. carried rest.items ≡ replicate (length arcs.now) 0) }
+/// The flow that carries nothing.
+pub fn idle_flow(alloc: Global, net: &Network) -> Result<Vec<u64>, AllocError>
+    ensures { IfOk result (λ on. IsLegal net.now on.items) }
 {
+    let arcs = net.arcs();
+    let on = vec![in alloc; 0u64; arcs.len()]?;
+    Ok(on)
+}
+
+/// How much more each directed arc may carry under a flow.
+pub fn rests_of(alloc: Global, net: &Network, on: &[u64]) -> Result<Vec<u64>, AllocError>
+    requires { IsWithin net.now.arcs on.now }
+    ensures paired { IfOk result (λ rest. IsPaired net.now.arcs rest.items) }
+    ensures carried { IfOk result (λ rest. carried rest.items ≡ on.now) }
+{
+    let arcs = net.arcs();
     let mut rest = Vec::new(alloc);
-    for arc in arcs {
-        rest.push(arc.capacity)?;
-        rest.push(0)?;
+    for (i, arc) in arcs.iter().enumerate() {
+        let amount = on[i];
+        rest.push(spare_room(arc, amount, true))?;
+        rest.push(amount)?;
     }
     Ok(rest)
 }
@@ -61,8 +74,8 @@ fn link(net: &Network, turns: &mut Turns, arc: u32)
 }
 
 /// Puts the arcs that enter the sink, or those that don't, before the others of their nodes, in the order in which they
-/// were added.
-fn link_arcs(net: &Network, turns: &mut Turns, to_sink: bool)
+/// were added; the ways back too, where they are wanted.
+fn link_arcs(net: &Network, turns: &mut Turns, to_sink: bool, back: bool)
     requires few { length (heads net.now.arcs) < 2 ^ 32 }
     requires net { IsNet net.now }
     requires turns { IsTurns net.now turns.old.to.items turns.old.first.items turns.old.next.items }
@@ -71,15 +84,16 @@ fn link_arcs(net: &Network, turns: &mut Turns, to_sink: bool)
     let count = turns.to.len() as u32;
     for done in 0..count {
         let arc = count - 1 - done;
-        if (turns.to[arc as usize] == SINK) == to_sink {
+        let wanted = back || arc % 2 == 0;
+        if wanted && (turns.to[arc as usize] == SINK) == to_sink {
             link(net, turns, arc);
         }
     }
 }
 
 /// The arcs of each node in the order in which flow is sent along them: first those that enter the sink, then the others,
-/// as they were added.
-pub fn turns_of(alloc: Global, net: &Network) -> Result<Turns, AllocError>
+/// as they were added. The ways back are among them where they are wanted.
+pub fn turns_of(alloc: Global, net: &Network, back: bool) -> Result<Turns, AllocError>
     requires few { length (heads net.now.arcs) < 2 ^ 32 }
     requires net { IsNet net.now }
     ensures { IfOk result (λ turns. IsTurns net.now turns.to.items turns.first.items turns.next.items) }
@@ -88,7 +102,7 @@ pub fn turns_of(alloc: Global, net: &Network) -> Result<Turns, AllocError>
     let first = vec![in alloc; 0u32; net.nodes() as usize]?;
     let next = vec![in alloc; 0u32; to.len()]?;
     let mut turns = Turns { to, first, next };
-    link_arcs(net, &mut turns, false);
-    link_arcs(net, &mut turns, true);
+    link_arcs(net, &mut turns, false, back);
+    link_arcs(net, &mut turns, true, back);
     Ok(turns)
 }

@@ -1,4 +1,6 @@
 use plain_data::{Items, Text};
+use std::error::Error;
+use std::fmt;
 
 /// What is kept of a cell that ended.
 #[derive(Debug, Drop)]
@@ -53,3 +55,19 @@ pub enum GraphFault {
     /// The version's names.
     BadNames(u32),
 }
+
+impl fmt::Display for GraphFault {
+    fn fmt<W: fmt::Write>(&self, f: &mut fmt::Formatter<W>) -> fmt::Result {
+        match *self {
+            GraphFault::BadWriter(v) => write!(f, "version {v} has a bad writer or place"),
+            GraphFault::BadRead(c) => write!(f, "cell {c} has bad reads or missed names"),
+            GraphFault::TwoActive(v) => write!(
+                f,
+                "version {v} isn't replaced by the next with its names"
+            ),
+            GraphFault::BadNames(v) => write!(f, "version {v} has bad names"),
+        }
+    }
+}
+
+impl Error for GraphFault {}

@@ -11,7 +11,7 @@ use session::make_session;
 use shape::{Shape, make_shape};
 use std::env;
 use std::rt::Env;
-use steps::{planned, timed};
+use steps::{Times, planned, timed};
 
 mod session;
 mod shape;
@@ -19,6 +19,9 @@ mod steps;
 
 /// The most cells that are planned.
 const MOST: u32 = 100_000;
+
+/// How often the steps are timed.
+const ROUNDS: u32 = 3;
 
 /// What the command line asks for.
 #[derive(Drop)]
@@ -110,6 +113,15 @@ fn print_graph(rt: &HostRuntime, graph: &Graph) -> Result<()> {
     Ok(())
 }
 
+/// A line of what each step took.
+fn print_times(rt: &HostRuntime, times: &Times) -> Result<()> {
+    println!(rt;
+        "check {} plan {} flow {} check_plan {}",
+        times.check, times.plan, times.flow, times.judge
+    )?;
+    Ok(())
+}
+
 fn main(rt: HostRuntime) -> Result<()> {
     let Wanted {
         shape,
@@ -120,8 +132,10 @@ fn main(rt: HostRuntime) -> Result<()> {
     match shown.as_str() {
         "graph" => print_graph(&rt, &graph)?,
         "times" => {
-            let times = timed(&rt, &graph)?;
-            println!(rt; "check {} plan {}", times.check, times.plan)?;
+            for _ in 0..ROUNDS {
+                let times = timed(&rt, &graph)?;
+                print_times(&rt, &times)?;
+            }
         }
         _ => {
             let best = planned(&rt, &graph)?;

@@ -7,6 +7,8 @@ ghost use Rattle.graph_model.specs.Plans.{NamesOf, IsFeasible};
 ghost use Rattle.plan_model.specs.Failing.{IsLost, CopiesHandle, FailsVersion, LacksWriter, LacksSomeWriter, RerunFails, FailsCell, IsFirstFailing};
 
 use graph_model::{CellRecord, Graph, Plan, Version};
+use std::error::Error;
+use std::fmt;
 
 /// A version or a cell.
 #[derive(Clone, Copy, Debug, PartialEq, Eq)]
@@ -14,6 +16,17 @@ pub enum Item {
     Version(u32),
     Cell(u32),
 }
+
+impl fmt::Display for Item {
+    fn fmt<W: fmt::Write>(&self, f: &mut fmt::Formatter<W>) -> fmt::Result {
+        match *self {
+            Item::Version(v) => write!(f, "version {v}"),
+            Item::Cell(c) => write!(f, "cell {c}"),
+        }
+    }
+}
+
+impl Error for Item {}
 
 /// Whether the number is among the numbers, which ascend.
 fn has(numbers: &[u32], number: u32) -> bool

@@ -3,6 +3,8 @@ ghost use Rattle.graph_model.specs.Plans.{copy_weight, rerun_weight, finite_copy
 ghost use Rattle.plan_model.specs.Weighing.{IsFirstOver, AreSmall, IsWeightFault};
 
 use graph_model::{CellRecord, Graph, Version, Weights};
+use std::error::Error;
+use std::fmt;
 
 /// The most that each weight may be.
 const MOST: u64 = 1_000_000;
@@ -24,6 +26,28 @@ pub enum WeightFault {
     /// The sum of the finite weights, which reaches 2^63.
     TooMuch(u128),
 }
+
+impl fmt::Display for Weight {
+    fn fmt<W: fmt::Write>(&self, f: &mut fmt::Formatter<W>) -> fmt::Result {
+        match self {
+            Weight::CopyBase => write!(f, "copy_base"),
+            Weight::PerByte => write!(f, "per_byte"),
+            Weight::RunBase => write!(f, "run_base"),
+            Weight::PerStep => write!(f, "per_step"),
+        }
+    }
+}
+
+impl fmt::Display for WeightFault {
+    fn fmt<W: fmt::Write>(&self, f: &mut fmt::Formatter<W>) -> fmt::Result {
+        match *self {
+            WeightFault::Over(weight) => write!(f, "{weight} is above 1000000"),
+            WeightFault::TooMuch(sum) => write!(f, "the weights sum to {sum}, past 63 bits"),
+        }
+    }
+}
+
+impl Error for WeightFault {}
 
 /// What copying the version costs.
 pub fn copy_weight(weights: &Weights, version: &Version) -> u64

@@ -10,3 +10,6 @@ loop-before-preserved c = not_stuck_at c.args.graph.now c.loop-before.before c.i
 
 pub returns : goal.returns
 returns c = never_stuck c.args.graph.now c.loop-before.before (omega arith) c.loop-before.invariant
+
+pub returns-then-not-some_drew : goal.returns-then-not-some_drew
+returns-then-not-some_drew c = λ v d s. c.some_drew.ensures c.if-not-some_drew.true d (s.cell, s.at, s.drew)

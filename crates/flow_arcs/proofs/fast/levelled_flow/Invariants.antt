@@ -1,0 +1,15 @@
+use Rattle.std.proofs.Common.{◌-◌, ◌≤◌}
+use Rattle.flow_model.specs.Flows.{IsLegal, value}
+use Rattle.flow_arcs.specs.Pairs.{IsPaired, carried}
+use Rattle.flow_arcs.proofs.Solving.{total_capacity}
+use Rattle.flow_arcs.proofs.fast.levelled_flow.Given as goal
+
+abbrev pub invariant-rounds : goal.invariant-rounds
+invariant-rounds l = record {
+  paired : IsPaired l.net.arcs l.sender.rest.items;
+  legal : IsLegal l.net (carried l.sender.rest.items);
+  value : value l.net l.on ≤ value l.net (carried l.sender.rest.items);
+}
+
+abbrev pub decreases-rounds : goal.decreases-rounds
+decreases-rounds l = total_capacity l.net.arcs - value l.net (carried l.sender.rest.items)
