@@ -7,6 +7,8 @@ use nb_outside::{Drawn, Feed};
 use plain_data::{Items, Text};
 use plan_model::WeightFault;
 use std::alloc::{AllocError, Global};
+use std::error::Error;
+use std::fmt;
 
 /// Why an engine gave no reply. It is only dropped then.
 #[derive(Debug, Drop)]
@@ -15,6 +17,17 @@ pub enum RunFault {
     /// With these draws, one of the six numbers of a session would reach 2^32.
     TooMany { which: Tally, draws: Items<Drawn> },
 }
+
+impl fmt::Display for RunFault {
+    fn fmt<W: fmt::Write>(&self, f: &mut fmt::Formatter<W>) -> fmt::Result {
+        match self {
+            RunFault::OutOfMemory => write!(f, "out of memory"),
+            RunFault::TooMany { .. } => write!(f, "session full"),
+        }
+    }
+}
+
+impl Error for RunFault {}
 
 /// What an engine is packed as, and the plan by which.
 #[derive(Debug, Drop)]
@@ -38,6 +51,23 @@ pub enum PackFault {
         names: Items<Text>,
     },
 }
+
+impl fmt::Display for PackFault {
+    fn fmt<W: fmt::Write>(&self, f: &mut fmt::Formatter<W>) -> fmt::Result {
+        match self {
+            PackFault::OutOfMemory => write!(f, "out of memory"),
+            PackFault::BadWeights(_) => write!(f, "the weights aren't admitted"),
+            PackFault::Stuck { version, cell, .. } => {
+                write!(
+                    f,
+                    "version {version} can't be copied, and cell {cell} can't run again"
+                )
+            }
+        }
+    }
+}
+
+impl Error for PackFault {}
 
 /// What a session runs on: a kernel on a host, by the lists of asks that it may have served.
 ///
