@@ -1,10 +1,12 @@
 -- The messages of a stream of bytes: an opening, cells, and what stands after them.
-use Rattle.std.specs.Prelude.{ℕ, zero, suc, ◌+◌, ◌&&◌, Bool, cond, ◌==◌, nat_lt, nat_le, List, [], ◌∷◌, length, take, drop, Option, Some, None, option_map, option_and_then}
+use Rattle.std.specs.Prelude.{ℕ, zero, suc, ◌+◌, ◌&&◌, Bool, false, cond, ◌==◌, nat_lt, nat_le, List, [], ◌∷◌, length, take, drop, Option, Some, None, option_map, option_and_then, Result, Ok, Err}
 use Rattle.std.specs.Int.{w32, from_be_bytes}
-use Rattle.jupyter_messages.specs.declared.message.Header.{Header}
+use Rattle.session_core.specs.declared.request.Header.{Header}
 use Rattle.jupyter_messages.specs.declared.message.Message.{Message}
 use Rattle.jupyter_messages.specs.declared.message.MessageKind.{MessageKind}
-use Rattle.jupyter_messages.specs.declared.message.MessageKind.TheVariants.{Open, Execute}
+use Rattle.jupyter_messages.specs.declared.message.MessageKind.TheVariants.{Open, Ask}
+use Rattle.jupyter_messages.specs.declared.fault.MessageFault.{MessageFault}
+use Rattle.session_core.specs.declared.request.Ask.TheVariants as ask
 use Rattle.jupyter_messages.specs.Reading.{message_in}
 use Rattle.elastic_notebook.specs.declared.intake.Cell.{Cell}
 
@@ -24,21 +26,31 @@ frame_at bytes = cond (begins_frame bytes) (Some (take (length_of bytes) (drop 4
 
 -- ---- messages
 
--- the supported message at the front, and what stands after it
-unfoldable pub message_at : List ℕ → Option (Message × List ℕ)
-message_at bytes = option_and_then (λ f. option_map (λ m. (m, f.1)) (message_in f.0)) (frame_at bytes)
+abbrev pub if_read : Result Message MessageFault → Option Message
+if_read (Ok message) = Some message
+if_read (Err fault) = None
 
-abbrev pub as_opening : MessageKind → Message → List ℕ → Option (Message × List ℕ)
-as_opening Open m rest = Some (m, rest)
-as_opening (Execute code) m rest = None
+-- the message at the front, and what stands after it
+unfoldable pub message_at : List ℕ → Option (Message × List ℕ)
+message_at bytes = option_and_then (λ f. option_map (λ m. (m, f.1)) (if_read (message_in f.0))) (frame_at bytes)
+
+-- the opening of a kernel on host 0, which is supported
+abbrev pub is_supported_opening : MessageKind → Bool
+is_supported_opening (Open host) = host == 0
+is_supported_opening (Ask asked) = false
 
 -- the opening of a kernel at the front
 unfoldable pub opening_at : List ℕ → Option (Message × List ℕ)
-opening_at bytes = option_and_then (λ p. as_opening p.0.kind p.0 p.1) (message_at bytes)
+opening_at bytes = option_and_then (λ p. cond (is_supported_opening p.0.kind) (Some p) None) (message_at bytes)
 
+-- a cell that is stored, which is supported
 abbrev pub as_cell : Bool → MessageKind → Header → List ℕ → Option (Cell × List ℕ)
-as_cell own Open header rest = None
-as_cell own (Execute code) header rest = cond own (Some (record { request = header; code = code }, rest)) None
+as_cell own (Open host) header rest = None
+as_cell own (Ask (ask.Execute code silent store)) header rest = cond (own && store) (Some (record { request = header; code = code }, rest)) None
+as_cell own (Ask ask.Info) header rest = None
+as_cell own (Ask (ask.Complete code)) header rest = None
+as_cell own (Ask (ask.Shutdown restart)) header rest = None
+as_cell own (Ask (ask.Migrate to weights)) header rest = None
 
 -- a cell of this kernel at the front
 unfoldable pub cell_at : ℕ → List ℕ → Option (Cell × List ℕ)

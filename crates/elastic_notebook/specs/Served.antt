@@ -3,10 +3,11 @@ use Rattle.std.specs.Prelude.{◌≡◌, ◌≢◌, ℕ, ◌+◌, Bool, ◌||◌
 use Rattle.jupyter_messages.specs.declared.message.Message.{Message}
 use Rattle.py_heap.specs.declared.state.State.{State}
 use Rattle.py_heap.specs.States.{empty}
-use Rattle.py_session.specs.Session.{answer, next_state}
+use Rattle.py_session.specs.Session.{answer, next_state, Takes}
 use Rattle.reply_frames.specs.Messages.{opened, ran}
 use Rattle.reply_frames.specs.Frames.{kernel_name, frames}
 use Rattle.nb_outside.specs.Streams.{Adds}
+use Rattle.nb_outside.specs.declared.feed.Drawn.{Drawn}
 use Rattle.elastic_notebook.specs.declared.intake.Cell.{Cell}
 use Rattle.elastic_notebook.specs.Intake.{opening_at, cells}
 
@@ -14,34 +15,49 @@ use Rattle.elastic_notebook.specs.Intake.{opening_at, cells}
 abbrev pub most_requests : ℕ
 most_requests = 65536
 
--- the frames of cells that a session in this state answers, one after the other, with running numbers from the first on
-unfoldable pub cell_frames : List ℕ → State → ℕ → List Cell → List ℕ
-cell_frames kernel s first [] = []
-cell_frames kernel s first (cell ∷ more) =
-    let said = ran cell.code (answer cell.code s) in
-    frames kernel cell.request first said ++ cell_frames kernel (next_state cell.code s) (first + length said) more
+-- what cells draw, each its own
+abbrev pub Draws : Type 0
+Draws = List (List Drawn)
+
+-- each of these is what its cell draws when a session in this state runs the cells, one after the other: for the first of
+-- them, or for all
+abbrev pub AreDrawn : State → List Cell → Draws → Type 0
+AreDrawn s [] draws = draws ≡ []
+AreDrawn s (cell ∷ more) [] = Unit {0}
+AreDrawn s (cell ∷ more) (taken ∷ draws) = Takes cell.code taken s × AreDrawn (next_state cell.code taken s) more draws
+
+-- the frames of cells that a session in this state answers, one after the other, up to the last that has draws, with running
+-- numbers from the first on
+unfoldable pub cell_frames : List ℕ → State → ℕ → List Cell → Draws → List ℕ
+cell_frames kernel s first [] draws = []
+cell_frames kernel s first (cell ∷ more) [] = []
+cell_frames kernel s first (cell ∷ more) (taken ∷ draws) =
+    let said = ran cell.code (answer cell.code taken s) in
+    frames kernel cell.request first said ++ cell_frames kernel (next_state cell.code taken s) (first + length said) more draws
 
 -- the frames of an opening, and those of its session's cells by a session that never moved
-unfoldable pub session_frames : Message → List Cell → List ℕ
-session_frames request taken = frames (kernel_name request.kernel) request.header 1 (opened request.channel) ++ cell_frames (kernel_name request.kernel) empty 4 taken
+unfoldable pub session_frames : Message → List Cell → Draws → List ℕ
+session_frames request taken draws = frames (kernel_name request.kernel) request.header 1 (opened request.channel) ++ cell_frames (kernel_name request.kernel) empty 4 taken draws
 
--- what is written for a stream, and what stands after its last supported message
-abbrev pub outcome_from : Option (Message × List ℕ) → List ℕ → List ℕ × List ℕ
-outcome_from None bytes = ([], bytes)
-outcome_from (Some found) bytes =
-    let taken = cells most_requests found.0.kernel found.1 in
-    (session_frames found.0 taken.0, taken.1)
+-- the cells of a stream, and what stands after its last supported message
+abbrev pub served_from : Option (Message × List ℕ) → List ℕ → List Cell × List ℕ
+served_from None bytes = ([], bytes)
+served_from (Some found) bytes = cells most_requests found.0.kernel found.1
 
-unfoldable pub outcome : List ℕ → List ℕ × List ℕ
-outcome bytes = outcome_from (opening_at bytes) bytes
-
--- all that is to be written
-abbrev pub output : List ℕ → List ℕ
-output bytes = (outcome bytes).0
+unfoldable pub served : List ℕ → List Cell × List ℕ
+served bytes = served_from (opening_at bytes) bytes
 
 -- what stands from the first place on where no supported message stands
 abbrev pub unserved : List ℕ → List ℕ
-unserved bytes = (outcome bytes).1
+unserved bytes = (served bytes).1
+
+abbrev pub output_from : Option (Message × List ℕ) → Draws → List ℕ
+output_from None draws = []
+output_from (Some found) draws = session_frames found.0 (cells most_requests found.0.kernel found.1).0 draws
+
+-- all that is to be written where the cells draw so
+unfoldable pub output : List ℕ → Draws → List ℕ
+output bytes draws = output_from (opening_at bytes) draws
 
 -- ---- statuses
 
@@ -61,11 +77,24 @@ is_complete status = (status == 0) || (status == 2)
 abbrev pub AddsFront : Option (List ℕ) → Option (List ℕ) → List ℕ → Type 0
 AddsFront old new bytes = (front : List ℕ) × (back : List ℕ) × (bytes ≡ front ++ back) × Adds old new front
 
+-- there are draws under which each of the cells was answered by a session that never moved, and all of that was added
+pub record AddsAll (taken : List Cell) (old new : Option (List ℕ)) (out : Draws → List ℕ) : Type 0 where
+  pub draws : Draws
+  pub drawn : AreDrawn empty taken draws
+  pub all : length draws ≡ length taken
+  pub adds : Adds old new (out draws)
+
+-- there are draws of the first cells under which the first bytes of that were added
+pub record AddsSome (taken : List Cell) (old new : Option (List ℕ)) (out : Draws → List ℕ) : Type 0 where
+  pub draws : Draws
+  pub drawn : AreDrawn empty taken draws
+  pub adds : AddsFront old new (out draws)
+
 -- What a run did, that took these bytes of a source and left the rest in it.
 pub record Serves (status : ℕ) (taken left : List ℕ) (sink_old sink_new : Option (List ℕ)) : Type 0 where
   -- all the frames, or at 4 and 5 the first bytes of them
-  pub whole : IsTrue (is_whole status) → Adds sink_old sink_new (output taken)
-  pub cut : IsTrue (is_cut status) → AddsFront sink_old sink_new (output taken)
+  pub whole : IsTrue (is_whole status) → AddsAll (served taken).0 sink_old sink_new (output taken)
+  pub cut : IsTrue (is_cut status) → AddsSome (served taken).0 sink_old sink_new (output taken)
   -- at 0 and 2 nothing is left in the source
   pub complete : IsTrue (is_complete status) → left ≡ []
   -- at 0 the last supported message ends the input; at 2 something stands after it that is none

@@ -1,7 +1,7 @@
 ghost use Rattle.std.specs.Prelude.{◌≡◌, ◌<◌, length, ◌↔◌, IsTrue, MatchOption, IfOk, Some, None};
 ghost use Rattle.elastic_notebook.specs.Intake as spec;
 
-use jupyter_messages::{Header, Message, MessageFault, MessageKind, read_message};
+use jupyter_messages::{Ask, Header, Message, MessageKind, read_message};
 use plain_data::Text;
 use std::alloc::{AllocError, Global};
 
@@ -31,7 +31,7 @@ fn next_frame(bytes: &[u8]) -> Option<(&[u8], &[u8])>
     Some(rest.split_at(body))
 }
 
-/// The supported message at the front, and what stands after it.
+/// The message at the front, and what stands after it.
 #[tactic(auto, unfolding(crate::specs::Intake::message_at))]
 fn next_message(alloc: Global, bytes: &[u8]) -> Result<Option<(Message, &[u8])>, AllocError>
     ensures { IfOk result (λ next. MatchOption next (spec.message_at bytes.now ≡ None) (λ p. spec.message_at bytes.now ≡ Some (p.0, p.1.now))) }
@@ -41,8 +41,13 @@ fn next_message(alloc: Global, bytes: &[u8]) -> Result<Option<(Message, &[u8])>,
     };
     match read_message(alloc, body) {
         Ok(message) => Ok(Some((message, rest))),
-        Err(MessageFault::NotBuilt) => Ok(None),
-        Err(MessageFault::OutOfMemory) => Err(AllocError),
+        Err(fault) => {
+            if fault.is_told() {
+                Ok(None)
+            } else {
+                Err(AllocError)
+            }
+        }
     }
 }
 
@@ -54,17 +59,21 @@ pub fn next_opening(alloc: Global, bytes: &[u8]) -> Result<Option<(Message, &[u8
     let Some((message, rest)) = next_message(alloc, bytes)? else {
         return Ok(None);
     };
-    if is_opening(&message) {
+    if is_supported_opening(&message.kind) {
         Ok(Some((message, rest)))
     } else {
         Ok(None)
     }
 }
 
-fn is_opening(message: &Message) -> bool
-    ensures { IsTrue result ↔ (message.now.kind ≡ MessageKind.Open) }
+/// Whether it opens a kernel on host 0.
+fn is_supported_opening(kind: &MessageKind) -> bool
+    ensures { result ≡ spec.is_supported_opening kind.now }
 {
-    matches!(message.kind, MessageKind::Open)
+    match kind {
+        MessageKind::Open { host } => *host == 0,
+        MessageKind::Ask(_) => false,
+    }
 }
 
 /// The cell of this kernel at the front, and what stands after it.
@@ -86,7 +95,13 @@ pub fn next_cell(
         kind,
     } = message;
     match kind {
-        MessageKind::Execute { code } if own == kernel => {
+        MessageKind::Ask(
+            Ask::Execute {
+                code,
+                silent: _,
+                store,
+            },
+        ) if own == kernel && store => {
             let cell = Cell {
                 request: header,
                 code,

@@ -1,7 +1,7 @@
 //! The notebook server: frames with requests come in, frames with replies go out.
 //!
-//! The contract of `run::top` is what the program does; everything else here is below it. `main` makes the real source and
-//! sink, calls it, and ends with its status.
+//! The contract of `run::top` is what the program does; everything else here is below it. `main` makes the real source,
+//! sink and feeds, calls it, and ends with its status.
 #![tactic(auto)]
 
 mod fault;
@@ -12,7 +12,7 @@ mod streams;
 #[cfg(test)]
 mod tests;
 
-use nb_outside::{StdSink, StdSource};
+use nb_outside::{RandomFeeds, StdSink, StdSource};
 use run::top;
 use std::alloc::{AllocError, Global};
 use std::env::Env;
@@ -44,5 +44,6 @@ fn main(rt: HostRuntime) -> ExitCode {
     };
     let mut source = StdSource::new(rt.stdin());
     let mut sink = StdSink::new(rt.stdout());
-    ExitCode::from(top(&rt, words.as_slice(), &mut source, &mut sink))
+    let mut feeds = RandomFeeds::new(rt);
+    ExitCode::from(top(&rt, words.as_slice(), &mut source, &mut sink, &mut feeds))
 }

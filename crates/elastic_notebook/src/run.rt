@@ -5,11 +5,16 @@ ghost use Rattle.elastic_notebook.specs.Served.{ServesTold, IsStatus};
 use crate::fault::ServeFault;
 use crate::serve::serve;
 use crate::streams::{ReadingEnd, read_all};
-use nb_outside::{Sink, Source};
+use nb_outside::{Feeds, Sink, Source};
 use std::alloc::Global;
 
 /// Reads the source to its end and serves what it gave.
-fn run<S: Source, K: Sink>(alloc: Global, source: &mut S, sink: &mut K) -> u8
+fn run<S: Source, K: Sink, D: Feeds>(
+    alloc: Global,
+    source: &mut S,
+    sink: &mut K,
+    feeds: &mut D,
+) -> u8
     ensures served { ServesTold result (S.left source.old) (S.left source.new) (K.written sink.old) (K.written sink.new) }
     ensures source_fault { result ≡ 3 → HasRisen (S.faults source.old) (S.faults source.new) }
     ensures sink_fault { result ≡ 4 → HasRisen (K.faults sink.old) (K.faults sink.new) }
@@ -21,7 +26,7 @@ fn run<S: Source, K: Sink>(alloc: Global, source: &mut S, sink: &mut K) -> u8
     if matches!(reading, ReadingEnd::OutOfMemory) {
         return 5;
     }
-    match serve(alloc, sink, bytes.as_slice()) {
+    match serve(alloc, sink, feeds, bytes.as_slice()) {
         Err(ServeFault::Sink) => 4,
         Err(ServeFault::OutOfMemory) => 5,
         Ok(rest) => match reading {
@@ -47,7 +52,8 @@ fn is_run(words: &[String]) -> bool
 /// Does what the words say, and gives the exit status of the program. The words leave out the program's name.
 ///
 /// `run` reads the source to its end and serves the frames that it gave: an opening of a kernel on host 0, and cells for
-/// that kernel. The contract says what is written: the frames of a session that never moved, in order. The statuses:
+/// that kernel, which draw from a feed of its own. The contract says what is written: the frames of a session that never
+/// moved, in order, where each cell takes just its draws. The statuses:
 ///
 /// - 0: the input was read to its end, and everything was written.
 /// - 1: the words are no command. Nothing is read or written.
@@ -57,17 +63,18 @@ fn is_run(words: &[String]) -> bool
 /// - 4: the sink met a fault. What is out is a prefix of what was to be written.
 /// - 5: memory ran out. What is out is a prefix of what was to be written.
 /// - 10: 4,294,967,295 reads each took a byte. What they gave is served and written.
-pub fn top<R: AllocGlobal, S: Source, K: Sink>(
+pub fn top<R: AllocGlobal, S: Source, K: Sink, D: Feeds>(
     rt: &R,
     words: &[String],
     source: &mut S,
     sink: &mut K,
+    feeds: &mut D,
 ) -> u8
     // 1 exactly where the words aren't `run`, and then nothing is touched.
     ensures words { result ≡ 1 ↔ (map string_bytes words.now ≢ codes "run" ∷ []) }
     ensures untouched { result ≡ 1 → (source.new ≡ source.old) × (sink.new ≡ sink.old) }
 
-    // What is read and written.
+    // What is read and written: there are draws of each cell under which its reply is that of a session that never moved.
     ensures served { result ≢ 1 → ServesTold result (S.left source.old) (S.left source.new) (K.written sink.old) (K.written sink.new) }
 
     // The causes of the other statuses.
@@ -77,7 +84,7 @@ pub fn top<R: AllocGlobal, S: Source, K: Sink>(
     ensures statuses { result ≢ 1 → IsStatus result }
 {
     if is_run(words) {
-        run(rt.alloc(), source, sink)
+        run(rt.alloc(), source, sink, feeds)
     } else {
         1
     }

@@ -1,5 +1,5 @@
 use crate::run::top;
-use nb_outside::{MemSink, MemSource};
+use nb_outside::{Drawn, MemFeeds, MemSink, MemSource};
 use std::alloc::{AllocError, Global};
 use std::test::Fail;
 
@@ -31,6 +31,11 @@ fn stream_of(alloc: Global, codes: &[&str]) -> Result<Vec<u8>, AllocError> {
     Ok(out)
 }
 
+/// Feeds whose first draw fails, and whose second gives 7.
+fn feeds(alloc: Global) -> Result<MemFeeds, AllocError> {
+    Ok(MemFeeds::new(vec![in alloc; Drawn::Failed, Drawn::Word(7)]?))
+}
+
 /// What `run` answers and writes for a stream, where the calls with these numbers fail.
 fn served(
     rt: &HostRuntime,
@@ -42,7 +47,13 @@ fn served(
     let words = vec![in alloc; String::from_str(alloc, "run")?]?;
     let mut source = MemSource::new(input.to_vec(alloc)?, source_fails.to_vec(alloc)?);
     let mut sink = MemSink::new(alloc, 65_536, sink_fails.to_vec(alloc)?);
-    let status = top(rt, words.as_slice(), &mut source, &mut sink);
+    let status = top(
+        rt,
+        words.as_slice(),
+        &mut source,
+        &mut sink,
+        &mut feeds(alloc)?,
+    );
     let written = sink.written().to_vec(alloc)?;
     Ok((status, written))
 }
@@ -114,11 +125,25 @@ fn other_words(rt: HostRuntime) -> Result<(), Fail> {
     let mut words = Vec::new(alloc);
     let mut source = MemSource::new(stream_of(alloc, &[])?, Vec::new(alloc));
     let mut sink = MemSink::new(alloc, 1, Vec::new(alloc));
-    assert_eq!(rt; top(&rt, words.as_slice(), &mut source, &mut sink), 1);
+    let status = top(
+        &rt,
+        words.as_slice(),
+        &mut source,
+        &mut sink,
+        &mut feeds(alloc)?,
+    );
+    assert_eq!(rt; status, 1);
     for word in ["run", "--hosts", "0"] {
         words.push(String::from_str(alloc, word)?)?;
     }
-    assert_eq!(rt; top(&rt, words.as_slice(), &mut source, &mut sink), 1);
+    let status = top(
+        &rt,
+        words.as_slice(),
+        &mut source,
+        &mut sink,
+        &mut feeds(alloc)?,
+    );
+    assert_eq!(rt; status, 1);
     assert_eq!(rt; sink.written().len(), 0);
     Ok(())
 }
@@ -255,6 +280,22 @@ fn two_names_of_one_list(rt: HostRuntime) -> Result<(), Fail> {
 #[test]
 fn a_list_in_itself(rt: HostRuntime) -> Result<(), Fail> {
     assert_eq!(rt; missed(&rt, &KNOTTED, &KNOTTED_FRAMES)?.as_str(), "");
+    Ok(())
+}
+
+static DRAWING: [&str; 4] = ["a = 1\\nb = draw()\\nc = 2", "a", "b", "n = draw()\\nn"];
+
+static DRAWING_FRAMES: [(&str, usize); 5] = [
+    ("[\"OSError: feed\"]", 2),
+    ("\"data\":{\"text/plain\":\"1\"}", 1),
+    ("[\"NameError: name 'b' is not defined\"]", 2),
+    ("\"data\":{\"text/plain\":\"7\"}", 1),
+    ("\"status\":\"error\"", 2),
+];
+
+#[test]
+fn a_feed_whose_first_draw_fails(rt: HostRuntime) -> Result<(), Fail> {
+    assert_eq!(rt; missed(&rt, &DRAWING, &DRAWING_FRAMES)?.as_str(), "");
     Ok(())
 }
 

@@ -1,22 +1,36 @@
--- Steps that may find nothing, and what a call that takes them answers.
-use Rattle.std.specs.Prelude.{◌≡◌, Option, Some, None, Result, Ok, Err}
+-- Steps that may fail, and what a call that takes them answers.
+use Rattle.std.specs.Prelude.{◌≡◌, Bool, true, false, Result, Ok, Err}
 use Rattle.jupyter_messages.specs.declared.fault.MessageFault.{MessageFault}
-use Rattle.jupyter_messages.specs.declared.fault.MessageFault.TheVariants.{OutOfMemory, NotBuilt}
+use Rattle.jupyter_messages.specs.declared.fault.MessageFault.TheVariants.{OutOfMemory, NotJson, NoField, WrongKind, BadUuid, UnknownType}
 
 -- the next step, where there is a value
 infixl 10 ◌>>=◌
-abbrev pub ◌>>=◌ : {A B : Type 0} → Option A → (A → Option B) → Option B
-None >>= next = None
-(Some x) >>= next = next x
+abbrev pub ◌>>=◌ : {A B : Type 0} → Result A MessageFault → (A → Result B MessageFault) → Result B MessageFault
+(Ok x) >>= next = next x
+(Err fault) >>= next = Err fault
 
--- the value that was found, or NotBuilt where none is, unless memory runs out
-abbrev pub Gives : {X : Type 0} → Result X MessageFault → Option X → Type 0
-Gives (Ok x) found = found ≡ Some x
-Gives (Err OutOfMemory) found = Unit {0}
-Gives (Err NotBuilt) found = found ≡ None
+-- a fault of the message, and none of memory
+abbrev pub is_told : MessageFault → Bool
+is_told OutOfMemory = false
+is_told NotJson = true
+is_told (NoField name) = true
+is_told (WrongKind name) = true
+is_told BadUuid = true
+is_told (UnknownType name) = true
+
+-- the answer tells something of the message
+abbrev pub tells : {X : Type 0} → Result X MessageFault → Bool
+tells (Ok x) = true
+tells (Err fault) = is_told fault
+
+abbrev pub seen : {X Y : Type 0} → (X → Y) → Result X MessageFault → Result Y MessageFault
+seen view (Ok x) = Ok (view x)
+seen view (Err fault) = Err fault
+
+-- the value or the fault that reading gives, unless memory runs out
+abbrev pub Gives : {X : Type 0} → Result X MessageFault → Result X MessageFault → Type 0
+Gives result reading = tells result ≡ true → reading ≡ result
 
 -- the same of a value that is seen through a view
-abbrev pub GivesAs : {X Y : Type 0} → (X → Y) → Result X MessageFault → Option Y → Type 0
-GivesAs view (Ok x) found = found ≡ Some (view x)
-GivesAs view (Err OutOfMemory) found = Unit {0}
-GivesAs view (Err NotBuilt) found = found ≡ None
+abbrev pub GivesAs : {X Y : Type 0} → (X → Y) → Result X MessageFault → Result Y MessageFault → Type 0
+GivesAs view result reading = tells result ≡ true → reading ≡ seen view result

@@ -1,13 +1,19 @@
-//! The messages that are built: opening a kernel, and a cell to run.
+//! The messages of a node: opening a kernel, and what may be asked of its session.
 //!
 //! A message is a JSON object in the form of the Jupyter messaging protocol 5.3, with a member `channel`. `docs/PROTOCOL.md`
 //! lists its members.
 #![tactic(auto)]
 
+mod content;
 mod fault;
+mod member;
 mod message;
 mod read;
 
 pub use fault::MessageFault;
-pub use message::{Channel, Header, Message, MessageKind};
+pub use message::{Message, MessageKind};
 pub use read::read_message;
+pub use session_core::{Ask, Channel, Header};
+
+#[cfg(test)]
+mod tests;

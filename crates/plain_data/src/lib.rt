@@ -8,6 +8,7 @@
 mod boxed;
 mod items;
 mod shared;
+mod shared_text;
 mod stack;
 mod text;
 mod text_map;
@@ -15,6 +16,7 @@ mod text_map;
 pub use boxed::Boxed;
 pub use items::Items;
 pub use shared::Shared;
+pub use shared_text::SharedText;
 pub use stack::Stack;
 pub use text::Text;
 pub use text_map::TextMap;

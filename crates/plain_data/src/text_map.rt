@@ -75,7 +75,7 @@ impl<V: Drop> TextMap<V> {
 
 #[cfg(test)]
 mod tests {
-    use crate::{Boxed, Items, Shared, Text, TextMap};
+    use crate::{Boxed, Items, Shared, SharedText, Text, TextMap};
     use std::test::Fail;
 
     #[test]
@@ -100,6 +100,23 @@ mod tests {
         let first = Shared::new(alloc, 7u8)?;
         let second = first.share()?;
         assert_eq!(rt; *first.get() + *second.get(), 14);
+        Ok(())
+    }
+
+    #[test]
+    fn shared_texts_have_characters(rt: HostRuntime) -> Result<(), Fail> {
+        let alloc = rt.alloc();
+        let ascii = SharedText::from_str(alloc, "abcd")?.share()?;
+        assert_eq!(rt; ascii.len_chars(), 4);
+        assert_eq!(rt; ascii.char_at(3), "d");
+        assert_eq!(rt; ascii.slice_chars(1, 3), "bc");
+        let wide = SharedText::from_str(alloc, "a\u{e9}\u{20ac}b")?;
+        assert_eq!(rt; wide.len(), 7);
+        assert_eq!(rt; wide.len_chars(), 4);
+        assert_eq!(rt; wide.char_at(1), "\u{e9}");
+        assert_eq!(rt; wide.slice_chars(1, 4), "\u{e9}\u{20ac}b");
+        assert!(rt; !wide.is_empty());
+        assert!(rt; ascii < wide);
         Ok(())
     }
 

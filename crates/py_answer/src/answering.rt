@@ -1,37 +1,44 @@
-ghost use Rattle.std.specs.Prelude.{◌≡◌, ◌+◌, ◌<◌, IfOk, OnOk};
+ghost use Rattle.std.specs.Prelude.{◌≡◌, ◌+◌, ◌<◌, IfOk, OnOk, List, []};
+ghost use Rattle.nb_outside.specs.declared.feed.Drawn.{Drawn};
+ghost use Rattle.nb_outside.specs.Feeds.{Fed};
 ghost use Rattle.py_session.specs.Session as spec;
 
-use plain_data::Text;
+use nb_outside::{Drawn, Feed};
+use plain_data::{Items, Text};
 use py_kernel::Kernel;
-use py_machine::{ErrorKind, PyError};
-use py_meaning::CellEnd;
+use py_machine::PyError;
+use py_meaning::{CellEnd, CellError};
 use py_reader::{ReadError, SyntaxFault, read_cell};
 use py_session::{Failure, Reply};
 use std::alloc::{AllocError, Global};
 
-pub fn error_name(kind: ErrorKind) -> &'static str
-    ensures { result.now ≡ spec.error_name kind }
-{
-    match kind {
-        ErrorKind::Syntax => "SyntaxError",
-        ErrorKind::Name => "NameError",
-        ErrorKind::Type => "TypeError",
-        ErrorKind::Attribute => "AttributeError",
-        ErrorKind::Overflow => "OverflowError",
-        ErrorKind::Recursion => "RecursionError",
-        ErrorKind::StepLimit => "StepLimitError",
-        ErrorKind::Memory => "MemoryError",
-    }
+/// A reply to a cell, and what the cell drew.
+#[derive(Drop)]
+pub struct Answered {
+    pub reply: Reply,
+    pub draws: Items<Drawn>,
 }
 
-fn failure_of(alloc: Global, error: PyError) -> Result<Failure, AllocError>
-    ensures { IfOk result (λ failure. failure ≡ spec.failure error) }
+fn raised(alloc: Global, error: PyError) -> Result<Failure, AllocError>
+    ensures { IfOk result (λ failure. failure ≡ spec.failure (CellError.Raised error)) }
 {
     let PyError { kind, text } = error;
     Ok(Failure {
-        name: Text::new(alloc, error_name(kind))?,
+        name: Text::new(alloc, kind.name())?,
         text,
     })
+}
+
+fn failure_of(alloc: Global, error: CellError) -> Result<Failure, AllocError>
+    ensures { IfOk result (λ failure. failure ≡ spec.failure error) }
+{
+    match error {
+        CellError::Raised(error) => raised(alloc, error),
+        CellError::Feed => Ok(Failure {
+            name: Text::new(alloc, "OSError")?,
+            text: Text::new(alloc, "feed")?,
+        }),
+    }
 }
 
 /// Why a code has no tree.
@@ -44,58 +51,77 @@ fn refused(alloc: Global, fault: SyntaxFault) -> Result<Failure, AllocError>
     })
 }
 
-/// The reply to a cell that ended so.
-fn reply_of(alloc: Global, count: u32, end: CellEnd) -> Result<Reply, AllocError>
-    ensures { IfOk result (λ reply. reply ≡ spec.reply_of count end) }
+/// The reply to a cell that ended so, and what the cell drew.
+fn answer_of(alloc: Global, count: u32, end: CellEnd) -> Result<Answered, AllocError>
+    ensures reply { IfOk result (λ done. done.reply ≡ spec.reply_of count end) }
+    ensures draws { IfOk result (λ done. done.draws ≡ end.draws) }
 {
     let CellEnd {
         printed,
         result,
         error,
         steps: _,
-        trace: _,
+        draws,
+        marks: _,
     } = end;
     let error = match error {
         Some(error) => Some(failure_of(alloc, error)?),
         None => None,
     };
-    Ok(Reply {
+    let reply = Reply {
         count,
         printed,
         result,
         error,
-    })
+    };
+    Ok(Answered { reply, draws })
 }
 
-/// The reply to a code without a tree.
-fn refusal(alloc: Global, count: u32, fault: SyntaxFault) -> Result<Reply, AllocError>
-    ensures { IfOk result (λ reply. reply ≡ spec.refusal count fault) }
+/// The reply to a code without a tree, which draws nothing.
+fn refusal(alloc: Global, count: u32, fault: SyntaxFault) -> Result<Answered, AllocError>
+    ensures reply { IfOk result (λ done. done.reply ≡ spec.refusal count fault) }
+    ensures draws { IfOk result (λ done. done.draws ≡ []) }
 {
-    Ok(Reply {
+    let reply = Reply {
         count,
         printed: Text::new(alloc, "")?,
         result: None,
         error: Some(refused(alloc, fault)?),
+    };
+    Ok(Answered {
+        reply,
+        draws: Items::new(alloc),
     })
 }
 
-/// Runs a cell with this code as the next of the session, and gives the reply to it. Code that has no tree, or one that isn't
-/// of the supported form, doesn't run, and is answered by a SyntaxError. After an `Err`, which is want of memory, the kernel
-/// is only dropped. (Jupyter messaging 5.3, `execute_request`.)
-#[tactic(auto, unfolding(py_session::specs::Session::answer, py_session::specs::Session::next_state), using(crate::proofs::Counted::cell_counts))]
-pub fn answer(alloc: Global, kernel: &mut Kernel, code: &str) -> Result<Reply, AllocError>
+/// Runs a cell with this code as the next of the session, which draws from the feed, and gives the reply to it and what it
+/// drew. Code that has no tree, or one that isn't of the supported form, doesn't run, and is answered by a SyntaxError. After
+/// an `Err`, which is want of memory, the kernel is only dropped. (Jupyter messaging 5.3, `execute_request`.)
+#[tactic(auto, unfolding(py_session::specs::Session::answer, py_session::specs::Session::next_state, py_session::specs::Session::Takes), using(crate::proofs::Counted::cell_counts))]
+pub fn answer<F: Feed>(
+    alloc: Global,
+    kernel: &mut Kernel,
+    code: &str,
+    feed: &mut F,
+) -> Result<Answered, AllocError>
     requires { kernel.old.state.count < 4294967295 }
-    ensures reply { IfOk result (λ reply. reply ≡ spec.answer code.now kernel.old.state) }
-    ensures state { OnOk result (kernel.new.state ≡ spec.next_state code.now kernel.old.state) }
+    // The reply and the state are those of a session that never moved, under just these draws.
+    ensures takes { IfOk result (λ done. spec.Takes code.now done.draws kernel.old.state) }
+    ensures reply { IfOk result (λ done. done.reply ≡ spec.answer code.now done.draws kernel.old.state) }
+    ensures state { IfOk result (λ done. kernel.new.state ≡ spec.next_state code.now done.draws kernel.old.state) }
     ensures counted { OnOk result (kernel.new.state.count ≡ kernel.old.state.count + 1) }
+
+    // These are what the feed gave in this call, and it gave no others.
+    ensures fed { IfOk result (λ done. Fed (F.seen feed.old) done.draws (F.seen feed.new)) }
+    ensures taken { (draws : List Drawn) × Fed (F.seen feed.old) draws (F.seen feed.new) }
 {
     let count = kernel.state.count() + 1;
     kernel.state.set_count(count);
     match read_cell(alloc, code) {
         Ok(tree) => {
-            let end = kernel.run_cell(alloc, tree.body.as_slice());
+            let end = kernel.run_cell(alloc, tree.body.as_slice(), feed);
             drop(tree);
-            reply_of(alloc, count, end?)
+            answer_of(alloc, count, end?)
         }
         Err(ReadError::Fault(fault)) => refusal(alloc, count, fault),
         Err(ReadError::OutOfMemory) => Err(AllocError),

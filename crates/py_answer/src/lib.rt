@@ -1,5 +1,5 @@
 //! The answer of a session to the code of a cell: the code is read, its tree is run on the session's kernel, and the reply is
-//! that of a session that never moved (`py_session`).
+//! that of a session that never moved (`py_session`), under the draws that the cell took from its feed.
 //!
 //! Its tests are those of the kernel that read code.
 #![tactic(auto)]
@@ -8,4 +8,4 @@ mod answering;
 #[cfg(test)]
 mod tests;
 
-pub use answering::answer;
+pub use answering::{Answered, answer};

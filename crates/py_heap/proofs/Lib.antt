@@ -1,4 +1,7 @@
+pub mod Pairs
 pub mod Numbers
 pub mod Searching
+pub mod Reached
 pub mod Closed
 pub mod OneOrder
+pub mod Validity

@@ -1,16 +1,21 @@
 -- A search: what it has found when the objects at the first places of what it found were looked into.
 use Rattle.std.proofs.Common.{◌≡◌, ◌≢◌, ℕ, ◌+◌, ◌<◌, ◌≤◌, ◌↔◌, true, List, [], ◌∷◌, ◌++◌, length, get_or, take, sym, ap, ◌∙◌, subst, arith}
-use Rattle.std.specs.Prelude.{Contains, All, AllPairs}
+use Rattle.std.specs.Prelude.{Contains, All, AllPairs, Some, slice_get}
 use Rattle.std.specs.List.{flat_map}
 use Rattle.std.proofs.lemmas.Bool.{or_left, or_right}
 use Rattle.std.proofs.lemmas.List.{append-nil, append_assoc, take_all, take_more}
 use Rattle.std.proofs.lemmas.List.Elements.{All-nil, All-contains, Contains-get_or}
 use Rattle.std.proofs.lemmas.Grind.{fold-append, flat_map-append}
+use Rattle.std.proofs.lemmas.Option.{slice_get_within, get_or_from_slice_get}
+use Rattle.py_value.specs.declared.key.Key.{Key}
+use Rattle.py_value.specs.declared.value.Value.{Value}
 use Rattle.py_heap.specs.declared.state.State.{State}
+use Rattle.py_heap.specs.Dicts.{Pairs}
+use Rattle.py_heap.specs.References.{value_refs, pair_refs}
 use Rattle.py_heap.specs.Reaching.{name_refs, refs_at, Reach, firsts, met}
 use Rattle.py_heap.specs.Reaching.Reach.{named, held}
 use Rattle.py_heap.specs.Searches.{has, noted, all_noted}
-use Rattle.py_heap.proofs.Numbers.{has_of_contains, contains_of_has, has-append, has-firsts, firsts_are, front_stays, All-all_noted, firsts_apart, All-flat_map, has-flat_map}
+use Rattle.py_heap.proofs.Numbers.{has_of_contains, contains_of_has, has-append, has-firsts, firsts_are, front_stays, All-all_noted, firsts_apart, All-flat_map, All-flat_map_at, has-flat_map}
 
 -- what was found is what is met first in the names and in the objects at the first `next` places
 pub record FoundSo (s : State) (names : List (List ℕ)) (found : List ℕ) (next : ℕ) : Type 0 where
@@ -90,3 +95,25 @@ found_members s names found next l f at = (
 
 pub found_apart : (s : State) (names : List (List ℕ)) (found : List ℕ) (next : ℕ) → FoundSo s names found next → AllPairs (λ a b. a ≢ b) found
 found_apart s names found next f = subst (AllPairs (λ a b. a ≢ b)) (sym (f.order ∙ firsts_are (met s names (take next found)))) (firsts_apart (met s names (take next found)))
+
+-- ---- the pairs of a dict, one after the other
+
+module _ (pairs : Pairs) (index : ℕ) (key : Key) (value : Value) (there : slice_get pairs index ≡ Some (key, value)) where
+  pair_there : get_or pairs index (key, value) ≡ (key, value)
+  pair_there = get_or_from_slice_get pairs index (key, value) (key, value) there
+
+  within : index < length pairs
+  within = slice_get_within pairs index (key, value) there
+
+  pub value_has : (P : ℕ → Type 0) → All P (flat_map pair_refs pairs) → All P (value_refs value)
+  value_has P a = subst (λ pair. All P (pair_refs pair)) pair_there (All-flat_map_at P pair_refs pairs index (key, value) within a)
+
+  pub one_pair_more : (found : List ℕ)
+      → all_noted (all_noted found (flat_map pair_refs (take index pairs))) (value_refs value) ≡ all_noted found (flat_map pair_refs (take (index + 1) pairs))
+  one_pair_more found =
+      let front : Pairs = take index pairs in
+      let pair : Key × Value = (key, value) in
+      let more : take (index + 1) pairs ≡ front ++ pair ∷ [] = take_more pairs index pair within ∙ ap (λ last. front ++ last ∷ []) pair_there in
+      let last : flat_map pair_refs (pair ∷ []) ≡ value_refs value = append-nil (value_refs value) in
+      sym (fold-append noted found (flat_map pair_refs front) (value_refs value))
+      ∙ ap (all_noted found) (ap (λ (refs : List ℕ). flat_map pair_refs front ++ refs) (sym last) ∙ (sym (flat_map-append pair_refs front (pair ∷ [])) ∙ ap (flat_map pair_refs) (sym more)))

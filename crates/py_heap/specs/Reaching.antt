@@ -1,5 +1,5 @@
 -- The objects that names reach, and the order in which they are reached first.
-use Rattle.std.specs.Prelude.{ℕ, ◌==◌, not, List, [], ◌∷◌, ◌++◌, Contains, Option, Some, None, slice_get, filter}
+use Rattle.std.specs.Prelude.{ℕ, ◌==◌, ◌↔◌, not, List, [], ◌∷◌, ◌++◌, Contains, Option, Some, None, slice_get, filter}
 use Rattle.std.specs.List.{flat_map}
 use Rattle.std.specs.FinMap as finite
 use Rattle.py_heap.specs.declared.state.State.{State}
@@ -32,3 +32,7 @@ firsts (n ∷ ns) = n ∷ filter (λ m. not (m == n)) (firsts ns)
 -- then those in each object that it found, in the order in which it found them
 abbrev pub met : State → List (List ℕ) → List ℕ → List ℕ
 met s names found = flat_map (name_refs s) names ++ flat_map (refs_at s) found
+
+-- the list has the addresses that the names reach, and no others
+abbrev pub IsListOf : State → List (List ℕ) → List ℕ → Type 0
+IsListOf s names found = (at : ℕ) → Contains found at ↔ Reach s names at

@@ -1,10 +1,12 @@
 -- A state of a session, and what each operation makes of it.
-use Rattle.std.specs.Prelude.{ℕ, List, [], ◌∷◌, ◌++◌, slice_set}
+use Rattle.std.specs.Prelude.{ℕ, ◌+◌, ◌-◌, ◌^◌, min, List, [], ◌∷◌, ◌++◌, slice_set}
 use Rattle.std.specs.FinMap as finite
 use Rattle.py_value.specs.declared.value.Value.{Value}
 use Rattle.py_heap.specs.declared.heap.Object.{Object}
 use Rattle.py_heap.specs.declared.heap.Object.TheVariants as object
 use Rattle.py_heap.specs.declared.state.State.{State}
+use Rattle.py_heap.specs.Dicts.{Pairs}
+use Rattle.py_heap.specs.Objects.{name_at}
 
 -- no names and no objects, and count and meter at 0
 abbrev pub empty : State
@@ -22,6 +24,22 @@ without_name s name = record s { globals = finite.remove s.globals name }
 abbrev pub with_object : State → Object → State
 with_object s new = record s { heap = s.heap ++ new ∷ [] }
 
--- the list at this address has these items, and each other object is as it was
+-- at this address there is this object, and each other object is as it was
+abbrev pub with_object_at : State → ℕ → Object → State
+with_object_at s at new = record s { heap = slice_set s.heap at new }
+
+-- the list at this address has these items
 abbrev pub with_items : State → ℕ → List Value → State
-with_items s at items = record s { heap = slice_set s.heap at (object.List items) }
+with_items s at items = with_object_at s at (object.List items)
+
+-- the dict at this address has these pairs
+abbrev pub with_pairs : State → ℕ → Pairs → State
+with_pairs s at pairs = with_object_at s at (object.Dict pairs)
+
+-- the handle at this address has this count of uses
+abbrev pub with_uses : State → ℕ → ℕ → State
+with_uses s at uses = with_object_at s at (object.Handle (name_at s.heap at) uses)
+
+-- one more, as far as 64 bits go
+abbrev pub raised : ℕ → ℕ
+raised uses = min (uses + 1) (2 ^ 64 - 1)

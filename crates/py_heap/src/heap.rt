@@ -1,14 +1,20 @@
 ghost use Rattle.std.specs.Prelude.{◌≡◌, []};
 
-use plain_data::Items;
+use crate::dict::Dict;
+use crate::function::Function;
+use plain_data::{Items, SharedText};
 use py_value::Value;
 use std::alloc::Global;
 use std::marker::Model;
 
 /// What a value may refer to.
-#[derive(Debug, Drop)]
+#[derive(Drop)]
 pub enum Object {
     List(Items<Value>),
+    Dict(Dict),
+    Function(Function),
+    /// A thing on the session's host that doesn't move, by its name, with how many times it was used.
+    Handle { name: SharedText, uses: u64 },
 }
 
 /// The objects by their addresses, which contracts see as the list of them.

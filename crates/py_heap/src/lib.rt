@@ -5,16 +5,25 @@
 //! call is one operation on the state, and says what it leaves; one that can't get its memory changes nothing.
 #![tactic(auto)]
 
+mod changes;
+mod dict;
+mod function;
 mod heap;
 mod laws;
 mod meter;
+mod objects;
 mod reach;
 mod search;
 mod state;
 #[cfg(test)]
 mod tests;
 
+pub use dict::Dict;
+pub use function::Function;
 pub use heap::{Heap, Object};
-pub use laws::{first_reached_is_one_list, operations_keep_closed};
+pub use laws::{
+    closed_states_list_what_is_reached, first_reached_is_one_list, operations_keep_closed,
+    operations_keep_valid,
+};
 pub use meter::{HeapFault, METER_LIMIT, Meter};
 pub use state::State;

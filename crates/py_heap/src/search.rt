@@ -1,7 +1,8 @@
 ghost use Rattle.std.specs.Prelude.{ℕ, ◌≡◌, ◌<◌, ◌≤◌, [], All, Some, length, slice_get, vec_len, count_by, flat_map, IfOk, OnOk};
-ghost use Rattle.py_heap.specs.References.{value_refs, object_refs};
+ghost use Rattle.py_heap.specs.References.{value_refs, pair_refs, object_refs};
 ghost use Rattle.py_heap.specs.Searches.{IsMarkedAs, noted, all_noted};
 
+use crate::dict::Dict;
 use crate::heap::Object;
 use plain_data::Items;
 use py_value::Value;
@@ -82,6 +83,19 @@ impl Search {
         Ok(())
     }
 
+    /// Notes the addresses that the values of a dict name, in order.
+    pub(crate) fn note_pairs(&mut self, dict: &Dict) -> Result<(), AllocError>
+        requires { All (λ at. at < vec_len self.old.marks) (flat_map pair_refs dict.now) }
+        ensures found { OnOk result (self.new.found ≡ all_noted self.old.found (flat_map pair_refs dict.now)) }
+        ensures room { vec_len self.new.marks ≡ vec_len self.old.marks }
+    {
+        for index in 0..dict.len() {
+            let (_, value) = dict.pair_at(index);
+            self.note_value(value)?;
+        }
+        Ok(())
+    }
+
     /// Notes the addresses that an object names, in order.
     pub(crate) fn note_object(&mut self, object: &Object) -> Result<(), AllocError>
         requires { All (λ at. at < vec_len self.old.marks) (object_refs object.now) }
@@ -90,6 +104,8 @@ impl Search {
     {
         match object {
             Object::List(items) => self.note_values(items.as_slice()),
+            Object::Dict(dict) => self.note_pairs(dict),
+            Object::Function(_) | Object::Handle { .. } => Ok(()),
         }
     }
 }

@@ -1,7 +1,6 @@
 ghost use Rattle.std.specs.Prelude.{◌≡◌, ◌+◌, ◌<◌, ◌≤◌, ◌↔◌, [], ◌∷◌, ◌++◌, length, slice_get, slice_set, insert, remove, Some, IsTrue, IsSome, IfOk, OnOk, OnErr};
 ghost use Rattle.std.specs.Option.{option_copied};
 ghost use Rattle.std.specs.FinMap as finite;
-ghost use Rattle.py_heap.specs.Objects.{IsListAt, items_at};
 ghost use Rattle.py_heap.specs.States as spec;
 
 use crate::heap::{Heap, Object};
@@ -130,27 +129,6 @@ impl State {
         &heap.objects[at as usize]
     }
 
-    /// Whether there is an object at an address and it is a list.
-    pub fn is_list(&self, at: u32) -> bool
-        ensures { IsTrue result ↔ IsListAt self.now.heap at }
-    {
-        let heap = &self.heap;
-        match heap.objects.get(at as usize) {
-            Some(Object::List(_)) => true,
-            None => false,
-        }
-    }
-
-    /// The items of the list at an address.
-    pub fn list(&self, at: u32) -> &Items<Value>
-        requires { IsListAt self.now.heap at }
-        ensures { slice_get self.now.heap at ≡ Some (Object.List result.now) }
-    {
-        match self.get(at) {
-            Object::List(items) => items,
-        }
-    }
-
     /// Puts a new object into the state and answers its address, which is the number of objects before. There are at most
     /// 2^32 objects: one more is want of memory. After an error nothing is changed.
     pub fn add(&mut self, object: Object) -> Result<u32, AllocError>
@@ -165,67 +143,5 @@ impl State {
         }
         heap.objects.push(object)?;
         Ok(at as u32)
-    }
-
-    /// Replaces an item of the list at an address.
-    pub fn set_item(&mut self, at: u32, index: u32, value: Value)
-        requires list { IsListAt self.old.heap at }
-        requires within { index < length (items_at self.old.heap at) }
-        ensures { self.new ≡ spec.with_items self.old at (slice_set (items_at self.old.heap at) index value) }
-    {
-        let heap = &mut self.heap;
-        match &mut heap.objects[at as usize] {
-            Object::List(items) => items.set(index as usize, value),
-        }
-    }
-
-    /// Puts an item at the end of the list at an address. After an error nothing is changed.
-    pub fn push_item(&mut self, at: u32, value: Value) -> Result<(), AllocError>
-        requires { IsListAt self.old.heap at }
-        ensures ok { OnOk result (self.new ≡ spec.with_items self.old at (items_at self.old.heap at ++ value ∷ [])) }
-        ensures err { OnErr result (self.new ≡ self.old) }
-    {
-        let heap = &mut self.heap;
-        match &mut heap.objects[at as usize] {
-            Object::List(items) => items.push(value),
-        }
-    }
-
-    /// Puts an item into the list at an address, at that place; those from there on move up. After an error nothing is
-    /// changed.
-    pub fn insert_item(&mut self, at: u32, index: u32, value: Value) -> Result<(), AllocError>
-        requires list { IsListAt self.old.heap at }
-        requires within { index ≤ length (items_at self.old.heap at) }
-        ensures ok { OnOk result (self.new ≡ spec.with_items self.old at (insert (items_at self.old.heap at) index value)) }
-        ensures err { OnErr result (self.new ≡ self.old) }
-    {
-        let heap = &mut self.heap;
-        match &mut heap.objects[at as usize] {
-            Object::List(items) => items.insert(index as usize, value),
-        }
-    }
-
-    /// Takes an item out of the list at an address; those after it move down.
-    pub fn remove_item(&mut self, at: u32, index: u32) -> Value
-        requires list { IsListAt self.old.heap at }
-        requires within { index < length (items_at self.old.heap at) }
-        ensures value { slice_get (items_at self.old.heap at) index ≡ Some result }
-        ensures rest { self.new ≡ spec.with_items self.old at (remove (items_at self.old.heap at) index) }
-    {
-        let heap = &mut self.heap;
-        match &mut heap.objects[at as usize] {
-            Object::List(items) => items.remove(index as usize),
-        }
-    }
-
-    /// Takes all items out of the list at an address.
-    pub fn clear(&mut self, at: u32)
-        requires { IsListAt self.old.heap at }
-        ensures { self.new ≡ spec.with_items self.old at [] }
-    {
-        let heap = &mut self.heap;
-        match &mut heap.objects[at as usize] {
-            Object::List(items) => items.clear(),
-        }
     }
 }

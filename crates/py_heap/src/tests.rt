@@ -1,9 +1,10 @@
 ghost use Rattle.std.specs.Prelude.{IfOk};
 ghost use Rattle.py_heap.specs.References.{IsClosed};
 
-use crate::{HeapFault, METER_LIMIT, Object, State};
-use plain_data::{Items, Text};
-use py_value::Value;
+use crate::{Dict, Function, HeapFault, METER_LIMIT, Object, State};
+use plain_data::{Items, Shared, SharedText, Text};
+use py_tree::Def;
+use py_value::{Key, Value};
 use std::alloc::{AllocError, Global};
 use std::test::Fail;
 
@@ -50,6 +51,71 @@ fn lists_change_in_place(rt: HostRuntime) -> Result<(), Fail> {
 }
 
 #[test]
+fn dicts_keep_place_and_spelling(rt: HostRuntime) -> Result<(), Fail> {
+    let mut dict = Dict::new(rt.alloc());
+    dict.put(Key::Bool(true), Value::Number(1))?;
+    dict.put(Key::Nothing, Value::Number(2))?;
+    dict.put(Key::Number(1), Value::Number(3))?;
+    assert_eq!(rt; dict.len(), 2);
+    assert!(rt; matches!(dict.pair_at(0), (Key::Bool(true), Value::Number(3))));
+    assert!(rt; matches!(dict.get(&Key::Nothing), Some(Value::Number(2))));
+    Ok(())
+}
+
+#[test]
+fn dicts_change_in_place(rt: HostRuntime) -> Result<(), Fail> {
+    let alloc = rt.alloc();
+    let mut state = State::new(alloc);
+    let at = state.add(Object::Dict(Dict::new(alloc)))?;
+    assert!(rt; state.is_dict(at));
+    state.put_key(at, Key::Number(1), Value::Number(3))?;
+    assert!(rt;
+        matches!(
+            state.remove_key(at, &Key::Bool(true)),
+            Some(Value::Number(3))
+        )
+    );
+    state.clear(at);
+    assert!(rt; state.dict(at).is_empty());
+    Ok(())
+}
+
+#[test]
+fn functions_have_locals(rt: HostRuntime) -> Result<(), Fail> {
+    let alloc = rt.alloc();
+    let mut params = Items::new(alloc);
+    params.push(text(alloc, "p")?)?;
+    let def = Def {
+        name: text(alloc, "f")?,
+        params,
+        body: Items::new(alloc),
+        source: text(alloc, "def f(p): pass")?,
+    };
+    let function = Function::new(alloc, Shared::new(alloc, def)?)?.share()?;
+    let mut state = State::new(alloc);
+    let at = state.add(Object::Function(function))?;
+    assert!(rt; state.is_function(at));
+    assert_eq!(rt; state.function(at).def().name.as_str(), "f");
+    assert_eq!(rt; state.function(at).locals().len(), 1);
+    Ok(())
+}
+
+#[test]
+fn handles_count_uses(rt: HostRuntime) -> Result<(), Fail> {
+    let alloc = rt.alloc();
+    let mut state = State::new(alloc);
+    let name = SharedText::from_str(alloc, "g")?;
+    let uses = u64::MAX - 1;
+    let at = state.add(Object::Handle { name, uses })?;
+    assert!(rt; state.is_handle(at));
+    assert_eq!(rt; state.raise_uses(at), u64::MAX);
+    assert_eq!(rt; state.raise_uses(at), u64::MAX);
+    assert_eq!(rt; state.uses(at), u64::MAX);
+    assert_eq!(rt; state.handle_name(at).as_str(), "g");
+    Ok(())
+}
+
+#[test]
 fn the_meter_stops_at_its_limit(rt: HostRuntime) -> Result<(), Fail> {
     let mut state = State::new(rt.alloc());
     state.set_count(7);
@@ -62,26 +128,26 @@ fn the_meter_stops_at_its_limit(rt: HostRuntime) -> Result<(), Fail> {
     Ok(())
 }
 
-/// `x` has the list at 1, which holds the list at 0; that holds the list at 1. `y` has the list at 0. No name reaches the
-/// list at 2.
-fn two_lists_of_each_other(alloc: Global) -> Result<State, AllocError>
+/// `x` has the list at 1, which holds the dict at 0; that has the list at 1 under a key. `y` has the dict at 0. No name
+/// reaches the list at 2.
+fn a_list_and_a_dict_of_each_other(alloc: Global) -> Result<State, AllocError>
     ensures { IfOk result IsClosed }
 {
     let mut state = State::new(alloc);
-    state.add(Object::List(Items::new(alloc)))?;
+    state.add(Object::Dict(Dict::new(alloc)))?;
     state.add(Object::List(Items::new(alloc)))?;
     state.add(Object::List(Items::new(alloc)))?;
     state.push_item(1, Value::Ref(0))?;
-    state.push_item(0, Value::Ref(1))?;
+    state.put_key(0, Key::Nothing, Value::Ref(1))?;
     state.bind(Text::new(alloc, "x")?, Value::Ref(1))?;
     state.bind(Text::new(alloc, "y")?, Value::Ref(0))?;
     Ok(state)
 }
 
 #[test]
-fn names_reach_lists(rt: HostRuntime) -> Result<(), Fail> {
+fn names_reach_objects(rt: HostRuntime) -> Result<(), Fail> {
     let alloc = rt.alloc();
-    let state = two_lists_of_each_other(alloc)?;
+    let state = a_list_and_a_dict_of_each_other(alloc)?;
     let all = [text(alloc, "y")?, text(alloc, "z")?, text(alloc, "x")?];
     assert_eq!(rt; state.reach(alloc, &all)?.as_slice(), [0, 1].as_slice());
     let one = [text(alloc, "x")?];

@@ -1,2 +1,4 @@
 pub mod Opened
 pub mod Deeper
+pub mod Ending
+pub mod Copied

@@ -1,10 +1,14 @@
-ghost use Rattle.std.specs.Prelude.{◌≡◌, IfOk, OnOk};
+ghost use Rattle.std.specs.Prelude.{◌≡◌, IfOk, List, Some};
+ghost use Rattle.nb_outside.specs.declared.feed.Drawn.{Drawn};
+ghost use Rattle.nb_outside.specs.Counts.{HasRisen};
+ghost use Rattle.nb_outside.specs.Feeds.{Fed};
 ghost use Rattle.py_heap.specs.States.{empty};
 ghost use Rattle.py_meaning.specs.Cells as spec;
 
 use crate::cell::run_cell;
+use nb_outside::Feed;
 use py_heap::State;
-use py_meaning::CellEnd;
+use py_meaning::{CellEnd, CellError};
 use py_tree::Stmt;
 use std::alloc::{AllocError, Global};
 
@@ -24,13 +28,26 @@ impl Kernel {
         }
     }
 
-    /// Runs a cell with this tree. One that isn't of the supported form doesn't run, and ends in a SyntaxError. A Python error is
-    /// an end of the cell, and what the cell did before stays. The count is the caller's. After an `Err`, which is want of
-    /// memory, the kernel stands for nothing and is only dropped. (Python language reference, in the subset of docs/LANGUAGE.md.)
-    pub fn run_cell(&mut self, alloc: Global, body: &[Stmt]) -> Result<CellEnd, AllocError>
-        ensures end { IfOk result (λ end. end ≡ spec.end body.now self.old.state) }
-        ensures state { OnOk result (self.new.state ≡ spec.end_state body.now self.old.state) }
+    /// Runs a cell with this tree, and draws from the feed. One that isn't of the supported form doesn't run, and ends in a
+    /// SyntaxError. A Python error is an end of the cell, and what the cell did before stays. The count is the caller's. After
+    /// an `Err`, which is want of memory, the kernel stands for nothing and is only dropped. (Python language reference, in
+    /// the subset of docs/LANGUAGE.md.)
+    pub fn run_cell<F: Feed>(
+        &mut self,
+        alloc: Global,
+        body: &[Stmt],
+        feed: &mut F,
+    ) -> Result<CellEnd, AllocError>
+        // The end and the state are the meaning's, under just the draws that are recorded.
+        ensures used { IfOk result (λ end. spec.UsesUp body.now self.old.state end.draws) }
+        ensures end { IfOk result (λ end. end ≡ spec.end body.now self.old.state end.draws) }
+        ensures state { IfOk result (λ end. self.new.state ≡ spec.end_state body.now self.old.state end.draws) }
+
+        // These are what the feed gave in this call, and it gave no others.
+        ensures fed { IfOk result (λ end. Fed (F.seen feed.old) end.draws (F.seen feed.new)) }
+        ensures taken { (draws : List Drawn) × Fed (F.seen feed.old) draws (F.seen feed.new) }
+        ensures feed_error { IfOk result (λ end. end.error ≡ Some CellError.Feed → HasRisen (F.seen feed.old).faults (F.seen feed.new).faults) }
     {
-        run_cell(alloc, &mut self.state, body)
+        run_cell(alloc, &mut self.state, body, feed)
     }
 }

@@ -5,6 +5,7 @@
 
 mod cell;
 mod kernel;
+mod objects;
 mod plus;
 mod run;
 mod shown;

@@ -1,8 +1,9 @@
 ghost use Rattle.std.specs.Prelude.{◌≡◌, ◌++◌, IfOk};
-ghost use Rattle.py_machine.specs.Runs.{Runs, charge};
+ghost use Rattle.py_machine.specs.Runs.{Is, Still, charge};
 ghost use Rattle.py_meaning.specs.Acts.{run};
 ghost use Rattle.py_meaning.specs.Meaning as spec;
 
+use crate::objects::{kind_of, list_at};
 use plain_data::{Items, Text};
 use py_heap::{METER_LIMIT, Object};
 use py_machine::{
@@ -16,7 +17,8 @@ use std::alloc::{AllocError, Global};
 /// The charge of a new list with these items.
 #[tactic(auto, unfolding(py_machine::specs::Runs::charge))]
 pub fn charge_list(alloc: Global, machine: &mut Machine, items: &[Value]) -> Result<(), Fault>
-    ensures { Runs (charge (spec.list_units items.entry.now) machine.old) result machine.new }
+    ensures runs { Is (charge (spec.list_units items.entry.now) machine.old) result machine.new }
+    ensures drawn { machine.new.drawn ≡ machine.old.drawn }
 {
     let mut units: u64 = 1;
     let mut rest = items;
@@ -33,7 +35,8 @@ pub fn charge_list(alloc: Global, machine: &mut Machine, items: &[Value]) -> Res
 
 /// A step for each item that is copied.
 fn copy_steps(alloc: Global, machine: &mut Machine, items: &[Value]) -> Result<(), Fault>
-    ensures { Runs (run (spec.copied items.now) machine.old) result machine.new }
+    ensures runs { Still (run (spec.copied items.now)) machine.old result machine.new }
+    ensures drawn { machine.new.drawn ≡ machine.old.drawn }
 {
     for _item in items {
         machine.step(alloc)?;
@@ -44,7 +47,8 @@ fn copy_steps(alloc: Global, machine: &mut Machine, items: &[Value]) -> Result<(
 /// A new list of copied items.
 #[tactic(auto, unfolding(py_meaning::specs::Meaning::joined))]
 fn joined(alloc: Global, machine: &mut Machine, items: Items<Value>) -> Result<Value, Fault>
-    ensures { Runs (run (spec.joined items) machine.old) result machine.new }
+    ensures runs { Still (run (spec.joined items)) machine.old result machine.new }
+    ensures drawn { machine.new.drawn ≡ machine.old.drawn }
 {
     charge_list(alloc, machine, items.as_slice())?;
     copy_steps(alloc, machine, items.as_slice())?;
@@ -70,40 +74,42 @@ fn unsupported(
     left: &Value,
     right: &Value,
 ) -> Result<Value, Fault>
-    ensures { Runs (run (spec.unsupported left.now right.now) machine.now) result machine.now }
+    ensures { Still (run (spec.unsupported left.now right.now)) machine.now result machine.now }
 {
-    let left = machine.kind_of(left)?;
-    let right = machine.kind_of(right)?;
+    let left = kind_of(machine, left)?;
+    let right = kind_of(machine, right)?;
     Err(Fault::Raised(unsupported_sum(alloc, left, right)?))
 }
 
 /// The new list of two lists' items.
 #[tactic(auto, unfolding(py_meaning::specs::Meaning::lists_sum))]
 fn lists_sum(alloc: Global, machine: &mut Machine, a: u32, b: u32) -> Result<Value, Fault>
-    ensures { Runs (run (spec.lists_sum a b) machine.old) result machine.new }
+    ensures runs { Still (run (spec.lists_sum a b)) machine.old result machine.new }
+    ensures drawn { machine.new.drawn ≡ machine.old.drawn }
 {
-    let items = machine.list_at(alloc, a)?;
-    let more = machine.list_at(alloc, b)?;
+    let items = list_at(alloc, machine, a)?;
+    let more = list_at(alloc, machine, b)?;
     match (items, more) {
         (Some(items), Some(more)) => joined(alloc, machine, extended(items, more)?),
         _ => unsupported(alloc, machine, &Value::Ref(a), &Value::Ref(b)),
     }
 }
 
-fn numbers_sum(alloc: Global, machine: &Machine, a: i128, b: i128) -> Result<Value, Fault>
-    ensures { Runs (run (spec.numbers_sum a b) machine.now) result machine.now }
+fn numbers_sum(alloc: Global, machine: &Machine, a: &i128, b: &i128) -> Result<Value, Fault>
+    ensures { Still (run (spec.numbers_sum a.now b.now)) machine.now result machine.now }
 {
-    match a.checked_add(b) {
+    match a.checked_add(*b) {
         Some(sum) => Ok(Value::Number(sum)),
         None => Err(Fault::Raised(overflow_error(alloc)?)),
     }
 }
 
 fn sum_of(alloc: Global, machine: &mut Machine, left: &Value, right: &Value) -> Result<Value, Fault>
-    ensures { Runs (run (spec.sum_of left.now right.now) machine.old) result machine.new }
+    ensures runs { Still (run (spec.sum_of left.now right.now)) machine.old result machine.new }
+    ensures drawn { machine.new.drawn ≡ machine.old.drawn }
 {
     match (left, right) {
-        (Value::Number(a), Value::Number(b)) => numbers_sum(alloc, machine, *a, *b),
+        (Value::Number(a), Value::Number(b)) => numbers_sum(alloc, machine, a, b),
         (Value::Ref(a), Value::Ref(b)) => lists_sum(alloc, machine, *a, *b),
         _ => unsupported(alloc, machine, left, right),
     }
@@ -117,7 +123,8 @@ pub fn operated(
     left: &Value,
     right: &Value,
 ) -> Result<Value, Fault>
-    ensures { Runs (run (spec.operated op left.now right.now) machine.old) result machine.new }
+    ensures runs { Still (run (spec.operated op left.now right.now)) machine.old result machine.new }
+    ensures drawn { machine.new.drawn ≡ machine.old.drawn }
 {
     match op {
         Op::Plus => sum_of(alloc, machine, left, right),
@@ -128,9 +135,9 @@ pub fn operated(
 /// The address of a value that has the method `append`.
 #[tactic(auto, unfolding(py_meaning::specs::Meaning::receiver))]
 pub fn receiver(alloc: Global, machine: &Machine, object: &Value) -> Result<u32, Fault>
-    ensures { Runs (run (spec.receiver object.now) machine.now) result machine.now }
+    ensures { Still (run (spec.receiver object.now)) machine.now result machine.now }
 {
-    let kind = machine.kind_of(object)?;
+    let kind = kind_of(machine, object)?;
     match (object, kind) {
         (Value::Ref(at), ValueKind::List) => Ok(*at),
         _ => {

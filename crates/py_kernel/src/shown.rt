@@ -1,10 +1,12 @@
-ghost use Rattle.std.specs.Prelude.{◌≡◌, IfOk, OnOk};
+ghost use Rattle.std.specs.Prelude.{◌≡◌, IfOk, OnOk, slice_get};
 ghost use Rattle.py_heap.specs.Searches.{has};
-ghost use Rattle.py_machine.specs.Runs.{Runs};
+ghost use Rattle.py_machine.specs.Runs.{Still};
 ghost use Rattle.py_meaning.specs.Acts.{run};
 ghost use Rattle.py_meaning.specs.Shown as spec;
 
-use plain_data::{Items, Text};
+use crate::objects::{copy_items, copy_pairs};
+use plain_data::{Items, SharedText, Text};
+use py_heap::Object;
 use py_machine::{Fault, Machine, recursion_error};
 use py_value::{Builtin, Key, Value, key_text};
 use std::alloc::{AllocError, Global};
@@ -33,12 +35,37 @@ fn plain_text(alloc: Global, value: &Value) -> Result<Text, AllocError>
         Value::Nothing | Value::Ref(_) => key_text(alloc, &Key::Nothing),
         Value::Bool(truth) => key_text(alloc, &Key::Bool(*truth)),
         Value::Number(number) => key_text(alloc, &Key::Number(*number)),
-        Value::Text(text) => key_text(alloc, &Key::Text(text.copy(alloc)?)),
+        Value::Text(text) => key_text(alloc, &Key::Text(text.share()?)),
         Value::Builtin(builtin) => Text::new(alloc, builtin_text(*builtin)),
     }
 }
 
-/// Whether a list is open.
+/// What the object at an address shows if it is open already.
+fn open_text(machine: &Machine, at: u32) -> &'static str
+    ensures { result.now ≡ spec.open_text (slice_get machine.now.state.heap at) }
+{
+    match machine.object_at(at) {
+        Some(Object::Dict(_)) => "{...}",
+        _ => "[...]",
+    }
+}
+
+fn function_text(alloc: Global, name: &Text) -> Result<Text, AllocError>
+    ensures { IfOk result (λ text. text ≡ spec.function_text name.now) }
+{
+    let name = name.as_str();
+    Ok(Text::from_string(format!(in alloc; "<function {name}>")?))
+}
+
+fn handle_text(alloc: Global, name: &SharedText) -> Result<Text, AllocError>
+    ensures { IfOk result (λ text. text ≡ spec.handle_text name.now) }
+{
+    let name = key_text(alloc, &Key::Text(name.share()?))?;
+    let name = name.as_str();
+    Ok(Text::from_string(format!(in alloc; "<handle {name}>")?))
+}
+
+/// Whether a list or a dict is open.
 fn is_open(path: &[u32], at: u32) -> bool
     ensures { result ≡ has path.now at }
 {
@@ -55,7 +82,8 @@ fn show_value(
     text: Text,
     value: &Value,
 ) -> Result<Text, Fault>
-    ensures shows { Runs (run (spec.value_text (spec.shown left) path.old text value.now) machine.old) result machine.new }
+    ensures shows { Still (run (spec.value_text (spec.shown left) path.old text value.now)) machine.old result machine.new }
+    ensures drawn { machine.new.drawn ≡ machine.old.drawn }
     ensures path { OnOk result (path.new ≡ path.old) }
 {
     match value {
@@ -70,7 +98,7 @@ fn show_value(
 
 /// Puts what the object at an address shows after a text.
 #[cycle(show)]
-#[tactic(auto, unfolding(py_meaning::specs::Shown::object_text))]
+#[tactic(auto, unfolding(py_meaning::specs::Shown::object_text, py_machine::specs::Runs::object_at))]
 fn show_object(
     alloc: Global,
     left: u32,
@@ -79,21 +107,133 @@ fn show_object(
     text: Text,
     at: u32,
 ) -> Result<Text, Fault>
-    ensures shows { Runs (run (spec.object_text (spec.shown left) path.old text at) machine.old) result machine.new }
+    ensures shows { Still (run (spec.object_text (spec.shown left) path.old text at)) machine.old result machine.new }
+    ensures drawn { machine.new.drawn ≡ machine.old.drawn }
     ensures path { OnOk result (path.new ≡ path.old) }
 {
-    let mut text = text;
     if is_open(path.as_slice(), at) {
-        text.push_str("[...]")?;
+        let mut text = text;
+        text.push_str(open_text(machine, at))?;
         return Ok(text);
     }
-    match machine.list_at(alloc, at)? {
-        Some(items) => show_list(alloc, left, machine, path, text, at, items.as_slice()),
+    match machine.object_at(at) {
+        Some(Object::List(items)) => {
+            let items = copy_items(alloc, items.as_slice())?;
+            show_list(alloc, left, machine, path, text, at, items.as_slice())
+        }
+        Some(Object::Dict(dict)) => {
+            let pairs = copy_pairs(alloc, dict)?;
+            show_dict(alloc, left, machine, path, text, at, pairs.as_slice())
+        }
+        Some(Object::Function(function)) => {
+            let mut text = text;
+            text.push_str(function_text(alloc, &function.def().name)?.as_str())?;
+            Ok(text)
+        }
+        Some(Object::Handle { name, .. }) => {
+            let mut text = text;
+            text.push_str(handle_text(alloc, name)?.as_str())?;
+            Ok(text)
+        }
         None => {
+            let mut text = text;
             text.push_str("None")?;
             Ok(text)
         }
     }
+}
+
+/// Puts what the dict at an address shows after a text.
+#[cycle(show)]
+fn show_dict(
+    alloc: Global,
+    left: u32,
+    machine: &mut Machine,
+    path: &mut Items<u32>,
+    text: Text,
+    at: u32,
+    pairs: &[(Key, Value)],
+) -> Result<Text, Fault>
+    ensures shows { Still (run (spec.dict_text (spec.shown left) path.old text at pairs.now)) machine.old result machine.new }
+    ensures drawn { machine.new.drawn ≡ machine.old.drawn }
+    ensures path { OnOk result (path.new ≡ path.old) }
+{
+    let mut text = text;
+    text.push_str("{")?;
+    path.push(at)?;
+    let text = show_pairs(alloc, left, machine, path, text, pairs)?;
+    path.pop();
+    Ok(text)
+}
+
+/// Puts what the pairs of a dict show, and its end, after a text.
+#[cycle(show)]
+fn show_pairs(
+    alloc: Global,
+    left: u32,
+    machine: &mut Machine,
+    path: &mut Items<u32>,
+    text: Text,
+    pairs: &[(Key, Value)],
+) -> Result<Text, Fault>
+    ensures shows { Still (run (spec.all_pairs (spec.shown left) path.old text pairs.now)) machine.old result machine.new }
+    ensures drawn { machine.new.drawn ≡ machine.old.drawn }
+    ensures path { OnOk result (path.new ≡ path.old) }
+{
+    match pairs {
+        [first, more @ ..] => {
+            let text = show_pair(alloc, left, machine, path, text, first)?;
+            show_more_pairs(alloc, left, machine, path, text, more)
+        }
+        [] => {
+            let mut text = text;
+            text.push_str("}")?;
+            Ok(text)
+        }
+    }
+}
+
+/// Puts what the pairs of a dict after its first one show, and its end, after a text.
+#[cycle(show)]
+fn show_more_pairs(
+    alloc: Global,
+    left: u32,
+    machine: &mut Machine,
+    path: &mut Items<u32>,
+    text: Text,
+    pairs: &[(Key, Value)],
+) -> Result<Text, Fault>
+    ensures shows { Still (run (spec.more_pairs (spec.shown left) path.old text pairs.now)) machine.old result machine.new }
+    ensures drawn { machine.new.drawn ≡ machine.old.drawn }
+    ensures path { OnOk result (path.new ≡ path.old) }
+{
+    let mut text = text;
+    for pair in pairs {
+        text.push_str(", ")?;
+        text = show_pair(alloc, left, machine, path, text, pair)?;
+    }
+    text.push_str("}")?;
+    Ok(text)
+}
+
+/// Puts a key and its value after a text.
+#[cycle(show)]
+fn show_pair(
+    alloc: Global,
+    left: u32,
+    machine: &mut Machine,
+    path: &mut Items<u32>,
+    text: Text,
+    pair: &(Key, Value),
+) -> Result<Text, Fault>
+    ensures shows { Still (run (spec.pair_text (spec.shown left) path.old text pair.now)) machine.old result machine.new }
+    ensures drawn { machine.new.drawn ≡ machine.old.drawn }
+    ensures path { OnOk result (path.new ≡ path.old) }
+{
+    let key = pair.0.value()?;
+    let mut text = show(alloc, left, machine, path, text, &key)?;
+    text.push_str(": ")?;
+    show(alloc, left, machine, path, text, &pair.1)
 }
 
 /// Puts what the list at an address shows after a text.
@@ -107,7 +247,8 @@ fn show_list(
     at: u32,
     items: &[Value],
 ) -> Result<Text, Fault>
-    ensures shows { Runs (run (spec.list_text (spec.shown left) path.old text at items.now) machine.old) result machine.new }
+    ensures shows { Still (run (spec.list_text (spec.shown left) path.old text at items.now)) machine.old result machine.new }
+    ensures drawn { machine.new.drawn ≡ machine.old.drawn }
     ensures path { OnOk result (path.new ≡ path.old) }
 {
     let mut text = text;
@@ -128,7 +269,8 @@ fn show_items(
     text: Text,
     items: &[Value],
 ) -> Result<Text, Fault>
-    ensures shows { Runs (run (spec.all_items (spec.shown left) path.old text items.now) machine.old) result machine.new }
+    ensures shows { Still (run (spec.all_items (spec.shown left) path.old text items.now)) machine.old result machine.new }
+    ensures drawn { machine.new.drawn ≡ machine.old.drawn }
     ensures path { OnOk result (path.new ≡ path.old) }
 {
     match items {
@@ -154,7 +296,8 @@ fn show_more(
     text: Text,
     items: &[Value],
 ) -> Result<Text, Fault>
-    ensures shows { Runs (run (spec.more_items (spec.shown left) path.old text items.now) machine.old) result machine.new }
+    ensures shows { Still (run (spec.more_items (spec.shown left) path.old text items.now)) machine.old result machine.new }
+    ensures drawn { machine.new.drawn ≡ machine.old.drawn }
     ensures path { OnOk result (path.new ≡ path.old) }
 {
     let mut text = text;
@@ -176,7 +319,8 @@ fn show_one(
     text: Text,
     value: &Value,
 ) -> Result<Text, Fault>
-    ensures shows { Runs (run (spec.shown_one (spec.shown left) path.old text value.now) machine.old) result machine.new }
+    ensures shows { Still (run (spec.shown_one (spec.shown left) path.old text value.now)) machine.old result machine.new }
+    ensures drawn { machine.new.drawn ≡ machine.old.drawn }
     ensures path { OnOk result (path.new ≡ path.old) }
 {
     machine.step(alloc)?;
@@ -193,7 +337,8 @@ pub fn show(
     text: Text,
     value: &Value,
 ) -> Result<Text, Fault>
-    ensures shows { Runs (run (spec.shown left path.old text value.now) machine.old) result machine.new }
+    ensures shows { Still (run (spec.shown left path.old text value.now)) machine.old result machine.new }
+    ensures drawn { machine.new.drawn ≡ machine.old.drawn }
     ensures path { OnOk result (path.new ≡ path.old) }
 {
     if left == 0 {
@@ -203,10 +348,11 @@ pub fn show(
 }
 
 fn str_text(alloc: Global, left: u32, machine: &mut Machine, value: &Value) -> Result<Text, Fault>
-    ensures { Runs (run (spec.str_text (spec.shown left) value.now) machine.old) result machine.new }
+    ensures shows { Still (run (spec.str_text (spec.shown left) value.now)) machine.old result machine.new }
+    ensures drawn { machine.new.drawn ≡ machine.old.drawn }
 {
     match value {
-        Value::Text(text) => Ok(text.copy(alloc)?),
+        Value::Text(text) => Ok(Text::new(alloc, text.as_str())?),
         _ => {
             let mut path = Items::new(alloc);
             let text = Text::new(alloc, "")?;
@@ -216,7 +362,8 @@ fn str_text(alloc: Global, left: u32, machine: &mut Machine, value: &Value) -> R
 }
 
 fn write_one(alloc: Global, left: u32, machine: &mut Machine, value: &Value) -> Result<Text, Fault>
-    ensures { Runs (run (spec.written_one (spec.shown left) value.now) machine.old) result machine.new }
+    ensures shows { Still (run (spec.written_one (spec.shown left) value.now)) machine.old result machine.new }
+    ensures drawn { machine.new.drawn ≡ machine.old.drawn }
 {
     machine.step(alloc)?;
     str_text(alloc, left, machine, value)
@@ -229,7 +376,8 @@ pub fn written(
     machine: &mut Machine,
     value: &Value,
 ) -> Result<Text, Fault>
-    ensures { Runs (run (spec.written left value.now) machine.old) result machine.new }
+    ensures shows { Still (run (spec.written left value.now)) machine.old result machine.new }
+    ensures drawn { machine.new.drawn ≡ machine.old.drawn }
 {
     if left == 0 {
         return Err(Fault::Raised(recursion_error(alloc)?));

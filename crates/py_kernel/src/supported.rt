@@ -115,19 +115,56 @@ fn is_print_call(value: &Expr) -> bool
     }
 }
 
-/// Whether a statement is `NAME = sum`, `print(sum)` or a sum alone.
+#[tactic(auto, using(crate::proofs::Opened::draws))]
+fn is_draw(value: &Expr) -> bool
+    ensures { result ≡ spec.is_draw value.now }
+{
+    match value {
+        Expr::Name(name) => name.as_str() == "draw",
+        _ => false,
+    }
+}
+
+/// Whether an expression is `draw()`.
+#[tactic(auto, using(crate::proofs::Opened::draw_calls))]
+fn is_draw_call(value: &Expr) -> bool
+    ensures { result ≡ spec.is_draw_call value.now }
+{
+    match value {
+        Expr::Call { callee, args } => is_draw(callee.get()) && has_none(args.as_slice()),
+        _ => false,
+    }
+}
+
+fn has_none(values: &[Expr]) -> bool
+    ensures { result ≡ spec.is_none values.now }
+{
+    match values {
+        [] => true,
+        _ => false,
+    }
+}
+
+/// Whether an expression is a sum or `draw()`.
+fn is_drawn_or_sum(value: &Expr) -> bool
+    ensures { result ≡ spec.is_drawn_or_sum value.now }
+{
+    is_sum(value) || is_draw_call(value)
+}
+
+/// Whether a statement is `NAME = sum`, `NAME = draw()`, `print(sum)`, or a sum or `draw()` alone.
 #[tactic(auto, using(crate::proofs::Opened::lines))]
 fn is_line(statement: &Stmt) -> bool
     ensures { result ≡ spec.is_line statement.now }
 {
     match statement {
-        Stmt::Assign { target, value } => is_own_target(target) && is_sum(value),
-        Stmt::Expression(value) => is_sum(value) || is_print_call(value),
+        Stmt::Assign { target, value } => is_own_target(target) && is_drawn_or_sum(value),
+        Stmt::Expression(value) => is_drawn_or_sum(value) || is_print_call(value),
         _ => false,
     }
 }
 
-/// Whether the statements are of the supported form: each is `NAME = sum`, `print(sum)` or a sum alone. Takes no memory.
+/// Whether the statements are of the supported form: each is `NAME = sum`, `NAME = draw()`, `print(sum)`, or a sum or `draw()` alone. Takes no memory.
 pub fn is_supported(body: &[Stmt]) -> bool
     ensures { result ≡ spec.is_supported body.now }
 {

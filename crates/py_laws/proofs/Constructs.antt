@@ -1,6 +1,6 @@
 -- Each construct respects alikeness, level by level, and so does a cell.
 use Rattle.std.proofs.Common.{◌≡◌, ℕ, zero, suc, ◌+◌, List, [], ◌∷◌, ◌++◌, length, Option, Some, None, refl, ap, ap₂, subst}
-use Rattle.std.specs.Prelude.{◌+ℤ◌}
+use Rattle.std.specs.Prelude.{◌+ℤ◌, pos}
 use Rattle.std.specs.List.{AllZip, fold}
 use Rattle.std.proofs.lemmas.List.Elements.{AllZip-push}
 use Rattle.py_names.specs.Names.{same_text}
@@ -26,18 +26,19 @@ use Rattle.py_value.specs.declared.value.Value.TheVariants as value
 use Rattle.py_value.specs.Values.{weight}
 use Rattle.py_heap.specs.declared.heap.Object.TheVariants as object
 use Rattle.py_heap.specs.References.{value_refs}
+use Rattle.py_machine.specs.declared.frame.Change.TheVariants as changes
+use Rattle.py_machine.specs.declared.frame.Flow.{Flow}
+use Rattle.py_machine.specs.declared.frame.Flow.TheVariants as flow
 use Rattle.py_machine.specs.declared.kind.ValueKind.{ValueKind}
 use Rattle.py_machine.specs.declared.kind.ValueKind.TheVariants as kind
-use Rattle.py_machine.specs.declared.machine.Flow.{Flow}
-use Rattle.py_machine.specs.declared.machine.Flow.TheVariants as flow
 use Rattle.py_machine.specs.Errors.{unsupported_form, overflow_error, recursion_error, unsupported_sum, no_attribute, not_callable}
 use Rattle.py_machine.specs.Runs.{Name}
 use Rattle.py_meaning.specs.Acts.{Act, ◌>>=◌, ◌>>◌, pure, fail, step, add}
 use Rattle.py_meaning.specs.Supported.{is_supported}
-use Rattle.py_meaning.specs.Meaning.{fits, numbers_sum, copied, list_units, joined, unsupported, lists_joined, lists_sum, sum_of, operated, append_name, has_append, receiver, Inner, literal_value, items_from, items, display, operands, sum, append, method, print, not_called, called, call, expression, assign, assigned, show, statement, level, repr, result, show_last, last, top_from, top, cell}
+use Rattle.py_meaning.specs.Meaning.{fits, numbers_sum, copied, list_units, joined, unsupported, lists_joined, lists_sum, sum_of, operated, append_name, has_append, receiver, Inner, literal_value, items_from, items, display, operands, sum, append, method, print, drawn, not_called, called, call, expression, assign, assigned, show, statement, level, repr, result, show_last, last, top_from, top, cell}
 use Rattle.py_laws.specs.Same.{equal, refs}
-use Rattle.py_laws.proofs.Respecting.{Setting, Paired, Respects, Any, Equal, next, pure_respects, fail_respects, choose_respects}
-use Rattle.py_laws.proofs.LeastActs.{Values, Listed, step_respects, charge_respects, look_respects, bind_respects, add_respects, append_to_respects, list_at_respects, kind_of_respects, write_respects}
+use Rattle.py_laws.proofs.Respecting.{Setting, Paired, FlowsMatch, to_next, push, Respects, Any, Equal, next, pure_respects, fail_respects, choose_respects}
+use Rattle.py_laws.proofs.LeastActs.{Values, Listed, step_respects, charge_respects, look_respects, bind_respects, add_respects, change_respects, draw_respects, list_at_respects, kind_of_respects, write_respects}
 use Rattle.py_laws.proofs.Showing.{shown_respects, written_respects}
 
 module _ (c : Setting) where
@@ -45,10 +46,13 @@ module _ (c : Setting) where
   Gives = Respects c (Values c)
 
   abbrev Flows : Act Flow → Act Flow → Type 0
-  Flows = Respects c Equal
+  Flows = Respects c (FlowsMatch (Paired c))
 
   unsupported_gives : Gives (fail unsupported_form) (fail unsupported_form)
   unsupported_gives = fail_respects c (Values c) unsupported_form unsupported_form refl
+
+  goes_on : Flows (pure flow.Next) (pure flow.Next)
+  goes_on = pure_respects c (FlowsMatch (Paired c)) flow.Next flow.Next to_next
 
   plain_gives : (v : Value) → value_refs v ≡ [] → Gives (pure v) (pure v)
   plain_gives v none = pure_respects c (Values c) v v (equal v none)
@@ -238,13 +242,17 @@ module _ (c : Setting) where
         next c (receiver_respects x y h) λ a b p.
         next c (evals e) λ v w k.
         next c (charge_respects c (weight v) (weight w) (same_weight v w k)) λ _ _ _.
-        next c (append_to_respects c a b v w p k) λ _ _ _.
+        next c (change_respects c a b (changes.Push v) (changes.Push w) p (push v w k)) λ _ _ _.
         plain_gives value.Nothing refl
 
     method_respects : (on : Expr) (name : Name) (args : List Expr) → Gives (method inner on name args) (method inner on name args)
     method_respects on name (e ∷ []) = choose_respects c (Values c) (same_text name append_name) (same_text name append_name) _ _ _ _ refl (append_respects on e) unsupported_gives
     method_respects on name [] = unsupported_gives
     method_respects on name (e ∷ d ∷ es) = unsupported_gives
+
+    drawn_respects : Gives drawn drawn
+    unfolding drawn
+    drawn_respects = next c (draw_respects c) λ w w' e. pure_respects c (Values c) (value.Number (pos w)) (value.Number (pos w')) (subst (λ z. Values c (value.Number (pos w)) (value.Number (pos z))) e (equal (value.Number (pos w)) refl))
 
     not_called_respects : (v w : Value) → Values c v w → Gives (not_called v) (not_called w)
     unfolding not_called
@@ -268,8 +276,15 @@ module _ (c : Setting) where
       printed_respects (v ∷ []) (w ∷ w' ∷ ws) h = absurd h.1
       printed_respects (v ∷ v' ∷ vs) (w ∷ []) h = absurd h.1
 
+      draws_respect : (vs ws : List Value) → AllZip (Values c) vs ws → Gives (called inner (value.Builtin builtin.Draw) vs) (called inner (value.Builtin builtin.Draw) ws)
+      draws_respect [] [] h = drawn_respects
+      draws_respect (v ∷ vs) (w ∷ ws) h = unsupported_gives
+      draws_respect [] (w ∷ ws) h = absurd h
+      draws_respect (v ∷ vs) [] h = absurd h
+
       builtin_respects : (b : Builtin) (vs ws : List Value) → AllZip (Values c) vs ws → Gives (called inner (value.Builtin b) vs) (called inner (value.Builtin b) ws)
       builtin_respects builtin.Print vs ws h = printed_respects vs ws h
+      builtin_respects builtin.Draw vs ws h = draws_respect vs ws h
       builtin_respects _ vs ws h = unsupported_gives
 
       plain_called : (v : Value) (vs ws : List Value) → value_refs v ≡ [] → AllZip (Values c) vs ws → Gives (called inner v vs) (called inner v ws)
@@ -305,19 +320,19 @@ module _ (c : Setting) where
         next c (step_respects c) λ _ _ _.
         next c (evals e) λ v w h.
         next c (bind_respects c name v w h) λ _ _ _.
-        pure_respects c Equal flow.Next flow.Next refl
+        goes_on
 
     assigned_respects : (target : Target) (e : Expr) → Flows (assigned inner target e) (assigned inner target e)
     assigned_respects (target.Name name) e = assign_respects name e
-    assigned_respects (target.Item value at) e = fail_respects c Equal unsupported_form unsupported_form refl
+    assigned_respects (target.Item value at) e = fail_respects c (FlowsMatch (Paired c)) unsupported_form unsupported_form refl
 
     show_respects : (e : Expr) → Flows (show inner e) (show inner e)
-    show_respects e = next c (next c (step_respects c) λ _ _ _. evals e) λ _ _ _. pure_respects c Equal flow.Next flow.Next refl
+    show_respects e = next c (next c (step_respects c) λ _ _ _. evals e) λ _ _ _. goes_on
 
     statement_respects : (s : Stmt-F Stmt Arm Def) → Flows (statement inner s) (statement inner s)
     statement_respects (Stmt-F.Assign target e) = assigned_respects target e
     statement_respects (Stmt-F.Expression e) = show_respects e
-    statement_respects _ = fail_respects c Equal unsupported_form unsupported_form refl
+    statement_respects _ = fail_respects c (FlowsMatch (Paired c)) unsupported_form unsupported_form refl
 
   -- ---- the levels
 
@@ -330,7 +345,7 @@ module _ (c : Setting) where
   unfolding level
   level_respects zero = record {
     evals = λ e. fail_respects c (Values c) recursion_error recursion_error refl;
-    execs = λ s. fail_respects c Equal recursion_error recursion_error refl;
+    execs = λ s. fail_respects c (FlowsMatch (Paired c)) recursion_error recursion_error refl;
     writes = written_respects c zero;
   }
   level_respects (suc n) =

@@ -16,18 +16,21 @@ use Rattle.py_heap.specs.declared.state.State.{State}
 use Rattle.py_heap.specs.References.{IsClosed}
 use Rattle.py_heap.specs.States.{empty, with_name, with_object}
 use Rattle.py_heap.proofs.Closed.{empty_closed, bind_closed, add_closed}
-use Rattle.py_machine.specs.declared.machine.Event.TheVariants as event
 use Rattle.py_machine.specs.declared.machine.Machine.{Machine}
-use Rattle.py_machine.specs.Runs.{Name}
+use Rattle.py_machine.specs.Marked.{Event, no_marks, reported, IsIn, IsLooked}
+use Rattle.py_machine.specs.Marked as event
+use Rattle.py_machine.specs.Runs.{Name, start}
 use Rattle.py_machine.specs.Runs as runs
-use Rattle.py_meaning.specs.Acts.{run}
+use Rattle.py_meaning.specs.Acts.{run, kind_of}
 use Rattle.py_meaning.specs.Supported.{is_supported, is_line}
-use Rattle.py_meaning.specs.Cells.{start, outcome, IsLooked}
+use Rattle.py_meaning.specs.Cells.{outcome}
 use Rattle.py_meaning.specs.Meaning.{literal_value, append, receiver, top, cell}
 use Rattle.py_meaning.proofs.Opened.{out-show, eval-name, eval-literal, eval-method, is_sum-name, is_sum-literal, is_sum-method}
 use Rattle.py_laws.specs.Same.{HasPair, ValuesMatch, equal, refs, ObjectsMatch, BothOrNone, Both, Same}
 use Rattle.py_laws.specs.Framed.{Framed}
 use Rattle.py_laws.proofs.Pairing.{pair_cases, no_pair, first_pair}
+use Rattle.py_laws.proofs.Members.{no_name}
+use Rattle.py_laws.proofs.Reporting.{looked_to}
 use Rattle.py_laws.proofs.Framing.{framed}
 
 abbrev a : Name
@@ -144,34 +147,42 @@ abbrev body : List Stmt
 body = s.Expression line ∷ []
 
 -- a statement, a method, a name and a literal; an item
+abbrev done : List Event
+done = event.Look a ∷ event.Change 0 ∷ []
+
 abbrev after : Machine
 after = record {
   state = record { globals = first.globals; heap = object.List (value.Number (pos 1) ∷ []) ∷ []; count = 0; meter = 1 };
   steps = 4;
   printed = [];
-  trace = event.Look a ∷ event.Change 0 ∷ [];
+  drawn = [];
+  marks = reported no_marks done;
+  frame = None;
 }
 
-body-run : run (top body) (start first) ≡ (Ok None, after)
-unfolding append receiver literal_value runs.step runs.look runs.kind_of runs.charge runs.append_to
+body-run : run (top body) [] (start first) ≡ (Ok None, after)
+unfolding append receiver literal_value runs.step runs.look kind_of runs.object_at runs.charge runs.change
 body-run = rw (out-show line, eval-method 798 (e.Name a) (codes "append") (e.Literal (literal.Number (pos 1)) ∷ []), eval-name 797 a, first-a, eval-literal 797 (literal.Number (pos 1))) refl
 
 body-supported : is_supported body ≡ true
 unfolding is_line builtins
 body-supported = rw (out-show line, is_sum-method (e.Name a) (codes "append") (e.Literal (literal.Number (pos 1)) ∷ []), is_sum-name a, is_sum-literal (literal.Number (pos 1))) refl
 
-body-outcome : outcome body first ≡ (Ok None, after)
+body-outcome : outcome body first [] ≡ (Ok None, after)
 unfolding cell
 body-outcome = rw (body-supported, body-run) refl
 
 -- it looks `a` up alone
-looked_is_a : (name : Name) → IsLooked name after.trace → Contains (a ∷ []) name
-looked_is_a name (inl same) = (0, omega arith, sym same)
-looked_is_a name (inr none) = absurd none
+only_look : (name : Name) → IsLooked name done → Contains (a ∷ []) name
+only_look name (inl same) = (0, omega arith, sym same)
+only_look name (inr none) = absurd none
 
-body-frame : Framed (a ∷ []) first second (outcome body first) (outcome body second)
-body-frame = framed (a ∷ []) body first second same_over_a refl (λ name l. looked_is_a name (subst (λ o. IsLooked name o.1.trace) body-outcome l))
+looked_is_a : (name : Name) → IsIn after.marks.looked name → Contains (a ∷ []) name
+looked_is_a name i = elim (looked_to no_marks name done i) [ inl none ↦ absurd (no_name name none) | inr w ↦ only_look name w.1 ]
+
+body-frame : Framed (a ∷ []) first second (outcome body first []) (outcome body second [])
+body-frame = framed (a ∷ []) body [] first second same_over_a refl (λ name l. looked_is_a name (subst (λ o. IsIn o.1.marks.looked name) body-outcome l))
 
 -- so from the second state it gives no result either, after as many steps
-body-second : ((outcome body second).0 ≡ Ok None) × ((outcome body second).1.steps ≡ 4)
+body-second : ((outcome body second []).0 ≡ Ok None) × ((outcome body second []).1.steps ≡ 4)
 body-second = (sym body-frame.result ∙ ap (λ o. o.0) body-outcome, sym body-frame.steps ∙ ap (λ o. o.1.steps) body-outcome)

@@ -1,15 +1,16 @@
 -- What matches by some pairs matches by more, by the turned ones, by such as lead on, and by those that pair what it names with itself.
-use Rattle.std.proofs.Common.{ℕ, List, [], ◌∷◌, Option, Some, None, arith, refl}
+use Rattle.std.proofs.Common.{ℕ, List, [], ◌∷◌, Option, Some, None, arith, refl, sym, ◌∙◌}
 use Rattle.std.specs.Prelude.{Contains}
 use Rattle.std.specs.List.{AllZip, flat_map}
 use Rattle.std.proofs.lemmas.List.Elements.{Contains-append_left, Contains-append_right}
+use Rattle.py_value.specs.declared.key.Key.{Key}
 use Rattle.py_value.specs.declared.value.Value.{Value}
 use Rattle.py_value.specs.declared.value.Value.TheVariants as value
 use Rattle.py_heap.specs.declared.heap.Object.{Object}
 use Rattle.py_heap.specs.declared.heap.Object.TheVariants as object
-use Rattle.py_heap.specs.References.{value_refs, object_refs}
+use Rattle.py_heap.specs.References.{value_refs, pair_refs, object_refs}
 use Rattle.py_heap.specs.Reaching.{held_refs}
-use Rattle.py_laws.specs.Same.{ValuesMatch, equal, refs, ObjectsMatch, BothOrNone, Both}
+use Rattle.py_laws.specs.Same.{ValuesMatch, equal, refs, PairsMatch, ObjectsMatch, BothOrNone, Both}
 
 -- ---- lists place by place, and what two may hold
 
@@ -88,6 +89,10 @@ more_value ps qs k _ _ (refs a b p) = refs a b (k a b p)
 
 pub more_object : (ps qs : ℕ → ℕ → Type 0) → IsWithin ps qs → (o u : Object) → ObjectsMatch ps o u → ObjectsMatch qs o u
 more_object ps qs k (object.List items) (object.List others) h = AllZip-more (ValuesMatch ps) (ValuesMatch qs) (more_value ps qs k) items others h
+more_object ps qs k (object.Dict pairs) (object.Dict others) h = AllZip-more (PairsMatch ps) (PairsMatch qs) (λ p q m. (m.0, more_value ps qs k p.1 q.1 m.1)) pairs others h
+more_object ps qs k (object.Function def) (object.Function other) h = h
+more_object ps qs k (object.Handle name uses) (object.Handle other others) h = h
+more_object ps qs k _ _ h = absurd h
 
 pub turned_value : (ps : ℕ → ℕ → Type 0) (v w : Value) → ValuesMatch ps v w → ValuesMatch (Turned ps) w v
 turned_value ps _ _ (equal v n) = equal v n
@@ -95,6 +100,10 @@ turned_value ps _ _ (refs a b p) = refs b a p
 
 pub turned_object : (ps : ℕ → ℕ → Type 0) (o u : Object) → ObjectsMatch ps o u → ObjectsMatch (Turned ps) u o
 turned_object ps (object.List items) (object.List others) h = AllZip-turned (ValuesMatch ps) (ValuesMatch (Turned ps)) (turned_value ps) items others h
+turned_object ps (object.Dict pairs) (object.Dict others) h = AllZip-turned (PairsMatch ps) (PairsMatch (Turned ps)) (λ p q m. (sym m.0, turned_value ps p.1 q.1 m.1)) pairs others h
+turned_object ps (object.Function def) (object.Function other) h = sym h
+turned_object ps (object.Handle name uses) (object.Handle other others) h = (sym h.0, sym h.1)
+turned_object ps _ _ h = absurd h
 
 pub value_through : (ps qs : ℕ → ℕ → Type 0) (u v w : Value) → ValuesMatch ps u v → ValuesMatch qs v w → ValuesMatch (Through ps qs) u w
 value_through ps qs _ _ w (equal v n) (equal _ m) = equal v n
@@ -105,6 +114,15 @@ value_through ps qs _ _ _ (refs a b p) (equal _ n) = cc
 pub object_through : (ps qs : ℕ → ℕ → Type 0) (o u w : Object) → ObjectsMatch ps o u → ObjectsMatch qs u w → ObjectsMatch (Through ps qs) o w
 object_through ps qs (object.List vs) (object.List ws) (object.List xs) h g =
     AllZip-through (ValuesMatch ps) (ValuesMatch qs) (ValuesMatch (Through ps qs)) (value_through ps qs) vs ws xs h g
+object_through ps qs (object.Dict vs) (object.Dict ws) (object.Dict xs) h g =
+    AllZip-through (PairsMatch ps) (PairsMatch qs) (PairsMatch (Through ps qs)) (λ p q r m n. (m.0 ∙ n.0, value_through ps qs p.1 q.1 r.1 m.1 n.1)) vs ws xs h g
+object_through ps qs (object.Function def) (object.Function other) (object.Function third) h g = h ∙ g
+object_through ps qs (object.Handle name uses) (object.Handle other others) (object.Handle third last) h g = (h.0 ∙ g.0, h.1 ∙ g.1)
+object_through ps qs (object.List vs) (object.List ws) _ h g = absurd g
+object_through ps qs (object.Dict vs) (object.Dict ws) _ h g = absurd g
+object_through ps qs (object.Function def) (object.Function other) _ h g = absurd g
+object_through ps qs (object.Handle name uses) (object.Handle other others) _ h g = absurd g
+object_through ps qs _ _ _ h g = absurd h
 
 -- ---- with itself, where each address in it is paired with itself
 
@@ -122,8 +140,18 @@ module _ (ps : ℕ → ℕ → Type 0) where
   items_themselves (v ∷ vs) k =
       (value_itself v (λ a c. k a (Contains-append_left (value_refs v) (flat_map value_refs vs) a c)), items_themselves vs (λ a c. k a (Contains-append_right (value_refs v) (flat_map value_refs vs) a c)))
 
+  pairs_themselves : (vs : List (Key × Value)) → ((a : ℕ) → Contains (flat_map pair_refs vs) a → ps a a) → AllZip (PairsMatch ps) vs vs
+  pairs_themselves [] k = tt
+  pairs_themselves (v ∷ vs) k = (
+    (refl, value_itself v.1 (λ a c. k a (Contains-append_left (pair_refs v) (flat_map pair_refs vs) a c))),
+    pairs_themselves vs (λ a c. k a (Contains-append_right (pair_refs v) (flat_map pair_refs vs) a c)),
+  )
+
   pub object_itself : (o : Object) → ((a : ℕ) → Contains (object_refs o) a → ps a a) → ObjectsMatch ps o o
   object_itself (object.List items) k = items_themselves items k
+  object_itself (object.Dict pairs) k = pairs_themselves pairs k
+  object_itself (object.Function def) k = refl
+  object_itself (object.Handle name uses) k = (refl, refl)
 
   pub held_itself : (o : Option Value) → ((a : ℕ) → Contains (held_refs value_refs o) a → ps a a) → BothOrNone (ValuesMatch ps) o o
   held_itself None k = tt

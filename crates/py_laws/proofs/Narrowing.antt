@@ -3,15 +3,16 @@ use Rattle.std.proofs.Common.{ℕ, List, [], ◌∷◌, Option, Some, None, refl
 use Rattle.std.specs.Prelude.{Contains}
 use Rattle.std.specs.List.{AllZip, flat_map}
 use Rattle.std.proofs.lemmas.List.Elements.{Contains-append_left, Contains-append_right}
+use Rattle.py_value.specs.declared.key.Key.{Key}
 use Rattle.py_value.specs.declared.value.Value.{Value}
 use Rattle.py_heap.specs.declared.heap.Object.{Object}
 use Rattle.py_heap.specs.declared.heap.Object.TheVariants as object
 use Rattle.py_heap.specs.declared.state.State.{State}
-use Rattle.py_heap.specs.References.{value_refs, object_refs}
+use Rattle.py_heap.specs.References.{value_refs, pair_refs, object_refs}
 use Rattle.py_heap.specs.Reaching.{held_refs, Reach}
 use Rattle.py_heap.specs.Reaching as reaching
 use Rattle.py_machine.specs.Runs.{Name}
-use Rattle.py_laws.specs.Same.{ValuesMatch, equal, refs, ObjectsMatch, BothOrNone, Both, SameBy}
+use Rattle.py_laws.specs.Same.{ValuesMatch, equal, refs, PairsMatch, ObjectsMatch, BothOrNone, Both, SameBy}
 
 module _ (ps : ℕ → ℕ → Type 0) (P Q : ℕ → Type 0) where
   abbrev pub Narrow : ℕ → ℕ → Type 0
@@ -34,6 +35,15 @@ module _ (ps : ℕ → ℕ → Type 0) (P Q : ℕ → Type 0) where
   items [] (w ∷ ws) k h = absurd h
   items (v ∷ vs) [] k h = absurd h
 
+  pairs : (vs ws : List (Key × Value)) → Each (flat_map pair_refs vs) (flat_map pair_refs ws) → AllZip (PairsMatch ps) vs ws → AllZip (PairsMatch Narrow) vs ws
+  pairs [] [] k h = tt
+  pairs (v ∷ vs) (w ∷ ws) k h = (
+    (h.0.0, value v.1 w.1 (λ a r. k.0 a (Contains-append_left (pair_refs v) (flat_map pair_refs vs) a r), λ b r. k.1 b (Contains-append_left (pair_refs w) (flat_map pair_refs ws) b r)) h.0.1),
+    pairs vs ws (λ a r. k.0 a (Contains-append_right (pair_refs v) (flat_map pair_refs vs) a r), λ b r. k.1 b (Contains-append_right (pair_refs w) (flat_map pair_refs ws) b r)) h.1,
+  )
+  pairs [] (w ∷ ws) k h = absurd h
+  pairs (v ∷ vs) [] k h = absurd h
+
   narrow_held : (o u : Option Value) → Each (held_refs value_refs o) (held_refs value_refs u) → BothOrNone (ValuesMatch ps) o u → BothOrNone (ValuesMatch Narrow) o u
   narrow_held None None k h = tt
   narrow_held (Some v) (Some w) k h = value v w k h
@@ -42,6 +52,10 @@ module _ (ps : ℕ → ℕ → Type 0) (P Q : ℕ → Type 0) where
 
   narrow_object : (o u : Option Object) → Each (held_refs object_refs o) (held_refs object_refs u) → Both (ObjectsMatch ps) o u → Both (ObjectsMatch Narrow) o u
   narrow_object (Some (object.List vs)) (Some (object.List ws)) k h = items vs ws k h
+  narrow_object (Some (object.Dict vs)) (Some (object.Dict ws)) k h = pairs vs ws k h
+  narrow_object (Some (object.Function def)) (Some (object.Function other)) k h = h
+  narrow_object (Some (object.Handle name uses)) (Some (object.Handle other others)) k h = h
+  narrow_object (Some _) (Some _) k h = absurd h
   narrow_object (Some o) None k h = absurd h
   narrow_object None u k h = absurd h
 

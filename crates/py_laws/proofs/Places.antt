@@ -6,21 +6,21 @@ use Rattle.std.specs.Ordering.{nat_cmp}
 use Rattle.std.specs.Cmp.Lexicographic.{slice_cmp, nat_list_cmp_total}
 use Rattle.py_value.specs.declared.value.Value.{Value}
 use Rattle.py_machine.specs.Runs.{Name}
-use Rattle.py_laws.proofs.Reports.{same_name, other_name}
+use Rattle.py_laws.proofs.Members.{same_name, other_name}
 
-abbrev pub Globals : Type 0
-Globals = finite.FinMap (slice_cmp nat_cmp) Value
+abbrev pub Named : Type 0 → Type 0
+Named A = finite.FinMap (slice_cmp nat_cmp) A
 
-pub bound : (g : Globals) (name x : Name) (v : Value) → finite.get (finite.insert g name v) x ≡ cond (same_name x name) (Some v) (finite.get g x)
+pub bound : {A : Type 0} (g : Named A) (name x : Name) (v : A) → finite.get (finite.insert g name v) x ≡ cond (same_name x name) (Some v) (finite.get g x)
 bound g name x v = finite.get-insert nat_list_cmp_total g name v x
 
-pub unbound : (g : Globals) (name x : Name) → finite.get (finite.remove g name) x ≡ cond (same_name x name) None (finite.get g x)
+pub unbound : {A : Type 0} (g : Named A) (name x : Name) → finite.get (finite.remove g name) x ≡ cond (same_name x name) None (finite.get g x)
 unbound g name x = finite.get-remove nat_list_cmp_total g name x
 
-pub bound_other : (g : Globals) (name x : Name) (v : Value) → (x ≡ name → ⊥) → finite.get (finite.insert g name v) x ≡ finite.get g x
+pub bound_other : (g : Named Value) (name x : Name) (v : Value) → (x ≡ name → ⊥) → finite.get (finite.insert g name v) x ≡ finite.get g x
 bound_other g name x v h = rw (bound g name x v, other_name x name h) refl
 
-pub unbound_other : (g : Globals) (name x : Name) → (x ≡ name → ⊥) → finite.get (finite.remove g name) x ≡ finite.get g x
+pub unbound_other : (g : Named Value) (name x : Name) → (x ≡ name → ⊥) → finite.get (finite.remove g name) x ≡ finite.get g x
 unbound_other g name x h = rw (unbound g name x, other_name x name h) refl
 
 module _ {X : Type 0} where

@@ -1,16 +1,28 @@
 -- Acts on machines that are alike end in machines that are alike, where the first run looks up no name but some and those bound before.
--- The pairs are known from the start: those of the states, and the new objects of both runs in their order.
-use Rattle.std.proofs.Common.{◌≡◌, ℕ, ◌+◌, ◌<◌, ◌≤◌, Bool, true, false, cond, length, Result, Ok, Err, ◌⊎◌, arith}
+-- The pairs are known from the start: those of the states, and the new objects of both runs in their order. Both runs take the same draws.
+use Rattle.std.proofs.Common.{◌≡◌, ℕ, ◌+◌, ◌<◌, ◌≤◌, Bool, true, false, cond, List, length, Option, Result, Ok, Err, ap, ◌⊎◌, arith}
 use Rattle.std.specs.Prelude.{slice_get}
 use Rattle.std.specs.FinMap as finite
+use Rattle.nb_outside.specs.declared.feed.Drawn.{Drawn}
+use Rattle.py_value.specs.declared.key.Key.{Key}
+use Rattle.py_value.specs.declared.value.Value.{Value}
+use Rattle.py_heap.specs.declared.heap.Object.{Object}
+use Rattle.py_heap.specs.declared.state.State.{State}
 use Rattle.py_machine.specs.declared.error.PyError.{PyError}
+use Rattle.py_machine.specs.declared.frame.Change.{Change}
+use Rattle.py_machine.specs.declared.frame.Change.TheVariants as change
+use Rattle.py_machine.specs.declared.frame.Flow.{Flow}
+use Rattle.py_machine.specs.declared.frame.Flow.TheVariants as flow
+use Rattle.py_machine.specs.declared.frame.Frame.{Frame}
+use Rattle.py_machine.specs.declared.frame.Slot.{Slot}
+use Rattle.py_machine.specs.declared.frame.Slot.TheVariants.{Empty, Held}
 use Rattle.py_machine.specs.declared.machine.Machine.{Machine}
-use Rattle.py_machine.specs.Runs.{Name, Outcome, after}
+use Rattle.py_machine.specs.declared.marks.Marks.{Marks}
+use Rattle.py_machine.specs.Marked.{IsIn}
+use Rattle.py_machine.specs.Runs.{Name, Outcome, Stop, raised, after}
 use Rattle.py_meaning.specs.Acts.{Act, run, pure, fail, chain, choose}
-use Rattle.py_meaning.specs.Cells.{IsBound, IsLooked}
 use Rattle.py_laws.specs.Same.{IsOneToOne, ValuesMatch, ObjectsMatch, BothOrNone}
 use Rattle.py_laws.proofs.Sparing.{Spared, spared}
-use Rattle.py_laws.proofs.Traces.{TracesMatch}
 
 -- the names and pairs of the two states, how many objects each state has, and the most objects that the runs may add
 pub record Setting : Type 1 where
@@ -26,19 +38,67 @@ pub record Setting : Type 1 where
 abbrev pub Paired : Setting → ℕ → ℕ → Type 0
 Paired c a b = c.base a b ⊎ ((i : ℕ) × (i < c.most) × (a ≡ c.lefts + i) × (b ≡ c.rights + i))
 
-pub record Alike (c : Setting) (m n : Machine) : Type 0 where
+-- ---- what matches by pairs
+
+-- locals match where both are empty or hold matching values
+pub data SlotsMatch (ps : ℕ → ℕ → Type 0) : Slot → Slot → Type 0 where
+  empty : SlotsMatch ps Empty Empty
+  held : (v w : Value) → ValuesMatch ps v w → SlotsMatch ps (Held v) (Held w)
+
+pub record FramesMatch (ps : ℕ → ℕ → Type 0) (f g : Frame) : Type 0 where
+  pub slots : (x : Name) → BothOrNone (SlotsMatch ps) (finite.get f.slots x) (finite.get g.slots x)
+
+-- a value that is returned matches by pairs
+pub data FlowsMatch (ps : ℕ → ℕ → Type 0) : Flow → Flow → Type 0 where
+  to_next : FlowsMatch ps flow.Next flow.Next
+  breaks : FlowsMatch ps flow.Break flow.Break
+  continues : FlowsMatch ps flow.Continue flow.Continue
+  returns : (v w : Value) → ValuesMatch ps v w → FlowsMatch ps (flow.Return v) (flow.Return w)
+
+pub data ChangesMatch (ps : ℕ → ℕ → Type 0) : Change → Change → Type 0 where
+  push : (v w : Value) → ValuesMatch ps v w → ChangesMatch ps (change.Push v) (change.Push w)
+  insert : (at : ℕ) (v w : Value) → ValuesMatch ps v w → ChangesMatch ps (change.Insert at v) (change.Insert at w)
+  setting : (at : ℕ) (v w : Value) → ValuesMatch ps v w → ChangesMatch ps (change.Set at v) (change.Set at w)
+  remove : (at : ℕ) → ChangesMatch ps (change.Remove at) (change.Remove at)
+  put : (key : Key) (v w : Value) → ValuesMatch ps v w → ChangesMatch ps (change.Put key v) (change.Put key w)
+  drop : (key : Key) → ChangesMatch ps (change.Drop key) (change.Drop key)
+  clear : ChangesMatch ps change.Clear change.Clear
+  use_ : ChangesMatch ps change.Use change.Use
+
+-- ---- machines that are alike
+
+pub record SameCounts (m n : Machine) : Type 0 where
   pub steps : m.steps ≡ n.steps
   pub printed : m.printed ≡ n.printed
   pub meter : m.state.meter ≡ n.state.meter
-  pub traces : TracesMatch (Paired c) m.trace n.trace
-  pub names : (x : Name) → c.named x ⊎ IsBound x m.trace → BothOrNone (ValuesMatch (Paired c)) (finite.get m.state.globals x) (finite.get n.state.globals x)
-  pub objects : (a b : ℕ) → Paired c a b → BothOrNone (ObjectsMatch (Paired c)) (slice_get m.state.heap a) (slice_get n.state.heap b)
-  pub added : ℕ
-  pub left_size : length m.state.heap ≡ c.lefts + added
-  pub right_size : length n.state.heap ≡ c.rights + added
+  pub drawn : m.drawn ≡ n.drawn
 
--- equal errors, or results that match
-abbrev pub ResultsMatch : {A B : Type 0} → (A → B → Type 0) → Result A PyError → Result B PyError → Type 0
+pub record MarksMatch (ps : ℕ → ℕ → Type 0) (k l : Marks) : Type 0 where
+  pub looked : k.looked ≡ l.looked
+  pub bound : k.bound ≡ l.bound
+  pub changed : (a : ℕ) → IsIn k.changed a → (b : ℕ) × ps a b × IsIn l.changed b
+  pub changed_back : (b : ℕ) → IsIn l.changed b → (a : ℕ) × ps a b × IsIn k.changed a
+  pub drew : k.drew ≡ l.drew
+
+pub record HeapsMatch (c : Setting) (h k : List Object) : Type 0 where
+  pub objects : (a b : ℕ) → Paired c a b → BothOrNone (ObjectsMatch (Paired c)) (slice_get h a) (slice_get k b)
+  pub added : ℕ
+  pub left_size : length h ≡ c.lefts + added
+  pub right_size : length k ≡ c.rights + added
+
+-- the names, and those bound, have matching values
+abbrev pub NamesMatch : Setting → Marks → State → State → Type 0
+NamesMatch c k s t = (x : Name) → c.named x ⊎ IsIn k.bound x → BothOrNone (ValuesMatch (Paired c)) (finite.get s.globals x) (finite.get t.globals x)
+
+pub record Alike (c : Setting) (m n : Machine) : Type 0 where
+  pub counts : SameCounts m n
+  pub marks : MarksMatch (Paired c) m.marks n.marks
+  pub frame : BothOrNone (FramesMatch (Paired c)) m.frame n.frame
+  pub names : NamesMatch c m.marks m.state n.state
+  pub heaps : HeapsMatch c m.state.heap n.state.heap
+
+-- equal ends, or results that match
+abbrev pub ResultsMatch : {A B : Type 0} → (A → B → Type 0) → Result A Stop → Result B Stop → Type 0
 ResultsMatch V (Ok a) (Ok b) = V a b
 ResultsMatch V (Err e) (Err f) = e ≡ f
 ResultsMatch V _ _ = ⊥
@@ -49,11 +109,11 @@ pub record Ends (c : Setting) {A B : Type 0} (V : A → B → Type 0) (o : Outco
 
 -- the names looked up are among the names, and no more objects are added than are paired
 pub record Stays (c : Setting) (m : Machine) : Type 0 where
-  pub looks : (x : Name) → IsLooked x m.trace → c.named x
+  pub looks : (x : Name) → IsIn m.marks.looked x → c.named x
   pub size : length m.state.heap ≤ c.lefts + c.most
 
 pub record Respects (c : Setting) {A B : Type 0} (V : A → B → Type 0) (p : Act A) (q : Act B) : Type 0 where
-  pub ends : (m n : Machine) → Alike c m n → Stays c (run p m).1 → Ends c V (run p m) (run q n)
+  pub ends : (draws : List Drawn) (m n : Machine) → Alike c m n → Stays c (run p draws m).1 → Ends c V (run p draws m) (run q draws n)
 
 abbrev pub Any : Unit {0} → Unit {0} → Type 0
 Any a b = Unit {0}
@@ -64,27 +124,27 @@ Equal a b = a ≡ b
 module _ (c : Setting) where
   -- ---- acts after one another
 
-  stays_before : {A B : Type 0} (r : Result A PyError) (m : Machine) (f : A → Act B) → Stays c (after r m (λ a. run (f a))).1 → Stays c m
-  stays_before (Ok a) m f h =
-      let s : Spared m (run (f a) m).1 = spared (f a) m in
-      record { looks = λ x l. h.looks x (s.looked x l); size = omega (arith, s.long, h.size) }
-  stays_before (Err e) m f h = h
+  stays_before : {A B : Type 0} (draws : List Drawn) (r : Result A Stop) (m : Machine) (f : A → Act B) → Stays c (after r m (λ a. run (f a) draws)).1 → Stays c m
+  stays_before draws (Ok a) m f h =
+      let s : Spared m (run (f a) draws m).1 = spared (f a) draws m in
+      record { looks = λ x l. h.looks x (s.marks.looked x l); size = omega (arith, s.long, h.size) }
+  stays_before draws (Err e) m f h = h
 
-  after_ends : {A B C D : Type 0} (V : A → B → Type 0) (W : C → D → Type 0) (r : Result A PyError) (s : Result B PyError) (m n : Machine)
+  after_ends : {A B C D : Type 0} (V : A → B → Type 0) (W : C → D → Type 0) (draws : List Drawn) (r : Result A Stop) (s : Result B Stop) (m n : Machine)
       (f : A → Act C) (g : B → Act D) → Alike c m n → ResultsMatch V r s
-      → ((a : A) (b : B) → V a b → Respects c W (f a) (g b)) → Stays c (after r m (λ a. run (f a))).1
-      → Ends c W (after r m (λ a. run (f a))) (after s n (λ b. run (g b)))
-  after_ends V W (Ok a) (Ok b) m n f g h v k stay = (k a b v).ends m n h stay
-  after_ends V W (Err a) (Err b) m n f g h v k stay = record { alike = h; result = v }
-  after_ends V W (Ok a) (Err b) m n f g h v k stay = absurd v
-  after_ends V W (Err a) (Ok b) m n f g h v k stay = absurd v
+      → ((a : A) (b : B) → V a b → Respects c W (f a) (g b)) → Stays c (after r m (λ a. run (f a) draws)).1
+      → Ends c W (after r m (λ a. run (f a) draws)) (after s n (λ b. run (g b) draws))
+  after_ends V W draws (Ok a) (Ok b) m n f g h v k stay = (k a b v).ends draws m n h stay
+  after_ends V W draws (Err a) (Err b) m n f g h v k stay = record { alike = h; result = v }
+  after_ends V W draws (Ok a) (Err b) m n f g h v k stay = absurd v
+  after_ends V W draws (Err a) (Ok b) m n f g h v k stay = absurd v
 
   chain_respects : {A B C D : Type 0} (V : A → B → Type 0) (W : C → D → Type 0) (p : Act A) (q : Act B) (f : A → Act C) (g : B → Act D)
       → Respects c V p q → ((a : A) (b : B) → V a b → Respects c W (f a) (g b)) → Respects c W (chain p f) (chain q g)
   chain_respects V W p q f g h k = record {
-    ends = λ m n alike stay.
-        let e = h.ends m n alike (stays_before (run p m).0 (run p m).1 f stay) in
-        after_ends V W (run p m).0 (run q n).0 (run p m).1 (run q n).1 f g e.alike e.result k stay;
+    ends = λ draws m n alike stay.
+        let e = h.ends draws m n alike (stays_before draws (run p draws m).0 (run p draws m).1 f stay) in
+        after_ends V W draws (run p draws m).0 (run q draws n).0 (run p draws m).1 (run q draws n).1 f g e.alike e.result k stay;
   }
 
   pub next : {A B C D : Type 0} {V : A → B → Type 0} {W : C → D → Type 0} {p : Act A} {q : Act B} {f : A → Act C} {g : B → Act D}
@@ -92,10 +152,10 @@ module _ (c : Setting) where
   next {V = V} {W = W} {p = p} {q = q} {f = f} {g = g} h k = chain_respects V W p q f g h k
 
   pub pure_respects : {A B : Type 0} (V : A → B → Type 0) (a : A) (b : B) → V a b → Respects c V (pure a) (pure b)
-  pure_respects V a b v = record { ends = λ m n h stay. record { alike = h; result = v } }
+  pure_respects V a b v = record { ends = λ draws m n h stay. record { alike = h; result = v } }
 
   pub fail_respects : {A B : Type 0} (V : A → B → Type 0) (e f : PyError) → e ≡ f → Respects c V (fail e) (fail f)
-  fail_respects V e f same = record { ends = λ m n h stay. record { alike = h; result = same } }
+  fail_respects V e f same = record { ends = λ draws m n h stay. record { alike = h; result = ap raised same } }
 
   pub choose_respects : {A B : Type 0} (V : A → B → Type 0) (b d : Bool) (p p' : Act A) (q q' : Act B) → b ≡ d → Respects c V p q → Respects c V p' q'
       → Respects c V (choose b p p') (choose d q q')

@@ -1,19 +1,35 @@
 -- Values that match show the same text, and the runs that show them respect alikeness.
-use Rattle.std.proofs.Common.{◌≡◌, ℕ, zero, suc, ◌==◌, ◌||◌, List, [], ◌∷◌, ◌++◌, Option, Some, None, refl, sym, ap₂, inl, inr, subst}
+use Rattle.std.proofs.Common.{◌≡◌, ℕ, zero, suc, ◌==◌, ◌||◌, List, [], ◌∷◌, ◌++◌, Option, Some, None, refl, sym, ap, ap₂, inl, inr, subst}
 use Rattle.std.specs.Prelude.{codes}
 use Rattle.std.specs.List.{AllZip}
 use Rattle.std.proofs.lemmas.Bool.{cases_eq, eq-eqb, ne_eqb}
 use Rattle.std.proofs.lemmas.List.Elements.{AllZip-push}
+use Rattle.py_tree.specs.declared.statements.Def.{Def}
+use Rattle.py_value.specs.declared.key.Key.{Key}
+use Rattle.py_value.specs.declared.key.Key.TheVariants as key
 use Rattle.py_value.specs.declared.value.Value.{Value}
 use Rattle.py_value.specs.declared.value.Value.TheVariants as value
+use Rattle.py_value.specs.Keys.{value_of}
+use Rattle.py_heap.specs.declared.heap.Object.{Object}
+use Rattle.py_heap.specs.declared.heap.Object.TheVariants as object
+use Rattle.py_heap.specs.Dicts.{Pairs}
 use Rattle.py_heap.specs.References.{value_refs}
 use Rattle.py_heap.specs.Searches.{has}
 use Rattle.py_machine.specs.Errors.{recursion_error}
 use Rattle.py_meaning.specs.Acts.{Act, pure}
-use Rattle.py_meaning.specs.Shown.{Shows, more_items, all_items, listed, object_text, value_text, str_text, shown_one, shown, written}
-use Rattle.py_laws.specs.Same.{equal, refs}
+use Rattle.py_meaning.specs.Shown.{Shows, more_items, all_items, open_text, function_text, handle_text, pair_text, more_pairs, all_pairs, object_shown, object_text, value_text, str_text, shown_one, shown, written}
+use Rattle.py_laws.specs.Same.{equal, refs, PairsMatch}
 use Rattle.py_laws.proofs.Respecting.{Setting, Paired, Respects, Equal, next, pure_respects, fail_respects, choose_respects}
-use Rattle.py_laws.proofs.LeastActs.{Values, Listed, left_one, right_one, step_respects, list_at_respects}
+use Rattle.py_laws.proofs.LeastActs.{Values, Slots, left_one, right_one, step_respects, object_at_respects}
+
+no_refs : (k : Key) → value_refs (value_of k) ≡ []
+no_refs key.Nothing = refl
+no_refs (key.Bool b) = refl
+no_refs (key.Number n) = refl
+no_refs (key.Text t) = refl
+
+pub keys_match : (c : Setting) (k l : Key) → k ≡ l → Values c (value_of k) (value_of l)
+keys_match c k l e = subst (λ x. Values c (value_of k) (value_of x)) e (equal (value_of k) (no_refs k))
 
 module _ (c : Setting) where
   -- the lists that are open are paired place by place
@@ -64,17 +80,53 @@ module _ (c : Setting) where
     all_respect path route text [] (w ∷ ws) p h = absurd h
     all_respect path route text (v ∷ vs) [] p h = absurd h
 
-    listed_respects : (path route text : List ℕ) (a b : ℕ) (o u : Option (List Value)) → Paths path route → Paired c a b → Listed c o u → Shown (listed below path text a o) (listed below route text b u)
-    listed_respects path route text a b None None p q h = same_text _ _ refl
-    listed_respects path route text a b (Some vs) (Some ws) p q h = all_respect (path ++ a ∷ []) (route ++ b ∷ []) (text ++ codes "[") vs ws (AllZip-push (Paired c) path route a b p q) h
-    listed_respects path route text a b None (Some ws) p q h = absurd h
-    listed_respects path route text a b (Some vs) None p q h = absurd h
+    pair_respects : (path route text : List ℕ) (x y : Key × Value) → Paths path route → PairsMatch (Paired c) x y → Shown (pair_text below path text x) (pair_text below route text y)
+    pair_respects path route text x y p h =
+        next c (shows path route text (value_of x.0) (value_of y.0) p (keys_match c x.0 y.0 h.0)) λ longer other e.
+        subst (λ z. Shown (below path (longer ++ codes ": ") x.1) (below route (z ++ codes ": ") y.1)) e (shows path route (longer ++ codes ": ") x.1 y.1 p h.1)
+
+    more_pairs_respect : (path route text : List ℕ) (vs ws : Pairs) → Paths path route → AllZip (PairsMatch (Paired c)) vs ws → Shown (more_pairs below path text vs) (more_pairs below route text ws)
+    more_pairs_respect path route text [] [] p h = same_text _ _ refl
+    more_pairs_respect path route text (v ∷ vs) (w ∷ ws) p h =
+        next c (pair_respects path route (text ++ codes ", ") v w p h.0) λ longer other e.
+        subst (λ z. Shown (more_pairs below path longer vs) (more_pairs below route z ws)) e (more_pairs_respect path route longer vs ws p h.1)
+    more_pairs_respect path route text [] (w ∷ ws) p h = absurd h
+    more_pairs_respect path route text (v ∷ vs) [] p h = absurd h
+
+    all_pairs_respect : (path route text : List ℕ) (vs ws : Pairs) → Paths path route → AllZip (PairsMatch (Paired c)) vs ws → Shown (all_pairs below path text vs) (all_pairs below route text ws)
+    all_pairs_respect path route text [] [] p h = same_text _ _ refl
+    all_pairs_respect path route text (v ∷ vs) (w ∷ ws) p h =
+        next c (pair_respects path route text v w p h.0) λ longer other e.
+        subst (λ z. Shown (more_pairs below path longer vs) (more_pairs below route z ws)) e (more_pairs_respect path route longer vs ws p h.1)
+    all_pairs_respect path route text [] (w ∷ ws) p h = absurd h
+    all_pairs_respect path route text (v ∷ vs) [] p h = absurd h
+
+    shown_object : (path route text : List ℕ) (a b : ℕ) (o u : Option Object) → Paths path route → Paired c a b → Slots c o u → Shown (object_shown below path text a o) (object_shown below route text b u)
+    shown_object path route text a b (Some (object.List vs)) (Some (object.List ws)) p q h = all_respect (path ++ a ∷ []) (route ++ b ∷ []) (text ++ codes "[") vs ws (AllZip-push (Paired c) path route a b p q) h
+    shown_object path route text a b (Some (object.Dict vs)) (Some (object.Dict ws)) p q h = all_pairs_respect (path ++ a ∷ []) (route ++ b ∷ []) (text ++ codes "{") vs ws (AllZip-push (Paired c) path route a b p q) h
+    shown_object path route text a b (Some (object.Function def)) (Some (object.Function other)) p q h = same_text _ _ (ap (λ (d : Def). text ++ function_text d.name) h)
+    shown_object path route text a b (Some (object.Handle name uses)) (Some (object.Handle other others)) p q h = same_text _ _ (ap (λ (x : List ℕ). text ++ handle_text x) h.0)
+    shown_object path route text a b (Some _) (Some _) p q h = absurd h
+    shown_object path route text a b None None p q h = same_text _ _ refl
+    shown_object path route text a b None (Some u) p q h = absurd h
+    shown_object path route text a b (Some o) None p q h = absurd h
+
+    same_open_text : (o u : Option Object) → Slots c o u → open_text o ≡ open_text u
+    same_open_text (Some (object.List vs)) (Some (object.List ws)) h = refl
+    same_open_text (Some (object.Dict vs)) (Some (object.Dict ws)) h = refl
+    same_open_text (Some (object.Function def)) (Some (object.Function other)) h = refl
+    same_open_text (Some (object.Handle name uses)) (Some (object.Handle other others)) h = refl
+    same_open_text (Some _) (Some _) h = absurd h
+    same_open_text None None h = refl
+    same_open_text None (Some u) h = absurd h
+    same_open_text (Some o) None h = absurd h
 
     object_respects : (path route text : List ℕ) (a b : ℕ) → Paths path route → Paired c a b → Shown (object_text below path text a) (object_text below route text b)
     unfolding object_text
     object_respects path route text a b p q =
-        choose_respects c Equal (has path a) (has route b) _ _ _ _ (same_open path route a b p q) (same_text _ _ refl)
-        (next c (list_at_respects c a b q) λ o u h. listed_respects path route text a b o u p q h)
+        next c (object_at_respects c a b q) λ o u h.
+        choose_respects c Equal (has path a) (has route b) _ _ _ _ (same_open path route a b p q) (same_text _ _ (ap (λ (x : List ℕ). text ++ x) (same_open_text o u h)))
+        (shown_object path route text a b o u p q h)
 
     plain_respects : (path route text : List ℕ) (v : Value) → value_refs v ≡ [] → Shown (value_text below path text v) (value_text below route text v)
     plain_respects path route text (value.Ref at) none = cc

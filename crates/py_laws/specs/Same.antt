@@ -1,13 +1,15 @@
 -- When two states are the same over some names: equal but for the addresses of their objects.
-use Rattle.std.specs.Prelude.{◌≡◌, ℕ, List, [], Contains, Option, Some, None, slice_get}
+use Rattle.std.specs.Prelude.{◌≡◌, ◌↔◌, ℕ, List, [], Contains, Option, Some, None, slice_get}
 use Rattle.std.specs.List.{AllZip}
 use Rattle.std.specs.FinMap as finite
+use Rattle.py_value.specs.declared.key.Key.{Key}
 use Rattle.py_value.specs.declared.value.Value.{Value}
 use Rattle.py_value.specs.declared.value.Value.TheVariants as value
 use Rattle.py_heap.specs.declared.heap.Object.{Object}
 use Rattle.py_heap.specs.declared.heap.Object.TheVariants as object
 use Rattle.py_heap.specs.declared.state.State.{State}
 use Rattle.py_heap.specs.References.{value_refs}
+use Rattle.py_heap.specs.Reaching.{Reach}
 use Rattle.py_machine.specs.Runs.{Name}
 
 -- ---- pairs of addresses
@@ -31,9 +33,17 @@ pub data ValuesMatch (paired : ℕ → ℕ → Type 0) : Value → Value → Typ
   equal : (v : Value) → value_refs v ≡ [] → ValuesMatch paired v v
   refs : (a b : ℕ) → paired a b → ValuesMatch paired (value.Ref a) (value.Ref b)
 
+-- pairs of dicts match where their keys are equal, spelled alike too, and their values match
+abbrev pub PairsMatch : (ℕ → ℕ → Type 0) → Key × Value → Key × Value → Type 0
+PairsMatch paired pair other = (pair.0 ≡ other.0) × ValuesMatch paired pair.1 other.1
+
 -- objects match where they have one kind and match place by place
 abbrev pub ObjectsMatch : (ℕ → ℕ → Type 0) → Object → Object → Type 0
 ObjectsMatch paired (object.List items) (object.List others) = AllZip (ValuesMatch paired) items others
+ObjectsMatch paired (object.Dict pairs) (object.Dict others) = AllZip (PairsMatch paired) pairs others
+ObjectsMatch paired (object.Function def) (object.Function other) = def ≡ other
+ObjectsMatch paired (object.Handle name uses) (object.Handle other others) = (name ≡ other) × (uses ≡ others)
+ObjectsMatch paired _ _ = ⊥
 
 -- two that match, or neither
 abbrev pub BothOrNone : {A : Type 0} → (A → A → Type 0) → Option A → Option A → Type 0
@@ -58,6 +68,17 @@ pub record SameBy (paired : ℕ → ℕ → Type 0) (named : Name → Type 0) (s
 pub record Same (named : Name → Type 0) (s t : State) : Type 0 where
   pub by : Pairs
   pub same : SameBy (HasPair by) named s t
+
+-- by pairs of objects that the names reach alone
+pub record SameWithin (names : List Name) (s t : State) : Type 0 where
+  pub by : Pairs
+  pub same : SameBy (HasPair by) (Contains names) s t
+  pub left : (a b : ℕ) → HasPair by a b → Reach s names a
+  pub right : (a b : ℕ) → HasPair by a b → Reach t names b
+
+-- the list has exactly the addresses that the names reach
+abbrev pub IsListOf : State → List Name → List ℕ → Type 0
+IsListOf s names found = (at : ℕ) → Contains found at ↔ Reach s names at
 
 abbrev pub Every : Name → Type 0
 Every name = Unit {0}

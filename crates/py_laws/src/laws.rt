@@ -1,29 +1,82 @@
-ghost use Rattle.std.specs.Prelude.{◌≡◌, Bool, Contains, IsTrue, List};
+ghost use Rattle.std.specs.Prelude.{◌≡◌, ◌↔◌, ◌++◌, ℕ, Bool, true, Contains, IsTrue, List};
+ghost use Rattle.nb_outside.specs.declared.feed.Drawn.{Drawn};
 ghost use Rattle.py_tree.specs.declared.statements.Stmt.{Stmt};
 ghost use Rattle.py_heap.specs.declared.state.State.{State};
 ghost use Rattle.py_heap.specs.References.{IsClosed};
+ghost use Rattle.py_heap.specs.Reaching.{Reach};
+ghost use Rattle.py_machine.specs.Marked.{IsIn, IsLooked, IsBound, IsChanged, IsDrew};
 ghost use Rattle.py_machine.specs.Runs.{Name};
-ghost use Rattle.py_meaning.specs.Cells.{outcome, end_state, IsLooked};
-ghost use Rattle.py_laws.specs.Same.{Same, SameStates};
-ghost use Rattle.py_laws.specs.Framed.{Framed, Renamed};
+ghost use Rattle.py_meaning.specs.Cells.{outcome, traced, end_state, Asks};
+ghost use Rattle.py_laws.specs.Same.{Same, SameStates, SameWithin, IsListOf};
+ghost use Rattle.py_laws.specs.Framed.{Framed, FramedWithin, Agree, Renamed};
 
-/// What a cell does depends on the names that it looks up alone. From two states that are the same over these names, with
-/// equal meters, it does the same. In neither does it change a name that it doesn't bind or unbind, or an object that was
-/// there and that these names don't reach.
+/// What a cell does depends on the names that it looks up, and on its draws, alone. From two states that are the same over
+/// these names, with equal meters and under the same draws, it does the same. In neither does it change a name that it doesn't
+/// bind or unbind, or an object that was there and that these names don't reach; and what these names and those bound reach
+/// at its end, these names reached, or it is new.
 pub fn cells_depend_on_what_they_look_up()
-    ensures { (names : List Name) (body : List Stmt) (s t : State) → Same (Contains names) s t → s.meter ≡ t.meter
-        → ((name : Name) → IsLooked name (outcome body s).1.trace → Contains names name)
-        → Framed names s t (outcome body s) (outcome body t) }
+    ensures same_draws { (names : List Name) (body : List Stmt) (draws : List Drawn) (s t : State) → Same (Contains names) s t → s.meter ≡ t.meter
+        → ((name : Name) → IsIn (outcome body s draws).1.marks.looked name → Contains names name)
+        → Framed names s t (outcome body s draws) (outcome body t draws) }
+    // Where the first run ends without asking for more draws, a cell that didn't draw may be given any others.
+    ensures agreeing_draws { (names : List Name) (body : List Stmt) (draws others : List Drawn) (s t : State) → Same (Contains names) s t
+        → s.meter ≡ t.meter → ((name : Name) → IsIn (outcome body s draws).1.marks.looked name → Contains names name)
+        → (Asks (outcome body s draws) → ⊥) → Agree (outcome body s draws) draws others
+        → Framed names s t (outcome body s draws) (outcome body t others) }
 {}
 
-/// From two states that are the same a cell does the same, and ends in two that are the same.
+/// From closed states, each pair of the end states is of objects that the names reached, or of new ones.
+pub fn cells_pair_what_names_reach()
+    ensures { (names : List Name) (body : List Stmt) (draws : List Drawn) (s t : State) → IsClosed s → IsClosed t → Same (Contains names) s t
+        → s.meter ≡ t.meter → ((name : Name) → IsIn (outcome body s draws).1.marks.looked name → Contains names name)
+        → FramedWithin names s t (outcome body s draws) (outcome body t draws) }
+{}
+
+/// In a closed state there is a list of just the addresses that some names reach.
+pub fn what_names_reach_is_a_list()
+    ensures { (names : List Name) (s : State) → IsClosed s → (found : List ℕ) × IsListOf s names found }
+{}
+
+/// Closed states that are the same over some names are so by pairs of what these names reach alone.
+pub fn sameness_is_of_what_is_reached()
+    ensures { (names : List Name) (s t : State) → IsClosed s → IsClosed t → Same (Contains names) s t → SameWithin names s t }
+{}
+
+/// Two states that are the same over some names and over others, which reach nothing in common with them in either state, are
+/// the same over all of them.
+pub fn sameness_joins()
+    ensures { (names more : List Name) (s t : State) → SameWithin names s t → SameWithin more s t
+        → ((at : ℕ) → Reach s names at → Reach s more at → ⊥) → ((at : ℕ) → Reach t names at → Reach t more at → ⊥)
+        → SameWithin (names ++ more) s t }
+{}
+
+/// From two states that are the same, and under the same draws, a cell does the same, and ends in two that are the same.
 pub fn cells_run_alike_in_same_states()
-    ensures { (body : List Stmt) (s t : State) → SameStates s t → Renamed (outcome body s) (outcome body t) }
+    ensures { (body : List Stmt) (draws : List Drawn) (s t : State) → SameStates s t → Renamed (outcome body s draws) (outcome body t draws) }
 {}
 
 /// A cell keeps a state closed: where each reference named an object before, each does after.
 pub fn cells_keep_states_closed()
-    ensures { (body : List Stmt) (s : State) → IsClosed s → IsClosed (end_state body s) }
+    ensures { (body : List Stmt) (draws : List Drawn) (s : State) → IsClosed s → IsClosed (end_state body s draws) }
+{}
+
+/// What a machine has marked of a cell is the report of the cell's trace: the names looked up before they were bound or
+/// unbound, those bound or unbound, the addresses changed, and whether a draw was taken.
+pub fn marks_report_the_trace()
+    ensures looked { (body : List Stmt) (s : State) (draws : List Drawn) (name : Name)
+        → IsIn (outcome body s draws).1.marks.looked name ↔ IsLooked name (traced body s draws) }
+    ensures bound { (body : List Stmt) (s : State) (draws : List Drawn) (name : Name)
+        → IsIn (outcome body s draws).1.marks.bound name ↔ IsBound name (traced body s draws) }
+    ensures changed { (body : List Stmt) (s : State) (draws : List Drawn) (at : ℕ)
+        → IsIn (outcome body s draws).1.marks.changed at ↔ IsChanged at (traced body s draws) }
+    ensures drew { (body : List Stmt) (s : State) (draws : List Drawn)
+        → ((outcome body s draws).1.marks.drew ≡ true) ↔ IsDrew (traced body s draws) }
+{}
+
+/// Where a cell doesn't ask for more draws, others after those that it has change nothing.
+pub fn more_draws_change_nothing()
+    ensures { (body : List Stmt) (s : State) (draws more : List Drawn) → (Asks (outcome body s draws) → ⊥)
+        → outcome body s (draws ++ more) ≡ outcome body s draws }
 {}
 
 /// A closed state is the same as itself. It has to be closed: a reference matches another only by a pair, and a pair has

@@ -1,9 +1,22 @@
 -- The errors that a run may raise, and their texts. (Python language reference: built-in exceptions.)
 use Rattle.std.specs.Prelude.{ℕ, List, ◌++◌, codes}
+use Rattle.py_machine.specs.declared.error.ErrorKind.{ErrorKind}
 use Rattle.py_machine.specs.declared.error.ErrorKind.TheVariants as error
 use Rattle.py_machine.specs.declared.error.PyError.{PyError}
 use Rattle.py_machine.specs.declared.kind.ValueKind.{ValueKind}
 use Rattle.py_machine.specs.declared.kind.ValueKind.TheVariants as kind
+
+-- the names of errors, as replies say them
+abbrev pub error_name : ErrorKind → List ℕ
+error_name error.Syntax = codes "SyntaxError"
+error_name error.Name = codes "NameError"
+error_name error.UnboundLocal = codes "UnboundLocalError"
+error_name error.Type = codes "TypeError"
+error_name error.Attribute = codes "AttributeError"
+error_name error.Overflow = codes "OverflowError"
+error_name error.Recursion = codes "RecursionError"
+error_name error.StepLimit = codes "StepLimitError"
+error_name error.Memory = codes "MemoryError"
 
 -- a cell that isn't of the supported form
 abbrev pub unsupported_form : PyError
@@ -29,6 +42,10 @@ memory_error = record { kind = error.Memory; text = codes "meter spent" }
 abbrev pub name_error : List ℕ → PyError
 name_error name = record { kind = error.Name; text = (codes "name '" ++ name) ++ codes "' is not defined" }
 
+-- a local that isn't bound by now
+abbrev pub unbound_error : List ℕ → PyError
+unbound_error name = record { kind = error.UnboundLocal; text = (codes "cannot access local variable '" ++ name) ++ codes "' where it is not associated with a value" }
+
 -- ---- errors that name kinds
 
 abbrev pub kind_name : ValueKind → List ℕ
@@ -37,6 +54,9 @@ kind_name kind.Bool = codes "bool"
 kind_name kind.Number = codes "int"
 kind_name kind.Text = codes "str"
 kind_name kind.List = codes "list"
+kind_name kind.Dict = codes "dict"
+kind_name kind.Function = codes "function"
+kind_name kind.Handle = codes "handle"
 kind_name kind.Builtin = codes "builtin_function_or_method"
 
 -- a `+` between values of these kinds

@@ -1,3 +1,5 @@
 pub mod Errors
 pub mod Builtins
+pub mod Marked
+pub mod Changes
 pub mod Runs

@@ -10,6 +10,9 @@ pub enum ValueKind {
     Number,
     Text,
     List,
+    Dict,
+    Function,
+    Handle,
     Builtin,
 }
 
@@ -23,6 +26,9 @@ pub fn kind_name(kind: ValueKind) -> &'static str
         ValueKind::Number => "int",
         ValueKind::Text => "str",
         ValueKind::List => "list",
+        ValueKind::Dict => "dict",
+        ValueKind::Function => "function",
+        ValueKind::Handle => "handle",
         ValueKind::Builtin => "builtin_function_or_method",
     }
 }

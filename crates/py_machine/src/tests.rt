@@ -1,21 +1,13 @@
 use crate::{
-    Event, Fault, Machine, PyError, ValueKind, name_error, no_attribute, not_callable,
-    unsupported_sum,
+    Change, ErrorKind, Fault, Frame, Machine, PyError, Slot, ValueKind, name_error, no_attribute,
+    not_callable, unbound_error, unsupported_sum,
 };
-use plain_data::{Items, Text};
+use nb_outside::{Drawn, MemFeed};
+use plain_data::{Items, Text, TextMap};
 use py_heap::{Object, State};
 use py_value::{Builtin, Value};
 use std::alloc::{AllocError, Global};
 use std::test::Fail;
-
-fn fresh(alloc: Global) -> Result<Machine, AllocError> {
-    Ok(Machine {
-        state: State::new(alloc),
-        steps: 0,
-        printed: Text::new(alloc, "")?,
-        trace: Items::new(alloc),
-    })
-}
 
 fn is_raised<T>(outcome: &Result<T, Fault>, text: &str) -> bool {
     match outcome {
@@ -24,10 +16,10 @@ fn is_raised<T>(outcome: &Result<T, Fault>, text: &str) -> bool {
     }
 }
 
-fn length_at(alloc: Global, machine: &Machine, at: u32) -> Option<usize> {
-    match machine.list_at(alloc, at) {
-        Ok(Some(items)) => Some(items.len()),
-        Ok(None) | Err(_) => None,
+fn length_at(machine: &Machine, at: u32) -> Option<usize> {
+    match machine.object_at(at) {
+        Some(Object::List(items)) => Some(items.len()),
+        _ => None,
     }
 }
 
@@ -48,13 +40,19 @@ fn errors_have_the_texts_of_python(rt: HostRuntime) -> Result<(), Fail> {
         method.text.as_str(),
         "'int' object has no attribute 'append'"
     );
+    let local = unbound_error(alloc, &Text::new(alloc, "x")?)?;
+    assert_eq!(rt; local.kind, ErrorKind::UnboundLocal);
+    assert_eq!(rt;
+        format!(in alloc; "{local}")?.as_str(),
+        "UnboundLocalError: cannot access local variable 'x' where it is not associated with a value"
+    );
     Ok(())
 }
 
 #[test]
 fn names_are_globals_and_then_built_in(rt: HostRuntime) -> Result<(), Fail> {
     let alloc = rt.alloc();
-    let mut machine = fresh(alloc)?;
+    let mut machine = Machine::new(alloc, State::new(alloc))?;
     let print = Text::new(alloc, "print")?;
     assert!(rt;
         matches!(
@@ -67,23 +65,62 @@ fn names_are_globals_and_then_built_in(rt: HostRuntime) -> Result<(), Fail> {
     assert!(rt; machine.unbind(alloc, &print).is_ok());
     let other = machine.look(alloc, &Text::new(alloc, "y")?);
     assert!(rt; is_raised(&other, "name 'y' is not defined"));
-    assert_eq!(rt; machine.trace.len(), 5);
-    assert!(rt; matches!(machine.trace.get(3), Some(Event::Unbind(_))));
+    assert!(rt; is_raised(&machine.seek(alloc, &print), "name 'print' is not defined"));
+    assert!(rt; machine.marks.looked.look(&print).is_some());
+    assert!(rt; machine.marks.bound.look(&print).is_some());
+    Ok(())
+}
+
+#[test]
+fn locals_are_the_frames(rt: HostRuntime) -> Result<(), Fail> {
+    let alloc = rt.alloc();
+    let mut machine = Machine::new(alloc, State::new(alloc))?;
+    let x = Text::new(alloc, "x")?;
+    let mut slots = TextMap::new(alloc);
+    slots.bind(x.copy(alloc)?, Slot::Empty)?;
+    let outer = machine.enter(Frame { slots }).unwrap_or(None);
+    let unbound = machine.look(alloc, &x);
+    assert!(rt;
+        is_raised(
+            &unbound,
+            "cannot access local variable 'x' where it is not associated with a value"
+        )
+    );
+    assert!(rt; machine.bind(alloc, &x, Value::Number(1)).is_ok());
+    assert!(rt; matches!(machine.look(alloc, &x), Ok(Value::Number(1))));
+    assert!(rt; machine.leave(outer).is_ok());
+    assert!(rt; is_raised(&machine.look(alloc, &x), "name 'x' is not defined"));
+    assert!(rt; machine.marks.bound.look(&x).is_none());
+    Ok(())
+}
+
+#[test]
+fn draws_are_recorded(rt: HostRuntime) -> Result<(), Fail> {
+    let alloc = rt.alloc();
+    let mut machine = Machine::new(alloc, State::new(alloc))?;
+    let mut feed = MemFeed::new(vec![in alloc; Drawn::Word(7)]?);
+    assert!(rt; matches!(machine.draw(&mut feed), Ok(7)));
+    assert!(rt; matches!(machine.draw(&mut feed), Err(Fault::DrawFailed)));
+    assert_eq!(rt;
+        machine.drawn.as_slice(),
+        [Drawn::Word(7), Drawn::Failed].as_slice()
+    );
+    assert!(rt; machine.marks.drew);
     Ok(())
 }
 
 #[test]
 fn lists_steps_and_units(rt: HostRuntime) -> Result<(), Fail> {
     let alloc = rt.alloc();
-    let mut machine = fresh(alloc)?;
+    let mut machine = Machine::new(alloc, State::new(alloc))?;
     let at = machine.add(Object::List(Items::new(alloc)));
     assert!(rt; matches!(at, Ok(0)));
-    assert!(rt; machine.append_to(0, Value::Number(7)).is_ok());
-    assert!(rt; machine.append_to(1, Value::Number(7)).is_ok());
-    assert_eq!(rt; length_at(alloc, &machine, 0), Some(1));
-    assert_eq!(rt; length_at(alloc, &machine, 1), None);
-    assert!(rt; matches!(machine.kind_of(&Value::Ref(0)), Ok(ValueKind::List)));
-    assert_eq!(rt; machine.trace.len(), 1);
+    assert!(rt; machine.change(0, Change::Push(Value::Number(7))).is_ok());
+    assert!(rt; machine.change(1, Change::Push(Value::Number(7))).is_ok());
+    assert_eq!(rt; length_at(&machine, 0), Some(1));
+    assert_eq!(rt; length_at(&machine, 1), None);
+    assert!(rt; machine.marks.changed.has(0));
+    assert!(rt; !machine.marks.changed.has(1));
     machine.steps = 999_999;
     assert!(rt; machine.step(alloc).is_ok());
     assert!(rt; is_raised(&machine.step(alloc), "1000000 steps"));

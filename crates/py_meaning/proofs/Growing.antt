@@ -1,13 +1,10 @@
 -- Steps and the meter never fall, and stay within their limits; no object goes.
-use Rattle.std.proofs.Common.{◌≡◌, ℕ, ◌≤◌, List, [], ◌∷◌, ◌++◌, length, length-append, arith, refl, Some}
+use Rattle.std.proofs.Common.{◌≡◌, ℕ, ◌≤◌, List, [], ◌∷◌, ◌++◌, length, length-append, arith, refl}
 use Rattle.std.proofs.Math.ListN.{length-set}
-use Rattle.py_value.specs.declared.value.Value.{Value}
-use Rattle.py_heap.specs.declared.heap.Object.{Object}
-use Rattle.py_heap.specs.declared.heap.Object.TheVariants as object
 use Rattle.py_machine.specs.declared.machine.Machine.{Machine}
-use Rattle.py_machine.specs.Runs.{Name, step, charge, bind, unbind, add, appended, write}
+use Rattle.py_machine.specs.Runs.{step, charge}
 use Rattle.py_meaning.specs.Acts.{Act, run}
-use Rattle.py_meaning.specs.Kept.{Keeps}
+use Rattle.py_meaning.specs.Kept.{Keeps, Leaves}
 use Rattle.py_meaning.proofs.Keeping.{IsKept, run_keeps}
 
 -- the counts rise, and stay within their limits where they were
@@ -21,32 +18,13 @@ pub record Rises (m n : Machine) : Type 0 where
 idle : (m n : Machine) → m.steps ≡ n.steps → m.state.meter ≡ n.state.meter → length m.state.heap ≤ length n.state.heap → Rises m n
 idle m n s t o = record { steps = omega (arith, s); meter = omega (arith, t); objects = o; few_steps = λ h. omega (arith, s, h); small_meter = λ h. omega (arith, t, h) }
 
-step_rises : Keeps Rises step
+step_rises : Leaves Rises step
 unfolding step
 step_rises m = grind arith
 
-charge_rises : (n : ℕ) → Keeps Rises (charge n)
+charge_rises : (n : ℕ) → Leaves Rises (charge n)
 unfolding charge
 charge_rises n m = grind arith
-
-bind_rises : (name : Name) (held : Value) → Keeps Rises (bind name held)
-unfolding bind
-bind_rises name held m = idle m _ refl refl (omega arith)
-
-unbind_rises : (name : Name) → Keeps Rises (unbind name)
-unfolding unbind
-unbind_rises name m = idle m _ refl refl (omega arith)
-
-add_rises : (new : Object) → Keeps Rises (add new)
-unfolding add
-add_rises new m = idle m _ refl refl (omega (arith, length-append m.state.heap (new ∷ [])))
-
-append_rises : (at : ℕ) (last : Value) (items : List Value) → Keeps Rises (appended at last (Some items))
-append_rises at last items m = idle m _ refl refl (omega (arith, length-set m.state.heap at (object.List (items ++ last ∷ []))))
-
-write_rises : (bytes : List ℕ) → Keeps Rises (write bytes)
-unfolding write
-write_rises bytes m = idle m _ refl refl (omega arith)
 
 pub rises_kept : IsKept Rises
 rises_kept = record {
@@ -61,11 +39,13 @@ rises_kept = record {
   steps = step_rises;
   charges = charge_rises;
   looks = λ name m. idle m _ refl refl (omega arith);
-  binds = bind_rises;
-  unbinds = unbind_rises;
-  adds = add_rises;
-  appends = append_rises;
-  writes = write_rises;
+  binds = λ name held m. idle m _ refl refl (omega arith);
+  unbinds = λ name m. idle m _ refl refl (omega arith);
+  frames = λ frame m. idle m _ refl refl (omega arith);
+  adds = λ new m. idle m _ refl refl (omega (arith, length-append m.state.heap (new ∷ [])));
+  changes = λ at new m. idle m _ refl refl (omega (arith, length-set m.state.heap at new));
+  writes = λ bytes m. idle m _ refl refl (omega arith);
+  draws = λ d m. idle m _ refl refl (omega arith);
 }
 
 pub rises : {A : Type 0} (p : Act A) → Keeps Rises (run p)

@@ -1,4 +1,5 @@
 pub mod Keeping
 pub mod Growing
+pub mod Telling
 pub mod Opened
 pub mod Examples

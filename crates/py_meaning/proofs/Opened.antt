@@ -17,7 +17,7 @@ use Rattle.py_tree.specs.declared.statements.Stmt.{Stmt}
 use Rattle.py_tree.specs.declared.statements.Stmt.TheOpen.{Stmt-F}
 use Rattle.py_tree.specs.declared.statements.Stmt.TheViews.{out-Stmt, roll-Stmt, out-roll-Stmt, roll-out-Stmt}
 use Rattle.py_tree.specs.declared.statements.Stmt.TheVariants as s
-use Rattle.py_meaning.specs.Supported.{is_own, is_number, is_plus, are_all, is_only, sum_step, relation_step, operand_step, pair_step, is_sum, is_operand, are_sums, are_operands, is_one_sum, Open, is_own_target, open_print, is_print, open_call, is_print_call, open_line, is_line}
+use Rattle.py_meaning.specs.Supported.{is_own, is_number, is_plus, are_all, is_only, sum_step, relation_step, operand_step, pair_step, is_sum, is_operand, are_sums, are_operands, is_one_sum, Open, is_own_target, open_print, is_print, open_call, is_print_call, open_draw, is_draw, is_none, open_draw_call, is_draw_call, is_drawn_or_sum, open_line, is_line}
 use Rattle.py_meaning.specs.Acts.{◌>>◌, look, step}
 use Rattle.py_meaning.specs.Meaning.{level, literal_value, display, sum, method, call, expression, assigned, statement}
 
@@ -159,11 +159,35 @@ pub is_print_call-other : (x : Expr) → ((callee : Expr) (args : List Expr) →
 unfolding is_print_call
 is_print_call-other x no_call = other_call x no_call (out-Expr x) (roll-out-Expr x)
 
-pub is_line-assign : (target : Target) (value : Expr) → is_line (s.Assign target value) ≡ (is_own_target target && is_sum value)
+pub is_draw-name : (name : List ℕ) → is_draw (e.Name name) ≡ same_text name (codes "draw")
+unfolding is_draw
+is_draw-name name = ap open_draw (out-name name)
+
+other_draw : (x : Expr) → ((name : List ℕ) → x ≡ e.Name name → ⊥) → (y : Open) → roll-Expr y ≡ x → open_draw y ≡ false
+other_draw x no_name (Expr-F.Name name) is = absurd (no_name name (sym is ∙ e.rolls-Name name))
+other_draw x no_name _ is = refl
+
+pub is_draw-other : (x : Expr) → ((name : List ℕ) → x ≡ e.Name name → ⊥) → is_draw x ≡ false
+unfolding is_draw
+is_draw-other x no_name = other_draw x no_name (out-Expr x) (roll-out-Expr x)
+
+pub is_draw_call-call : (callee : Expr) (args : List Expr) → is_draw_call (e.Call callee args) ≡ (is_draw callee && is_none args)
+unfolding is_draw_call
+is_draw_call-call callee args = ap open_draw_call (out-call callee args)
+
+other_draw_call : (x : Expr) → ((callee : Expr) (args : List Expr) → x ≡ e.Call callee args → ⊥) → (y : Open) → roll-Expr y ≡ x → open_draw_call y ≡ false
+other_draw_call x no_call (Expr-F.Call callee args) is = absurd (no_call callee args (sym is ∙ e.rolls-Call callee args))
+other_draw_call x no_call _ is = refl
+
+pub is_draw_call-other : (x : Expr) → ((callee : Expr) (args : List Expr) → x ≡ e.Call callee args → ⊥) → is_draw_call x ≡ false
+unfolding is_draw_call
+is_draw_call-other x no_call = other_draw_call x no_call (out-Expr x) (roll-out-Expr x)
+
+pub is_line-assign : (target : Target) (value : Expr) → is_line (s.Assign target value) ≡ (is_own_target target && is_drawn_or_sum value)
 unfolding is_line
 is_line-assign target value = ap open_line (out-assign target value)
 
-pub is_line-show : (value : Expr) → is_line (s.Expression value) ≡ (is_sum value || is_print_call value)
+pub is_line-show : (value : Expr) → is_line (s.Expression value) ≡ (is_drawn_or_sum value || is_print_call value)
 unfolding is_line
 is_line-show value = ap open_line (out-show value)
 

@@ -21,13 +21,14 @@ use Rattle.py_value.specs.declared.value.Value.{Value}
 use Rattle.py_value.specs.declared.value.Value.TheVariants as value
 use Rattle.py_value.specs.Values.{weight}
 use Rattle.py_heap.specs.declared.heap.Object.TheVariants as object
+use Rattle.py_machine.specs.declared.frame.Change.TheVariants as changes
+use Rattle.py_machine.specs.declared.frame.Flow.{Flow}
+use Rattle.py_machine.specs.declared.frame.Flow.TheVariants as flow
 use Rattle.py_machine.specs.declared.kind.ValueKind.{ValueKind}
 use Rattle.py_machine.specs.declared.kind.ValueKind.TheVariants as kind
-use Rattle.py_machine.specs.declared.machine.Flow.{Flow}
-use Rattle.py_machine.specs.declared.machine.Flow.TheVariants as flow
 use Rattle.py_machine.specs.Errors.{unsupported_form, overflow_error, recursion_error, unsupported_sum, no_attribute, not_callable}
 use Rattle.py_machine.specs.Runs.{Name}
-use Rattle.py_meaning.specs.Acts.{Act, ◌>>=◌, ◌>>◌, pure, fail, step, charge, look, bind, add, append_to, list_at, kind_of, write, choose}
+use Rattle.py_meaning.specs.Acts.{Act, ◌>>=◌, ◌>>◌, pure, fail, step, charge, look, bind, add, change, list_at, kind_of, write, draw, choose}
 use Rattle.py_meaning.specs.Supported.{is_supported}
 use Rattle.py_meaning.specs.Shown.{shown, written}
 
@@ -96,6 +97,10 @@ has_append held kind = fail (no_attribute kind append_name)
 unfoldable pub receiver : Value → Act ℕ
 receiver held = kind_of held >>= has_append held
 
+-- the feed's next word
+unfoldable pub drawn : Act Value
+drawn = draw >>= (λ word. pure (value.Number (pos word)))
+
 unfoldable pub not_called : Value → Act Value
 not_called callee = kind_of callee >>= (λ kind. fail (not_callable kind))
 
@@ -147,7 +152,7 @@ module _ (inner : Inner) where
     at ← receiver object
     last ← inner.eval e
     charge (weight last)
-    append_to at last
+    change at (changes.Push last)
     pure value.Nothing
 
   abbrev pub method : Expr → Name → List Expr → Act Value
@@ -164,6 +169,7 @@ module _ (inner : Inner) where
 
   abbrev pub called : Value → List Value → Act Value
   called (value.Builtin builtin.Print) (held ∷ []) = print held
+  called (value.Builtin builtin.Draw) [] = drawn
   called (value.Builtin builtin) args = fail unsupported_form
   called callee args = not_called callee
 

@@ -1,14 +1,20 @@
--- The text that a value shows, as acts, by the levels left and the lists that are open. (Python reference: `repr`, `str`.)
+-- The text that a value shows, as acts, by the levels left and the lists and dicts that are open. (Python reference: `repr`, `str`.)
 use Rattle.std.specs.Prelude.{ℕ, zero, suc, List, [], ◌∷◌, ◌++◌, codes, Option, Some, None}
+use Rattle.py_tree.specs.declared.statements.Def.{Def}
+use Rattle.py_value.specs.declared.key.Key.{Key}
 use Rattle.py_value.specs.declared.key.Key.TheVariants as key
 use Rattle.py_value.specs.declared.value.Builtin.{Builtin}
 use Rattle.py_value.specs.declared.value.Builtin.TheVariants as builtin
 use Rattle.py_value.specs.declared.value.Value.{Value}
 use Rattle.py_value.specs.declared.value.Value.TheVariants as value
+use Rattle.py_value.specs.Keys.{value_of}
 use Rattle.py_value.specs.Reprs.{key_text}
+use Rattle.py_heap.specs.declared.heap.Object.{Object}
+use Rattle.py_heap.specs.declared.heap.Object.TheVariants as object
+use Rattle.py_heap.specs.Dicts.{Pairs}
 use Rattle.py_heap.specs.Searches.{has}
 use Rattle.py_machine.specs.Errors.{recursion_error}
-use Rattle.py_meaning.specs.Acts.{Act, ◌>>=◌, ◌>>◌, pure, fail, step, list_at, choose}
+use Rattle.py_meaning.specs.Acts.{Act, ◌>>=◌, ◌>>◌, pure, fail, step, object_at, choose}
 
 abbrev pub builtin_text : Builtin → List ℕ
 builtin_text builtin.Print = codes "<built-in function print>"
@@ -30,7 +36,18 @@ plain_text (value.Text text) = key_text (key.Text text)
 plain_text (value.Ref at) = key_text key.Nothing
 plain_text (value.Builtin builtin) = builtin_text builtin
 
--- what shows a value after a text, with the lists open that it stands in, the outermost first
+-- what an object shows that is open already
+abbrev pub open_text : Option Object → List ℕ
+open_text (Some (object.Dict pairs)) = codes "{...}"
+open_text _ = codes "[...]"
+
+abbrev pub function_text : List ℕ → List ℕ
+function_text name = (codes "<function " ++ name) ++ codes ">"
+
+abbrev pub handle_text : List ℕ → List ℕ
+handle_text name = (codes "<handle " ++ key_text (key.Text name)) ++ codes ">"
+
+-- what shows a value after a text, with the lists and dicts open that it stands in, the outermost first
 abbrev pub Shows : Type 1
 Shows = List ℕ → List ℕ → Value → Act (List ℕ)
 
@@ -47,13 +64,32 @@ module _ (below : Shows) where
   abbrev pub list_text : List ℕ → List ℕ → ℕ → List Value → Act (List ℕ)
   list_text path text at items = all_items (path ++ at ∷ []) (text ++ codes "[") items
 
-  abbrev pub listed : List ℕ → List ℕ → ℕ → Option (List Value) → Act (List ℕ)
-  listed path text at None = pure (text ++ plain_text (value.Ref at))
-  listed path text at (Some items) = list_text path text at items
+  -- a key and its value
+  abbrev pub pair_text : List ℕ → List ℕ → Key × Value → Act (List ℕ)
+  pair_text path text pair = below path text (value_of pair.0) >>= (λ longer. below path (longer ++ codes ": ") pair.1)
 
-  -- a list that is open already isn't looked into again
+  -- the pairs of a dict after its first one, and its end
+  abbrev pub more_pairs : List ℕ → List ℕ → Pairs → Act (List ℕ)
+  more_pairs path text [] = pure (text ++ codes "}")
+  more_pairs path text (pair ∷ pairs) = pair_text path (text ++ codes ", ") pair >>= (λ longer. more_pairs path longer pairs)
+
+  abbrev pub all_pairs : List ℕ → List ℕ → Pairs → Act (List ℕ)
+  all_pairs path text [] = pure (text ++ codes "}")
+  all_pairs path text (pair ∷ pairs) = pair_text path text pair >>= (λ longer. more_pairs path longer pairs)
+
+  abbrev pub dict_text : List ℕ → List ℕ → ℕ → Pairs → Act (List ℕ)
+  dict_text path text at pairs = all_pairs (path ++ at ∷ []) (text ++ codes "{") pairs
+
+  abbrev pub object_shown : List ℕ → List ℕ → ℕ → Option Object → Act (List ℕ)
+  object_shown path text at (Some (object.List items)) = list_text path text at items
+  object_shown path text at (Some (object.Dict pairs)) = dict_text path text at pairs
+  object_shown path text at (Some (object.Function def)) = pure (text ++ function_text def.name)
+  object_shown path text at (Some (object.Handle name uses)) = pure (text ++ handle_text name)
+  object_shown path text at None = pure (text ++ plain_text (value.Ref at))
+
+  -- a list or a dict that is open already isn't looked into again
   unfoldable pub object_text : List ℕ → List ℕ → ℕ → Act (List ℕ)
-  object_text path text at = choose (has path at) (pure (text ++ codes "[...]")) (list_at at >>= listed path text at)
+  object_text path text at = object_at at >>= (λ object. choose (has path at) (pure (text ++ open_text object)) (object_shown path text at object))
 
   abbrev pub value_text : Shows
   value_text path text (value.Ref at) = object_text path text at

@@ -1,4 +1,4 @@
--- The supported form of a cell: lines that bind a name to a sum, print one, or are one.
+-- The supported form of a cell: lines that bind a name to a sum or a draw, print a sum, or are a sum or a draw.
 use Rattle.std.specs.Prelude.{ℕ, Bool, true, false, not, ◌&&◌, ◌||◌, List, [], ◌∷◌, codes}
 use Rattle.std.specs.List.{list_all}
 use Rattle.py_names.specs.Names.{same_text, is_builtin}
@@ -101,12 +101,36 @@ open_call _ = false
 unfoldable pub is_print_call : Expr → Bool
 is_print_call e = open_call (out-Expr e)
 
+abbrev pub open_draw : Open → Bool
+open_draw (Expr-F.Name name) = same_text name (codes "draw")
+open_draw _ = false
+
+-- the name `draw`
+unfoldable pub is_draw : Expr → Bool
+is_draw e = open_draw (out-Expr e)
+
+abbrev pub is_none : List Expr → Bool
+is_none [] = true
+is_none (e ∷ es) = false
+
+abbrev pub open_draw_call : Open → Bool
+open_draw_call (Expr-F.Call callee args) = is_draw callee && is_none args
+open_draw_call _ = false
+
+-- `draw()`
+unfoldable pub is_draw_call : Expr → Bool
+is_draw_call e = open_draw_call (out-Expr e)
+
+-- a sum, or `draw()`
+abbrev pub is_drawn_or_sum : Expr → Bool
+is_drawn_or_sum e = is_sum e || is_draw_call e
+
 abbrev pub open_line : Stmt-F Stmt Arm Def → Bool
-open_line (Stmt-F.Assign target e) = is_own_target target && is_sum e
-open_line (Stmt-F.Expression e) = is_sum e || is_print_call e
+open_line (Stmt-F.Assign target e) = is_own_target target && is_drawn_or_sum e
+open_line (Stmt-F.Expression e) = is_drawn_or_sum e || is_print_call e
 open_line _ = false
 
--- `NAME = sum`, `print(sum)`, or a sum alone
+-- `NAME = sum`, `NAME = draw()`, `print(sum)`, or a sum or `draw()` alone
 unfoldable pub is_line : Stmt → Bool
 is_line s = open_line (out-Stmt s)
 

@@ -17,6 +17,13 @@ key_of (value.Text t) = Some (key.Text t)
 key_of (value.Ref at) = None
 key_of (value.Builtin f) = None
 
+-- the value that a key is, as it is spelled
+abbrev pub value_of : Key → Value
+value_of key.Nothing = value.Nothing
+value_of (key.Bool b) = value.Bool b
+value_of (key.Number n) = value.Number n
+value_of (key.Text t) = value.Text t
+
 abbrev pub kind : Key → ℕ
 kind key.Nothing = 0
 kind (key.Bool b) = 1

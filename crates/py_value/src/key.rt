@@ -6,8 +6,8 @@ ghost use Rattle.py_value.specs.declared.key.Key.{Key as KeyOf};
 ghost use Rattle.py_value.specs.Keys as spec;
 
 use crate::value::Value;
-use plain_data::Text;
-use std::alloc::{AllocError, Global};
+use plain_data::SharedText;
+use std::alloc::AllocError;
 use std::error::Error;
 use std::fmt;
 use std::hash::{Hash, Hasher};
@@ -19,7 +19,7 @@ pub enum Key {
     Nothing,
     Bool(bool),
     Number(i128),
-    Text(Text),
+    Text(SharedText),
 }
 
 /// Why a value gave no key.
@@ -53,15 +53,28 @@ impl fmt::Display for KeyFault {
 impl Error for KeyFault {}
 
 impl Key {
-    /// An equal key.
-    pub fn copy(&self, alloc: Global) -> Result<Key, AllocError>
+    /// An equal key. A text is shared: none of its bytes is copied.
+    pub fn copy(&self) -> Result<Key, AllocError>
         ensures { IfOk result (λ key. key ≡ self.now) }
     {
         match self {
             Key::Nothing => Ok(Key::Nothing),
             Key::Bool(truth) => Ok(Key::Bool(*truth)),
             Key::Number(number) => Ok(Key::Number(*number)),
-            Key::Text(text) => Ok(Key::Text(text.copy(alloc)?)),
+            Key::Text(text) => Ok(Key::Text(text.share()?)),
+        }
+    }
+
+    /// The value that the key is, as it is spelled. A text is shared: none of its bytes is copied.
+    pub fn value(&self) -> Result<Value, AllocError>
+        ensures value { IfOk result (λ value. value ≡ spec.value_of self.now) }
+        ensures key { IfOk result (λ value. spec.key_of value ≡ Some self.now) }
+    {
+        match self {
+            Key::Nothing => Ok(Value::Nothing),
+            Key::Bool(truth) => Ok(Value::Bool(*truth)),
+            Key::Number(number) => Ok(Value::Number(*number)),
+            Key::Text(text) => Ok(Value::Text(text.share()?)),
         }
     }
 
@@ -124,8 +137,8 @@ impl Hash for Key {
     }
 }
 
-/// The key with that value.
-pub fn key_of(alloc: Global, value: &Value) -> Result<Key, KeyFault>
+/// The key with that value. A text is shared: none of its bytes is copied.
+pub fn key_of(value: &Value) -> Result<Key, KeyFault>
     ensures key { IfOk result (λ key. spec.key_of value.now ≡ Some key) }
     ensures unhashable { (result ≡ Err KeyFault.Unhashable) ↔ (spec.key_of value.now ≡ None) }
 {
@@ -133,7 +146,7 @@ pub fn key_of(alloc: Global, value: &Value) -> Result<Key, KeyFault>
         Value::Nothing => Ok(Key::Nothing),
         Value::Bool(truth) => Ok(Key::Bool(*truth)),
         Value::Number(number) => Ok(Key::Number(*number)),
-        Value::Text(text) => Ok(Key::Text(text.copy(alloc)?)),
+        Value::Text(text) => Ok(Key::Text(text.share()?)),
         Value::Ref(_) | Value::Builtin(_) => Err(KeyFault::Unhashable),
     }
 }

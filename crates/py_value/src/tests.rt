@@ -1,20 +1,21 @@
 use crate::{
     Builtin, Key, KeyFault, NumberFault, Value, key_of, key_text, number_of, same_key, weight,
 };
-use plain_data::Text;
+use plain_data::SharedText;
 use std::test::Fail;
 
 #[test]
 fn values_give_keys(rt: HostRuntime) -> Result<(), Fail> {
     let alloc = rt.alloc();
-    let word = Value::Text(Text::new(alloc, "abc")?).copy(alloc)?;
+    let word = Value::Text(SharedText::from_str(alloc, "abc")?).copy()?;
     assert!(rt; word.is_true());
     assert_eq!(rt; weight(&word), 4);
-    let one = key_of(alloc, &Value::Bool(true))?.copy(alloc)?;
+    let one = key_of(&Value::Bool(true))?.copy()?;
     assert!(rt; same_key(&one, &Key::Number(1)));
-    assert!(rt; !same_key(&one, &key_of(alloc, &word)?));
+    assert!(rt; matches!(one.value()?, Value::Bool(true)));
+    assert!(rt; !same_key(&one, &key_of(&word)?));
     assert_eq!(rt;
-        key_of(alloc, &Value::Builtin(Builtin::Len)).err(),
+        key_of(&Value::Builtin(Builtin::Len)).err(),
         Some(KeyFault::Unhashable)
     );
     Ok(())
@@ -42,12 +43,12 @@ fn keys_show_as_texts(rt: HostRuntime) -> Result<(), Fail> {
     let alloc = rt.alloc();
     assert_eq!(rt; key_text(alloc, &Key::Number(-5))?.as_str(), "-5");
     assert_eq!(rt; key_text(alloc, &Key::Bool(true))?.as_str(), "True");
-    let single = Key::Text(Text::new(alloc, "it's\n\u{1}\u{e9}\\")?);
+    let single = Key::Text(SharedText::from_str(alloc, "it's\n\u{1}\u{e9}\\")?);
     assert_eq!(rt;
         key_text(alloc, &single)?.as_str(),
         "\"it's\\n\\x01\u{e9}\\\\\""
     );
-    let both = Key::Text(Text::new(alloc, "'\"")?);
+    let both = Key::Text(SharedText::from_str(alloc, "'\"")?);
     assert_eq!(rt; key_text(alloc, &both)?.as_str(), "'\\'\"'");
     Ok(())
 }

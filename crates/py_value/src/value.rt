@@ -1,8 +1,8 @@
 ghost use Rattle.std.specs.Prelude.{◌≡◌, ◌↔◌, IfOk, IsTrue};
 ghost use Rattle.py_value.specs.Values as spec;
 
-use plain_data::Text;
-use std::alloc::{AllocError, Global};
+use plain_data::SharedText;
+use std::alloc::AllocError;
 
 /// A function that every session has.
 #[derive(Clone, Copy, Debug, PartialEq, Eq)]
@@ -25,22 +25,22 @@ pub enum Value {
     Nothing,
     Bool(bool),
     Number(i128),
-    Text(Text),
+    Text(SharedText),
     /// The address of an object.
     Ref(u32),
     Builtin(Builtin),
 }
 
 impl Value {
-    /// An equal value.
-    pub fn copy(&self, alloc: Global) -> Result<Value, AllocError>
+    /// An equal value. A text is shared: none of its bytes is copied.
+    pub fn copy(&self) -> Result<Value, AllocError>
         ensures { IfOk result (λ v. v ≡ self.now) }
     {
         match self {
             Value::Nothing => Ok(Value::Nothing),
             Value::Bool(truth) => Ok(Value::Bool(*truth)),
             Value::Number(number) => Ok(Value::Number(*number)),
-            Value::Text(text) => Ok(Value::Text(text.copy(alloc)?)),
+            Value::Text(text) => Ok(Value::Text(text.share()?)),
             Value::Ref(at) => Ok(Value::Ref(*at)),
             Value::Builtin(builtin) => Ok(Value::Builtin(*builtin)),
         }
@@ -55,7 +55,7 @@ impl Value {
             Value::Nothing => false,
             Value::Bool(truth) => *truth,
             Value::Number(number) => *number != 0,
-            Value::Text(text) => !text.as_str().is_empty(),
+            Value::Text(text) => !text.is_empty(),
             Value::Ref(_) | Value::Builtin(_) => true,
         }
     }

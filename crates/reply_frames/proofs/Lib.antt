@@ -1,3 +1,7 @@
 pub mod CutLaws
 pub mod NoFloats
 pub mod Saying
+pub mod Floats
+pub mod Taking
+pub mod Parting
+pub mod Telling

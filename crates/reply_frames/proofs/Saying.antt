@@ -1,6 +1,6 @@
 -- Messages said one after the other.
-use Rattle.std.proofs.Common.{◌≡◌, ◌∙◌, ◌+◌, List, [], ◌∷◌, ◌++◌, length, refl, sym, append_assoc, append-nil, arith, Result, Ok, Err, OnOk}
-use Rattle.jupyter_messages.specs.declared.message.Header.{Header}
+use Rattle.std.proofs.Common.{◌≡◌, ◌∙◌, ◌+◌, List, [], ◌∷◌, ◌++◌, length, refl, sym, ap, append_assoc, append-nil, arith, Result, Ok, Err, OnOk}
+use Rattle.session_core.specs.declared.request.Header.{Header}
 use Rattle.reply_frames.specs.declared.outbox.Outbox.{Outbox}
 use Rattle.reply_frames.specs.Messages.{Said}
 use Rattle.reply_frames.specs.Frames.{say, say_all, framed, frames}
@@ -8,6 +8,13 @@ use Rattle.reply_frames.specs.Frames.{say, say_all, framed, frames}
 pub say_both : (request : Header) (first second : List Said) (o : Outbox) → say_all request (first ++ second) o ≡ say_all request second (say_all request first o)
 say_both request [] second o = refl
 say_both request (said ∷ first) second o = say_both request first second (say request said o)
+
+-- two lists and a message after them
+pub say_three : (request : Header) (first second : List Said) (last : Said) (o one two three : Outbox) → one ≡ say_all request first o → two ≡ say_all request second one
+    → three ≡ say request last two → three ≡ say_all request (first ++ (second ++ last ∷ [])) o
+say_three request first second last o one two three is_one is_two is_three =
+    is_three ∙ ap (say request last) (is_two ∙ ap (say_all request second) is_one)
+    ∙ sym (say_both request first (second ++ last ∷ []) o ∙ say_both request second (last ∷ []) (say_all request first o))
 
 -- saying keeps the kernel, counts on and adds the frames
 pub said_kernel : (request : Header) (all : List Said) (o : Outbox) → (say_all request all o).kernel ≡ o.kernel

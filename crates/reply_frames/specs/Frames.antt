@@ -4,7 +4,7 @@ use Rattle.std.specs.Int.{w32, w128, to_be_bytes}
 use Rattle.serde_json.specs.Data.{Data, string}
 use Rattle.serde_json.specs.Written.{compact_text}
 use Rattle.uuid.specs.Text.{hyphenated_text, lower}
-use Rattle.jupyter_messages.specs.declared.message.Header.{Header}
+use Rattle.session_core.specs.declared.request.Header.{Header}
 use Rattle.reply_frames.specs.declared.outbox.Outbox.{Outbox}
 use Rattle.reply_frames.specs.Messages.{Said, json}
 

@@ -1,3 +1,6 @@
 pub mod Cuts
 pub mod Messages
 pub mod Frames
+pub mod Replies
+pub mod Nodes
+pub mod Intake

@@ -1,8 +1,8 @@
 -- The messages that answer a request. (Jupyter messaging 5.3; `docs/PROTOCOL.md` lists them.)
 use Rattle.std.specs.Prelude.{ℕ, List, [], ◌∷◌, ◌++◌, codes, length, map, nat_le, Option, Some, None, if◌then◌else◌}
 use Rattle.serde_json.specs.Data.{Data, number, unsigned, string, array, object, no_items, item, Members, no_members, member}
-use Rattle.jupyter_messages.specs.declared.message.Channel.{Channel}
-use Rattle.jupyter_messages.specs.declared.message.Channel.TheVariants.{Shell, Control}
+use Rattle.session_core.specs.declared.request.Channel.{Channel}
+use Rattle.session_core.specs.declared.request.Channel.TheVariants.{Shell, Control}
 use Rattle.py_session.specs.declared.reply.Failure.{Failure}
 use Rattle.py_session.specs.declared.reply.Reply.{Reply}
 use Rattle.reply_frames.specs.Cuts.{prefix_within, pieces}

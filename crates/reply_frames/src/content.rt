@@ -3,6 +3,7 @@ ghost use Rattle.serde_json.specs.View.{view};
 ghost use Rattle.serde_json.specs.Data.{array, item, no_items, string};
 ghost use Rattle.reply_frames.specs.Messages as said;
 ghost use Rattle.reply_frames.specs.Messages.{json, whole};
+ghost use Rattle.reply_frames.specs.Replies as replies;
 
 use crate::cut::cut_at;
 use plain_data::Text;
@@ -41,7 +42,7 @@ pub fn stream_content(alloc: Global, piece: &str) -> Result<Value, AllocError>
     json!(in alloc; {"name": "stdout", "text": piece})
 }
 
-/// A beginning with three dots behind it.
+/// A beginning with three dots after it.
 fn with_dots(alloc: Global, front: &str) -> Result<Text, AllocError>
     ensures { IfOk result (λ short. short ≡ front.now ++ codes "...") }
 {
@@ -110,6 +111,23 @@ fn failed_members(
         "status": "error",
         "traceback": [line]
     })
+}
+
+fn stopped_members(alloc: Global, name: &str, text: &str, line: &str) -> Result<Value, AllocError>
+    ensures { IfOk result (λ v. view v ≡ json ((codes "ename", string name.now) ∷ (codes "evalue", string text.now)
+        ∷ (codes "status", string (codes "error")) ∷ (codes "traceback", array (item (string line.now) no_items)) ∷ [])) }
+{
+    json!(in alloc; {"ename": name, "evalue": text, "status": "error", "traceback": [line]})
+}
+
+/// The reply that a request other than a cell failed so.
+#[tactic(auto, unfolding(crate::specs::Replies::failed_content))]
+pub fn failed_content(alloc: Global, failure: &Failure) -> Result<Value, AllocError>
+    ensures { IfOk result (λ v. view v ≡ replies.failed_content failure.now) }
+{
+    let (text, _) = cut_at(failure.text.as_str(), 4096);
+    let line = error_line(alloc, failure.name.as_str(), text)?;
+    stopped_members(alloc, failure.name.as_str(), text, line.as_str())
 }
 
 fn ok_members(alloc: Global, count: u32) -> Result<Value, AllocError>

@@ -14,7 +14,7 @@ use plain_data::{Items, Text};
 use py_session::{Failure, Reply};
 use std::alloc::{AllocError, Global};
 
-fn say_status(
+pub fn say_status(
     outbox: &mut Outbox,
     alloc: Global,
     request: &Header,
@@ -26,7 +26,7 @@ fn say_status(
     outbox.say(alloc, request, "iopub", "status", &content)
 }
 
-fn channel_name(channel: Channel) -> &'static str
+pub fn channel_name(channel: Channel) -> &'static str
     ensures { result.now ≡ said.channel_name channel }
 {
     match channel {
@@ -55,7 +55,7 @@ fn say_open_reply(
 }
 
 /// The code of a cell, within 262,144 bytes.
-fn say_input(
+pub fn say_input(
     outbox: &mut Outbox,
     alloc: Global,
     request: &Header,
@@ -82,7 +82,7 @@ fn say_stream(
 
 /// The printed text, in pieces of at most 65,536 bytes.
 #[tactic(auto, unfolding(crate::specs::Cuts::pieces))]
-fn say_streams(
+pub fn say_streams(
     outbox: &mut Outbox,
     alloc: Global,
     request: &Header,
@@ -116,7 +116,7 @@ fn say_text(
 }
 
 /// The result of a cell, if it has one.
-fn say_result(
+pub fn say_result(
     outbox: &mut Outbox,
     alloc: Global,
     request: &Header,
@@ -131,7 +131,7 @@ fn say_result(
     }
 }
 
-fn say_error(
+pub fn say_error(
     outbox: &mut Outbox,
     alloc: Global,
     request: &Header,

@@ -1,6 +1,6 @@
 //! The frames that answer a request.
 //!
-//! Each message is a JSON object with its members in ascending order and no white space, behind its length. Members that
+//! Each message is a JSON object with its members in ascending order and no white space, after its length. Members that
 //! hold a text of the session are cut between characters: a code at 262,144 bytes, a piece of printed text at 65,536, the
 //! text of an error at 4,096. `docs/PROTOCOL.md` lists the messages. (Jupyter messaging protocol 5.3.)
 #![tactic(auto)]
@@ -8,7 +8,17 @@
 mod content;
 mod cut;
 mod entry;
+mod journal;
+pub mod laws;
+mod lists;
 mod message;
+mod node;
 mod outbox;
+mod replies;
 
+pub use journal::frames_of;
+pub use node::{About, NodeError, NodeErrorKind, node_error_frame};
 pub use outbox::Outbox;
+
+#[cfg(test)]
+mod tests;

@@ -21,7 +21,7 @@ pub fn kernel_name(alloc: Global, kernel: u128) -> Result<String, AllocError>
 }
 
 /// A header with these texts.
-fn header_value(
+pub fn header_value(
     alloc: Global,
     date: &str,
     msg_id: &str,
@@ -49,7 +49,7 @@ fn header_value(
     })
 }
 
-fn request_header(alloc: Global, header: &Header) -> Result<Value, AllocError>
+pub fn request_header(alloc: Global, header: &Header) -> Result<Value, AllocError>
     ensures { IfOk result (λ v. view v ≡ spec.header_json header.now) }
 {
     header_value(

@@ -23,7 +23,7 @@ pub struct Outbox {
 /// Adds a frame: the length of the body, as four bytes with the high byte first, and the body. `Err` also where the body
 /// has 2^32 bytes or more.
 #[tactic(auto, unfolding(crate::specs::Frames::frame))]
-fn push_frame(bytes: &mut Items<u8>, body: &str) -> Result<(), AllocError>
+pub fn push_frame(bytes: &mut Items<u8>, body: &str) -> Result<(), AllocError>
     ensures { OnOk result (bytes.new ≡ bytes.old ++ spec.frame body.now) }
 {
     if body.len() > 0xffff_ffff {

@@ -1,7 +1,12 @@
-use Rattle.std.proofs.Common.{◌≡◌, drop}
+use Rattle.std.proofs.Common.{drop}
+use Rattle.py_machine.specs.Runs.{LeadsTo, Grows, Feeding}
 use Rattle.py_meaning.specs.Acts.{run}
 use Rattle.py_meaning.specs.Meaning as spec
 use Rattle.py_kernel.proofs.cell.top_from.Given as goal
 
 abbrev pub invariant-loop-next : goal.invariant-loop-next
-invariant-loop-next l = run (spec.top_from l.fn.first l.rest) l.initial.machine ≡ run (spec.top_from l.current (drop l.next-index l.rest)) l.machine
+invariant-loop-next g l = record {
+  runs : LeadsTo (run (spec.top_from l.fn.first l.rest)) l.initial.machine (run (spec.top_from l.current (drop l.next-index l.rest))) l.machine;
+  grows : Grows l.initial.machine l.machine;
+  fed : Feeding l.initial.machine.drawn (g.F.Feed.seen l.initial.feed) l.machine.drawn (g.F.Feed.seen l.feed);
+}

@@ -5,13 +5,26 @@ use Rattle.py_meaning.specs.Meaning.{level}
 use Rattle.py_kernel.proofs.Deeper.{deeper}
 use Rattle.py_kernel.proofs.run.+run.Goals as goal
 
-pub returns : goal.returns
+pub eval-returns-clause-runs : goal.eval-returns-clause-runs
 unfolding level
-returns t c = rw (deeper (λ n. run ((level n).eval c.args.expression.now) c.args.machine.now) c.args.left (omega arith)) c.expression.ensures
+eval-returns-clause-runs g t c = λ draws b told.
+    rw (deeper (λ n. run ((level n).eval c.args.expression.now) draws c.args.machine.now) c.args.left (omega arith)) (c.expression.ensures.runs draws b told)
 
-pub returns-then-left-eq0 : goal.returns-then-left-eq0
+pub eval-returns-then-left-eq0-clause-runs : goal.eval-returns-then-left-eq0-clause-runs
 unfolding level
-returns-then-left-eq0 t c =
+eval-returns-then-left-eq0-clause-runs g t c = λ draws b told.
     let none : c.args.left ≡ 0 = omega arith in
     let error : c.in_ok-recursion_error.field-0 ≡ recursion_error = c.in_ok-recursion_error.ensures in
-    rw error (ap (λ n. run ((level n).eval c.args.expression.now) c.args.machine.now) none)
+    rw error (ap (λ n. run ((level n).eval c.args.expression.now) draws c.args.machine.now) none)
+
+pub exec-returns-clause-runs : goal.exec-returns-clause-runs
+unfolding level
+exec-returns-clause-runs g t c = λ draws b told.
+    rw (deeper (λ n. run ((level n).exec c.args.statement.now) draws c.args.machine.now) c.args.left (omega arith)) (c.statement.ensures.runs draws b told)
+
+pub exec-returns-then-left-eq0-clause-runs : goal.exec-returns-then-left-eq0-clause-runs
+unfolding level
+exec-returns-then-left-eq0-clause-runs g t c = λ draws b told.
+    let none : c.args.left ≡ 0 = omega arith in
+    let error : c.in_ok-recursion_error.field-0 ≡ recursion_error = c.in_ok-recursion_error.ensures in
+    rw error (ap (λ n. run ((level n).exec c.args.statement.now) draws c.args.machine.now) none)

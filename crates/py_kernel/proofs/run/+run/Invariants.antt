@@ -1,4 +1,7 @@
 use Rattle.py_kernel.proofs.run.+run.Given as goal
 
 abbrev pub decreases-eval : goal.decreases-eval
-decreases-eval l = l.left
+decreases-eval g l = l.left
+
+abbrev pub decreases-exec : goal.decreases-exec
+decreases-exec g l = l.left

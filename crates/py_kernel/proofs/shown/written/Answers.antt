@@ -5,13 +5,14 @@ use Rattle.py_meaning.specs.Shown.{written}
 use Rattle.py_kernel.proofs.Deeper.{deeper}
 use Rattle.py_kernel.proofs.shown.written.Goals as goal
 
-pub returns : goal.returns
+pub returns-clause-shows : goal.returns-clause-shows
 unfolding written
-returns c = rw (deeper (λ n. run (written n c.args.value.now) c.args.machine.now) c.args.left (omega arith)) c.write_one.ensures
+returns-clause-shows c = λ draws told.
+    rw (deeper (λ n. run (written n c.args.value.now) draws c.args.machine.now) c.args.left (omega arith)) (c.write_one.ensures.shows draws told)
 
-pub returns-then-left-eq0 : goal.returns-then-left-eq0
+pub returns-then-left-eq0-clause-shows : goal.returns-then-left-eq0-clause-shows
 unfolding written
-returns-then-left-eq0 c =
+returns-then-left-eq0-clause-shows c = λ draws told.
     let none : c.args.left ≡ 0 = omega arith in
     let error : c.in_ok-recursion_error.field-0 ≡ recursion_error = c.in_ok-recursion_error.ensures in
-    rw error (ap (λ n. run (written n c.args.value.now) c.args.machine.now) none)
+    rw error (ap (λ n. run (written n c.args.value.now) draws c.args.machine.now) none)

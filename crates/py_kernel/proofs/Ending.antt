@@ -1,0 +1,34 @@
+-- A cell's end, from the run that gave it.
+use Rattle.std.proofs.Common.{◌≡◌, ℕ, true, List, [], Option, Result, refl, sym, ap, ◌∙◌, subst}
+use Rattle.std.proofs.lemmas.List.{append-nil}
+use Rattle.nb_outside.specs.Feeds.{Seen, Fed}
+use Rattle.nb_outside.proofs.Feeding.{fed_none}
+use Rattle.py_tree.specs.declared.statements.Stmt.{Stmt}
+use Rattle.py_heap.specs.declared.state.State.{State}
+use Rattle.py_machine.specs.declared.error.Fault.{Fault}
+use Rattle.py_machine.specs.declared.machine.Machine.{Machine}
+use Rattle.py_machine.specs.Runs.{Outcome, Stop, start, tells, told, Runs}
+use Rattle.py_meaning.specs.declared.end.CellEnd.{CellEnd}
+use Rattle.py_meaning.specs.declared.end.CellError.{CellError}
+use Rattle.py_meaning.specs.Acts.{run}
+use Rattle.py_meaning.specs.Cells.{outcome, result_in, error_in, end_of, end}
+use Rattle.py_meaning.specs.Meaning.{cell}
+
+abbrev Shown : Type 0
+Shown = Option (List ℕ)
+
+-- nothing was taken at the start
+pub fed_start : (seen : Seen) (m : Machine) (s : State) → m ≡ start s → Fed seen m.drawn seen
+fed_start seen m s e = subst (λ (z : Machine). Fed seen z.drawn seen) (sym e) (fed_none seen)
+
+pub ended : (body : List Stmt) (s : State) (m n : Machine) (r : Result Shown Fault) → m ≡ start s → Runs (run (cell body)) m r n → tells r ≡ true → outcome body s n.drawn ≡ (told r, n)
+ended body s m n r e h t = (rw e at h) n.drawn (record { rest = []; is = sym (append-nil n.drawn) }) t
+
+end_fields : (o : Outcome Shown) (n : Machine) (stop : Result Shown Stop) (result : Shown) (error : Option CellError) → o ≡ (stop, n) → result ≡ result_in stop → error ≡ error_in stop
+    → record { printed = n.printed; result = result; error = error; steps = n.steps; draws = n.drawn; marks = n.marks } ≡ end_of o
+end_fields o n stop result error e f g = rw (e, f, g) refl
+
+pub end_is : (body : List Stmt) (s : State) (m n : Machine) (r : Result Shown Fault) (result : Shown) (error : Option CellError) → m ≡ start s → Runs (run (cell body)) m r n → tells r ≡ true
+    → result ≡ result_in (told r) → error ≡ error_in (told r)
+    → record { printed = n.printed; result = result; error = error; steps = n.steps; draws = n.drawn; marks = n.marks } ≡ end body s n.drawn
+end_is body s m n r result error e h t f g = end_fields (outcome body s n.drawn) n (told r) result error (ended body s m n r e h t) f g

@@ -1,0 +1,23 @@
+//! What a node takes in of a stream doesn't depend on how its bytes were cut. Each law is the contract of a function that
+//! does nothing.
+
+ghost use Rattle.std.specs.Prelude.{◌≡◌, ℕ, List, ◌++◌, ◌∷◌, []};
+ghost use Rattle.jupyter_messages.specs.Reading.{message_in};
+ghost use Rattle.reply_frames.specs.Intake.{Node, IsIntake, with_frames, with_message};
+
+use jupyter_frames::laws::a_stream_has_one_cutting;
+
+/// However a stream was cut into pieces, one thing is taken in of it.
+pub fn a_stream_has_one_intake()
+    ensures { (hosts : ℕ) (bytes : List ℕ) (node other : Node) → IsIntake hosts bytes node → IsIntake hosts bytes other → node ≡ other }
+{
+    a_stream_has_one_cutting();
+}
+
+/// A frame may be taken in as soon as it is whole: what is taken in of frames and one more is that of the one, after the
+/// others.
+#[tactic(auto, using(crate::proofs::Taking::frame_more))]
+pub fn frames_are_taken_in_as_they_come()
+    ensures { (hosts : ℕ) (node : Node) (bodies : List (List ℕ)) (body : List ℕ) →
+        with_frames hosts node (bodies ++ body ∷ []) ≡ with_message hosts (with_frames hosts node bodies) (message_in body) }
+{}
