@@ -82,7 +82,7 @@ fn serve_cells<'a, K: Sink, F: Feed>(
     ensures fault { result ≡ Err ServeFault.Sink → HasRisen (K.faults sink.old) (K.faults sink.new) }
     ensures faults_stay { K.faults sink.old ≤ K.faults sink.new }
 {
-    let mut session = Kernel::new(alloc);
+    let mut session = Kernel::new(alloc, 0);
     let mut rest = bytes;
     for served in 0..MOST_REQUESTS {
         let (cell, more) = match next_cell(alloc, kernel, rest) {

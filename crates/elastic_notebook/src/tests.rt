@@ -177,7 +177,7 @@ fn bad_code_goes_on(rt: HostRuntime) -> Result<(), Fail> {
 }
 
 // Codes that don't run, and what their cells answer.
-static FAULTY_CODES: [(&str, &str); 6] = [
+static FAULTY_CODES: [(&str, &str); 5] = [
     (
         "170141183460469231731687303715884105728",
         "[\"SyntaxError: number too wide at byte 0\"]",
@@ -188,8 +188,10 @@ static FAULTY_CODES: [(&str, &str); 6] = [
     ),
     ("x = [1", "[\"SyntaxError: no parse at byte 6\"]"),
     ("if x:\\n\\ty", "[\"SyntaxError: tab in indent at byte 6\"]"),
-    ("def f(): pass\\nx = f()", "[\"SyntaxError: not built\"]"),
-    ("len = 1", "[\"SyntaxError: not built\"]"),
+    (
+        "a = b = 1",
+        "[\"SyntaxError: chained assignment is outside this subset at byte 6\"]",
+    ),
 ];
 
 #[test]
@@ -208,45 +210,126 @@ fn codes_that_do_not_run(rt: HostRuntime) -> Result<(), Fail> {
     Ok(())
 }
 
-// Sessions of cells, and what their frames hold, and how often.
-static SHARED: [&str; 4] = ["a = [1]", "b = a", "b.append(2)", "a"];
+/// A session: its codes, written as JSON texts, and what its frames hold, and how often.
+struct Row {
+    codes: &'static [&'static str],
+    frames: &'static [(&'static str, usize)],
+}
 
-static SHARED_FRAMES: [(&str, usize); 4] = [
-    ("\"data\":{\"text/plain\":\"[1, 2]\"}", 1),
-    ("\"msg_type\":\"execute_result\"", 1),
-    ("\"execution_count\":4", 3),
-    ("\"status\":\"error\"", 0),
-];
-
-static KNOTTED: [&str; 3] = ["a = []", "a.append(a)", "a"];
-
-static KNOTTED_FRAMES: [(&str, usize); 2] = [
-    ("\"data\":{\"text/plain\":\"[[...]]\"}", 1),
-    ("\"msg_type\":\"execute_result\"", 1),
-];
-
-static FAILING: [&str; 6] = [
-    "a = [7]\\nb = a + [8]\\na.append(b)",
-    "1 + a",
-    "b.append(1)\\nb = 2\\nb.append(x)",
-    "b",
-    "print(a)",
-    "(a.append(3))",
-];
-
-static FAILING_FRAMES: [(&str, usize); 6] = [
-    (
-        "[\"TypeError: unsupported operand type(s) for +: 'int' and 'list'\"]",
-        2,
-    ),
-    (
-        "[\"AttributeError: 'int' object has no attribute 'append'\"]",
-        2,
-    ),
-    ("\"data\":{\"text/plain\":\"2\"}", 1),
-    ("\"text\":\"[7, [7, 8, 1]]\\n\"", 1),
-    ("\"msg_type\":\"execute_result\"", 1),
-    ("\"status\":\"error\"", 2),
+// The worked rows of the language.
+static ROWS: [Row; 12] = [
+    Row {
+        codes: &["a = [1]", "b = a", "b.append(2)", "a"],
+        frames: &[
+            ("\"data\":{\"text/plain\":\"[1, 2]\"}", 1),
+            ("\"msg_type\":\"execute_result\"", 1),
+            ("\"execution_count\":4", 3),
+            ("\"status\":\"error\"", 0),
+        ],
+    },
+    Row {
+        codes: &["a = []", "a.append(a)", "a"],
+        frames: &[
+            ("\"data\":{\"text/plain\":\"[[...]]\"}", 1),
+            ("\"msg_type\":\"execute_result\"", 1),
+        ],
+    },
+    Row {
+        codes: &[
+            "a = [7]\\nb = a + [8]\\na.append(b)",
+            "1 + a",
+            "b.append(1)\\nb = 2\\nb.append(x)",
+            "b",
+            "print(a)",
+        ],
+        frames: &[
+            (
+                "[\"TypeError: unsupported operand type(s) for +: 'int' and 'list'\"]",
+                2,
+            ),
+            (
+                "[\"AttributeError: 'int' object has no attribute 'append'\"]",
+                2,
+            ),
+            ("\"data\":{\"text/plain\":\"2\"}", 1),
+            ("\"text\":\"[7, [7, 8, 1]]\\n\"", 1),
+            ("\"status\":\"error\"", 2),
+        ],
+    },
+    Row {
+        codes: &[
+            "a = 1\\nb = draw()\\nc = 2",
+            "a",
+            "b",
+            "n = draw()",
+            "h = handle(\\\"g\\\" + str(n))",
+            "tell(h)",
+            "h",
+        ],
+        frames: &[
+            ("[\"OSError: feed\"]", 2),
+            ("\"data\":{\"text/plain\":\"1\"}", 2),
+            ("[\"NameError: name 'b' is not defined\"]", 2),
+            ("\"data\":{\"text/plain\":\"<handle 'g7'>\"}", 1),
+            ("\"status\":\"error\"", 2),
+        ],
+    },
+    Row {
+        codes: &[
+            "def f(n):\\n    return 1 if n < 2 else n * f(n - 1)\\nprint(f(5), -7 // 2, -7 % 3, 1 < 2 < 2)",
+        ],
+        frames: &[("\"text\":\"120 -4 2 False\\n\"", 1)],
+    },
+    Row {
+        codes: &["170141183460469231731687303715884105727 + 1"],
+        frames: &[("[\"OverflowError: number past 128 bits\"]", 2)],
+    },
+    Row {
+        codes: &["d = {1: 1}\\nfor k in d:\\n    d[2] = 2", "d"],
+        frames: &[
+            (
+                "[\"RuntimeError: dictionary changed size during iteration\"]",
+                2,
+            ),
+            ("\"data\":{\"text/plain\":\"{1: 1, 2: 2}\"}", 1),
+        ],
+    },
+    Row {
+        codes: &["\\\"it's\\\"", "[1, 2, 3][-2:][0]"],
+        frames: &[
+            ("\"data\":{\"text/plain\":\"\\\"it's\\\"\"}", 1),
+            ("\"data\":{\"text/plain\":\"2\"}", 1),
+        ],
+    },
+    Row {
+        codes: &["while True: pass"],
+        frames: &[("[\"StepLimitError: 1000000 steps\"]", 2)],
+    },
+    Row {
+        codes: &["x = 0", "def g():\\n    return g()\\ng()", "1"],
+        frames: &[
+            ("[\"RecursionError: maximum recursion depth exceeded\"]", 2),
+            ("\"data\":{\"text/plain\":\"1\"}", 1),
+            ("\"execution_count\":3", 3),
+        ],
+    },
+    Row {
+        codes: &[
+            "t = \\\"x\\\" * 4000000",
+            "t = \\\"y\\\" * 4000000",
+            "t = 0",
+            "u = \\\"z\\\" * 388608",
+            "v = \\\"a\\\" + \\\"b\\\"",
+        ],
+        frames: &[
+            ("[\"MemoryError: meter spent\"]", 2),
+            ("\"status\":\"error\"", 1),
+        ],
+    },
+    Row {
+        codes: &["d = {True: 1}", "d[1] = 2", "d"],
+        frames: &[("\"data\":{\"text/plain\":\"{True: 2}\"}", 1)],
+    },
 ];
 
 // Each row that doesn't stand so often in what is written for the cells.
@@ -272,36 +355,10 @@ fn missed(
 }
 
 #[test]
-fn two_names_of_one_list(rt: HostRuntime) -> Result<(), Fail> {
-    assert_eq!(rt; missed(&rt, &SHARED, &SHARED_FRAMES)?.as_str(), "");
-    Ok(())
-}
-
-#[test]
-fn a_list_in_itself(rt: HostRuntime) -> Result<(), Fail> {
-    assert_eq!(rt; missed(&rt, &KNOTTED, &KNOTTED_FRAMES)?.as_str(), "");
-    Ok(())
-}
-
-static DRAWING: [&str; 4] = ["a = 1\\nb = draw()\\nc = 2", "a", "b", "n = draw()\\nn"];
-
-static DRAWING_FRAMES: [(&str, usize); 5] = [
-    ("[\"OSError: feed\"]", 2),
-    ("\"data\":{\"text/plain\":\"1\"}", 1),
-    ("[\"NameError: name 'b' is not defined\"]", 2),
-    ("\"data\":{\"text/plain\":\"7\"}", 1),
-    ("\"status\":\"error\"", 2),
-];
-
-#[test]
-fn a_feed_whose_first_draw_fails(rt: HostRuntime) -> Result<(), Fail> {
-    assert_eq!(rt; missed(&rt, &DRAWING, &DRAWING_FRAMES)?.as_str(), "");
-    Ok(())
-}
-
-#[test]
-fn errors_of_lists(rt: HostRuntime) -> Result<(), Fail> {
-    assert_eq!(rt; missed(&rt, &FAILING, &FAILING_FRAMES)?.as_str(), "");
+fn worked_rows(rt: HostRuntime) -> Result<(), Fail> {
+    for row in &ROWS {
+        assert_eq!(rt; missed(&rt, row.codes, row.frames)?.as_str(), "");
+    }
     Ok(())
 }
 

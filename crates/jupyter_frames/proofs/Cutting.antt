@@ -1,12 +1,12 @@
 -- Frames at the front of bytes.
-use Rattle.std.proofs.Common.{◌≡◌, ℕ, ◌+◌, ◌-◌, ◌<◌, ◌≤◌, ◌⊎◌, inl, inr, List, [], ◌∷◌, ◌++◌, length, take, drop, refl, sym, ap, ◌∙◌, subst, append_assoc, arith}
+use Rattle.std.proofs.Common.{◌≡◌, ℕ, zero, suc, ◌+◌, ◌-◌, ◌<◌, ◌≤◌, ◌⊎◌, inl, inr, List, [], ◌∷◌, ◌++◌, length, take, drop, refl, sym, ap, ◌∙◌, subst, append_assoc, arith}
 use Rattle.std.specs.Prelude.{get_or, Result, Ok, Err, IfOk}
-use Rattle.std.specs.List.{flat_map, AllByRecursion}
+use Rattle.std.specs.List.{flat_map, All, AllByRecursion}
 use Rattle.std.specs.Int.{w32, to_be_bytes}
 use Rattle.std.proofs.lemmas.Bool.{cases_lt}
 use Rattle.std.proofs.lemmas.Nat.{be_bytes_4, from_be_bytes-to_be_bytes_4}
-use Rattle.std.proofs.lemmas.List.{length-append, take_rest, take-append-drop, take_at, drop_at, drop-drop, length-take, length-take-le, length-drop, get_or_past, get_or-take}
-use Rattle.jupyter_frames.specs.Framing.{most_bytes, frame, IsBody, length_of, stream, IsRest}
+use Rattle.std.proofs.lemmas.List.{length-append, take_rest, take-append-drop, take_at, drop_at, drop-drop, length-take, length-take-le, length-drop, get_or_past, get_or-take, get_or-drop}
+use Rattle.jupyter_frames.specs.Framing.{most_bytes, frame, IsBody, length_of, stream, IsRest, Cutting}
 
 -- ---- what is read
 
@@ -87,3 +87,55 @@ one_cutting (b ∷ bs) (c ∷ cs) rest other h k r s e =
     (sym (append_assoc (frame b) (flat_map frame bs) rest) ∙ e ∙ append_assoc (frame c) (flat_map frame cs) other) in
     let more = one_cutting bs cs rest other h.1 k.1 r s both.1 in
     (ap (λ z. z ∷ bs) both.0 ∙ ap (λ zs. c ∷ zs) more.0, more.1)
+
+-- ---- a cutting of every stream
+
+bytes_of_all : (bytes : List ℕ) → All (λ b. b < 256) bytes → IsBytes bytes
+bytes_of_all bytes all i =
+    elim (cases_lt i (length bytes)) [
+      | inl lt ↦ all i 0 lt
+      | inr le ↦ rw (get_or_past bytes i 0 le) (omega arith)
+    ]
+
+bytes_dropped : (n : ℕ) (bytes : List ℕ) → IsBytes bytes → IsBytes (drop n bytes)
+bytes_dropped n bytes fits i = rw (get_or-drop n bytes i 0) (fits (n + i))
+
+-- no frame stands at the front
+no_frame : (bytes : List ℕ) → IsRest bytes → Cutting bytes
+no_frame bytes rest = record { bodies = []; rest = bytes; are_bodies = tt; is_rest = rest; is_stream = refl }
+
+-- a frame stands at the front
+frame_first : (bytes : List ℕ) (n : ℕ) → IsBytes bytes → n ≡ length_of bytes → 4 + n ≤ length bytes → (0 < n) × (n ≤ most_bytes) → Cutting (drop (4 + n) bytes) → Cutting bytes
+frame_first bytes n fits is long sized more =
+    let body = take n (drop 4 bytes) in
+    let count : length body ≡ n = part_length bytes n long in
+    record {
+      bodies = body ∷ more.bodies;
+      rest = more.rest;
+      are_bodies = ((omega (arith, count, sized.0), omega (arith, count, sized.1)), more.are_bodies);
+      is_rest = more.is_rest;
+      is_stream = sym (whole bytes n fits is long) ∙ ap (λ z. frame body ++ z) more.is_stream ∙ sym (append_assoc (frame body) (flat_map frame more.bodies) more.rest);
+    }
+
+-- by the most bytes that are left
+cut_on : (most : ℕ) (bytes : List ℕ) → length bytes ≤ most → IsBytes bytes → Cutting bytes
+cut_on zero bytes few fits = no_frame bytes (inl (inl (omega (arith, few))))
+cut_on (suc most) bytes few fits =
+    let n = length_of bytes in
+    elim (cases_lt (length bytes) 4) [
+      | inl short ↦ no_frame bytes (inl (inl short))
+      | inr four ↦ elim (cases_lt 0 n) [
+        | inr none ↦ no_frame bytes (inr (n, (four, refl, inl (omega (arith, none)))))
+        | inl some ↦ elim (cases_lt most_bytes n) [
+          | inl over ↦ no_frame bytes (inr (n, (four, refl, inr over)))
+          | inr within ↦ elim (cases_lt (length bytes) (4 + n)) [
+            | inl begun ↦ no_frame bytes (inl (inr (some, within, begun)))
+            | inr long ↦ frame_first bytes n fits refl long (some, within)
+                (cut_on most (drop (4 + n) bytes) (omega (arith, few, long, length-drop (4 + n) bytes)) (bytes_dropped (4 + n) bytes fits))
+          ]
+        ]
+      ]
+    ]
+
+pub cutting_of : (bytes : List ℕ) → All (λ b. b < 256) bytes → Cutting bytes
+cutting_of bytes all = cut_on (length bytes) bytes (omega arith) (bytes_of_all bytes all)

@@ -1,6 +1,6 @@
 -- Frames on a stream of bytes.
 use Rattle.std.specs.Prelude.{◌≡◌, ℕ, ◌+◌, ◌<◌, ◌≤◌, ◌⊎◌, min, List, ◌++◌, length, take}
-use Rattle.std.specs.List.{flat_map}
+use Rattle.std.specs.List.{flat_map, AllByRecursion}
 use Rattle.std.specs.Int.{w32, to_be_bytes, from_be_bytes}
 
 -- the most bytes of a frame's body that is read
@@ -38,6 +38,14 @@ stream bodies rest = flat_map frame bodies ++ rest
 -- Where no frame stands any more: what comes after the last whole frame begins another, or has a bad length.
 abbrev pub IsRest : List ℕ → Type 0
 IsRest rest = IsBegun rest ⊎ ((n : ℕ) × IsBad rest n)
+
+-- a stream cut into its whole frames, up to the first place where none stands
+pub record Cutting (bytes : List ℕ) : Type 0 where
+  pub bodies : List (List ℕ)
+  pub rest : List ℕ
+  pub are_bodies : AllByRecursion IsBody bodies
+  pub is_rest : IsRest rest
+  pub is_stream : bytes ≡ stream bodies rest
 
 -- the place so many bytes on
 abbrev pub place_after : ℕ → ℕ → ℕ

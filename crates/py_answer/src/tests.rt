@@ -1,11 +1,10 @@
-//! Cells of the supported form. What is expected follows from the sections of docs/LANGUAGE.md on errors, steps, levels and
+//! Cells, with their steps and charges. What is expected follows from the sections of docs/LANGUAGE.md on errors, steps, levels and
 //! charges.
 
 use crate::answering::answer;
 use nb_outside::{Drawn, MemFeed, NoFeed};
 use plain_data::Text;
-use py_heap::METER_LIMIT;
-use py_kernel::{Kernel, is_supported};
+use py_kernel::Kernel;
 use py_meaning::CellEnd;
 use py_reader::read_cell;
 use std::alloc::{AllocError, Global};
@@ -39,15 +38,7 @@ fn ran(alloc: Global, kernel: &mut Kernel, code: &str) -> Result<String, AllocEr
 
 /// The same of a session's first cell.
 fn ran_first(alloc: Global, code: &str) -> Result<String, AllocError> {
-    ran(alloc, &mut Kernel::new(alloc), code)
-}
-
-/// Whether the code is a cell of the supported form.
-fn reads_as_supported(alloc: Global, code: &str) -> bool {
-    match read_cell(alloc, code) {
-        Ok(tree) => is_supported(tree.body.as_slice()),
-        Err(_) => false,
-    }
+    ran(alloc, &mut Kernel::new(alloc, 0), code)
 }
 
 #[test]
@@ -58,35 +49,21 @@ fn two_names_share_a_list(rt: HostRuntime) -> Result<(), Fail> {
 }
 
 #[test]
-fn a_sum_of_lists_is_a_new_list(rt: HostRuntime) -> Result<(), Fail> {
+fn loops_texts_and_comparisons_are_counted(rt: HostRuntime) -> Result<(), Fail> {
     let alloc = rt.alloc();
-    let mut kernel = Kernel::new(alloc);
-    let made = ran(alloc, &mut kernel, "a = [1, 2]")?;
-    assert_eq!(rt; made.as_str(), "4 3||");
-    let code = "c = a + a\nc.append(a)\nprint(c)\nprint(a)";
-    let end = ran(alloc, &mut kernel, code)?;
-    let wanted = "31 37|[1, 2, 1, 2, [1, 2]]\n[1, 2]\n|";
-    assert_eq!(rt; end.as_str(), wanted);
-    Ok(())
-}
-
-#[test]
-fn what_is_unsupported_does_nothing(rt: HostRuntime) -> Result<(), Fail> {
-    let alloc = rt.alloc();
-    assert!(rt; reads_as_supported(alloc, "a = 1"));
-    let code = "a = 1\nlen = 1";
-    assert!(rt; !reads_as_supported(alloc, code));
-    let mut kernel = Kernel::new(alloc);
-    let end = ran(alloc, &mut kernel, code)?;
-    assert_eq!(rt; end.as_str(), "0 0||SyntaxError: not built");
-    assert!(rt; kernel.state.look(&Text::new(alloc, "a")?).is_none());
+    let turns = ran_first(alloc, "i = 0\nwhile i < 2:\n    i += 1\ni")?;
+    assert_eq!(rt; turns.as_str(), "21 1||2");
+    let text = ran_first(alloc, "t = 'ab' + 'c'\nt")?;
+    assert_eq!(rt; text.as_str(), "7 11||'abc'");
+    let lists = ran_first(alloc, "[1, 2] == [1, 3]")?;
+    assert_eq!(rt; lists.as_str(), "11 11||False");
     Ok(())
 }
 
 #[test]
 fn what_was_done_stays(rt: HostRuntime) -> Result<(), Fail> {
     let alloc = rt.alloc();
-    let mut kernel = Kernel::new(alloc);
+    let mut kernel = Kernel::new(alloc, 0);
     let end = ran(alloc, &mut kernel, "a = 1\nprint(a)\nx")?;
     let wanted = "9 2|1\n|NameError: name 'x' is not defined";
     assert_eq!(rt; end.as_str(), wanted);
@@ -94,61 +71,10 @@ fn what_was_done_stays(rt: HostRuntime) -> Result<(), Fail> {
     Ok(())
 }
 
-/// Shows 1 in that many lists, each in the next.
-fn nested(alloc: Global, lists: u32) -> Result<String, AllocError> {
-    let mut kernel = Kernel::new(alloc);
-    ran(alloc, &mut kernel, "a = 1")?;
-    for _ in 0..lists {
-        ran(alloc, &mut kernel, "a = [a]")?;
-    }
-    ran(alloc, &mut kernel, "a")
-}
-
-#[test]
-fn levels_end_at_800(rt: HostRuntime) -> Result<(), Fail> {
-    let deep = nested(rt.alloc(), 797)?;
-    assert!(rt; deep.as_str().starts_with("800 3189||[["));
-    assert_eq!(rt; deep.len(), 10 + 1595);
-    let deeper = nested(rt.alloc(), 798)?;
-    let wanted = "800 1596||RecursionError: maximum recursion depth exceeded";
-    assert_eq!(rt; deeper.as_str(), wanted);
-    Ok(())
-}
-
-#[test]
-fn steps_end_at_1000000(rt: HostRuntime) -> Result<(), Fail> {
-    let alloc = rt.alloc();
-    let mut kernel = Kernel::new(alloc);
-    let mut code = String::from_str(alloc, "a = [1]")?;
-    for _ in 0..19u32 {
-        code.push_str("\na = a + a")?;
-    }
-    let end = ran(alloc, &mut kernel, code.as_str())?;
-    let wanted = "1000000 1048595||StepLimitError: 1000000 steps";
-    assert_eq!(rt; end.as_str(), wanted);
-    assert_eq!(rt; kernel.state.len(), 19);
-    Ok(())
-}
-
-#[test]
-fn the_meter_ends_at_its_limit(rt: HostRuntime) -> Result<(), Fail> {
-    let alloc = rt.alloc();
-    let mut kernel = Kernel::new(alloc);
-    kernel.state.set_meter(METER_LIMIT - 4);
-    let wide = ran(alloc, &mut kernel, "print(1234)")?;
-    assert_eq!(rt; wide.as_str(), "5 16777212||MemoryError: meter spent");
-    let fits = ran(alloc, &mut kernel, "print(123)")?;
-    assert_eq!(rt; fits.as_str(), "5 16777216|123\n|");
-    let full = ran(alloc, &mut kernel, "a = []")?;
-    assert_eq!(rt; full.as_str(), "2 16777216||MemoryError: meter spent");
-    assert!(rt; kernel.state.is_empty());
-    Ok(())
-}
-
 #[test]
 fn a_code_without_a_tree_is_answered(rt: HostRuntime) -> Result<(), Fail> {
     let alloc = rt.alloc();
-    let mut kernel = Kernel::new(alloc);
+    let mut kernel = Kernel::new(alloc, 0);
     let reply = answer(alloc, &mut kernel, "x =", &mut NoFeed::new())?.reply;
     assert_eq!(rt; reply.count, 1);
     let said = match &reply.error {
@@ -165,7 +91,7 @@ fn a_code_without_a_tree_is_answered(rt: HostRuntime) -> Result<(), Fail> {
 #[test]
 fn a_draw_that_fails_ends_its_cell(rt: HostRuntime) -> Result<(), Fail> {
     let alloc = rt.alloc();
-    let mut kernel = Kernel::new(alloc);
+    let mut kernel = Kernel::new(alloc, 0);
     let end = ran(alloc, &mut kernel, "a = 1\nb = draw()\nc = 2")?;
     assert_eq!(rt; end.as_str(), "5 0||OSError: feed");
     let a = ran(alloc, &mut kernel, "a")?;
@@ -178,13 +104,15 @@ fn a_draw_that_fails_ends_its_cell(rt: HostRuntime) -> Result<(), Fail> {
 #[test]
 fn draws_and_marks_are_recorded(rt: HostRuntime) -> Result<(), Fail> {
     let alloc = rt.alloc();
-    let mut kernel = Kernel::new(alloc);
+    let mut kernel = Kernel::new(alloc, 0);
     let mut feed = MemFeed::new(vec![in alloc; Drawn::Word(7), Drawn::Word(9)]?);
     let code = "a = [1]\nb = draw()\na.append(b)\na";
-    assert!(rt; reads_as_supported(alloc, code));
     let tree = match read_cell(alloc, code) {
         Ok(tree) => tree,
-        Err(_) => return Ok(()),
+        Err(_) => {
+            assert!(rt; false, "the code has a tree");
+            return Ok(());
+        }
     };
     let end = kernel.run_cell(alloc, tree.body.as_slice(), &mut feed)?;
     let result = match &end.result {

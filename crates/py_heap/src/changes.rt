@@ -4,8 +4,19 @@ ghost use Rattle.py_heap.specs.Objects.{is_list, is_dict, is_handle, items_of, p
 ghost use Rattle.py_heap.specs.States.{raised};
 
 use crate::heap::Object;
+use plain_data::Items;
 use py_value::{Key, Value};
 use std::alloc::AllocError;
+
+/// Puts items at the end of others. After an error some of them may be there.
+fn append_all(items: &mut Items<Value>, more: Items<Value>) -> Result<(), AllocError>
+    ensures { OnOk result (items.new ≡ items.old ++ more) }
+{
+    for item in more.into_vec() {
+        items.push(item)?;
+    }
+    Ok(())
+}
 
 /// The changes of one object, each of the kind that it is made on. `State` makes them at addresses.
 impl Object {
@@ -27,6 +38,17 @@ impl Object {
     {
         match self {
             Object::List(items) => items.push(value),
+            _ => unreachable!(),
+        }
+    }
+
+    /// Puts items at the end of a list. After an error some of them may be there.
+    pub(crate) fn extend_items(&mut self, more: Items<Value>) -> Result<(), AllocError>
+        requires { IsTrue (is_list (Some self.old)) }
+        ensures { OnOk result (self.new ≡ Object.List (items_of (Some self.old) ++ more)) }
+    {
+        match self {
+            Object::List(items) => append_all(items, more),
             _ => unreachable!(),
         }
     }

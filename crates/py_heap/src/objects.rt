@@ -119,6 +119,15 @@ impl State {
         heap.objects[at as usize].push_item(value)
     }
 
+    /// Puts items at the end of the list at an address. After an error the state stands for nothing and is only dropped.
+    pub fn extend_items(&mut self, at: u32, more: Items<Value>) -> Result<(), AllocError>
+        requires { IsListAt self.old.heap at }
+        ensures { OnOk result (self.new ≡ spec.with_items self.old at (items_at self.old.heap at ++ more)) }
+    {
+        let heap = &mut self.heap;
+        heap.objects[at as usize].extend_items(more)
+    }
+
     /// Puts an item into the list at an address, at that place; those from there on move up. After an error nothing is
     /// changed.
     pub fn insert_item(&mut self, at: u32, index: u32, value: Value) -> Result<(), AllocError>

@@ -1,9 +1,5 @@
 -- A level with one left is made of the one below.
-use Rattle.std.proofs.Common.{◌≡◌, ℕ, zero, suc, ◌-◌, ◌<◌, true, Result, Ok, Err, refl, ap, arith}
-use Rattle.std.specs.Prelude.{List, []}
-use Rattle.py_value.specs.declared.value.Value.{Value}
-use Rattle.py_value.specs.declared.value.Value.TheVariants as value
-use Rattle.py_meaning.specs.Shown.{Shows, value_text, str_text, written}
+use Rattle.std.proofs.Common.{◌≡◌, ℕ, zero, suc, ◌-◌, ◌<◌, true, Result, Err, refl, ap, arith}
 use Rattle.py_machine.specs.declared.error.Fault.{Fault}
 use Rattle.py_machine.specs.declared.error.Fault.TheVariants.{OutOfMemory, DrawFailed, Raised}
 use Rattle.py_machine.specs.declared.machine.Machine.{Machine}
@@ -13,20 +9,11 @@ use Rattle.py_meaning.specs.Meaning.{level}
 pub deeper : {X : Type 0} (f : ℕ → X) (n : ℕ) → 0 < n → f n ≡ f (suc (n - 1))
 deeper f n some = let e : n ≡ suc (n - 1) = omega arith in ap f e
 
--- what `print` writes at a level
-pub level-write : (n : ℕ) (held : Value) → (level n).write held ≡ written n held
+-- the levels that are left at a level
+pub level-left : (n : ℕ) → (level n).left ≡ n
 unfolding level
-level-write zero held = refl
-level-write (suc n) held = refl
-
--- a value that is no text is printed as it shows
-pub str_other : (below : Shows) (v : Value) → ((text : List ℕ) → v ≡ value.Text text → ⊥) → str_text below v ≡ value_text below [] [] v
-str_other below (value.Text text) h = absurd (h text refl)
-str_other below value.Nothing h = refl
-str_other below (value.Bool truth) h = refl
-str_other below (value.Number number) h = refl
-str_other below (value.Ref at) h = refl
-str_other below (value.Builtin builtin) h = refl
+level-left zero = refl
+level-left (suc n) = refl
 
 -- an error hands itself on
 pub after_err : {A B : Type 0} (e : Fault) (r : Result B Fault) (o : Outcome A) (m : Machine) (next : A → Machine → Outcome B) → r ≡ Err e → tells r ≡ true

@@ -1,4 +1,3 @@
-pub mod Opened
 pub mod Deeper
+pub mod Turning
 pub mod Ending
-pub mod Copied

@@ -1,5 +1,5 @@
--- Function values that evaluate expressions and execute statements with so many levels left.
-use Rattle.std.specs.Prelude.{ℕ, Result}
+-- Function values that evaluate expressions and execute statements with up to so many levels left.
+use Rattle.std.specs.Prelude.{ℕ, ◌≤◌, Result}
 use Rattle.std.specs.declared.alloc.Global.{Global}
 use denote.Ref.{Bor, MutBor}
 use Rattle.nb_outside.specs.Feeds.{Seen}
@@ -19,12 +19,12 @@ RunsBeside p old seen result new now = Runs p old result new × Grows old new ×
 
 pub record Evals {F : Type 0} (seen : F → Seen) (left : ℕ) (pre : Global → ℕ → MutBor Machine → MutBor F → Bor Expr → Type 0)
     (post : Global → ℕ → MutBor Machine → MutBor F → Bor Expr → Result Value Fault → MutBor Machine → MutBor F → Type 0) : Type 0 where
-  pub can_eval : (alloc : Global) (m : MutBor Machine) (f : MutBor F) (e : Bor Expr) → pre alloc left m f e
-  pub evals : (alloc : Global) (m n : MutBor Machine) (f g : MutBor F) (e : Bor Expr) (r : Result Value Fault) → post alloc left m f e r n g
-      → RunsBeside (run ((level left).eval e.now)) m.now (seen f.now) r n.now (seen g.now)
+  pub can_eval : (alloc : Global) (n : ℕ) (m : MutBor Machine) (f : MutBor F) (e : Bor Expr) → n ≤ left → pre alloc n m f e
+  pub evals : (alloc : Global) (n : ℕ) (m after : MutBor Machine) (f g : MutBor F) (e : Bor Expr) (r : Result Value Fault) → n ≤ left → post alloc n m f e r after g
+      → RunsBeside (run ((level n).eval e.now)) m.now (seen f.now) r after.now (seen g.now)
 
 pub record Execs {F : Type 0} (seen : F → Seen) (left : ℕ) (pre : Global → ℕ → MutBor Machine → MutBor F → Bor Stmt → Type 0)
     (post : Global → ℕ → MutBor Machine → MutBor F → Bor Stmt → Result Flow Fault → MutBor Machine → MutBor F → Type 0) : Type 0 where
-  pub can_exec : (alloc : Global) (m : MutBor Machine) (f : MutBor F) (s : Bor Stmt) → pre alloc left m f s
-  pub execs : (alloc : Global) (m n : MutBor Machine) (f g : MutBor F) (s : Bor Stmt) (r : Result Flow Fault) → post alloc left m f s r n g
-      → RunsBeside (run ((level left).exec s.now)) m.now (seen f.now) r n.now (seen g.now)
+  pub can_exec : (alloc : Global) (n : ℕ) (m : MutBor Machine) (f : MutBor F) (s : Bor Stmt) → n ≤ left → pre alloc n m f s
+  pub execs : (alloc : Global) (n : ℕ) (m after : MutBor Machine) (f g : MutBor F) (s : Bor Stmt) (r : Result Flow Fault) → n ≤ left → post alloc n m f s r after g
+      → RunsBeside (run ((level n).exec s.now)) m.now (seen f.now) r after.now (seen g.now)

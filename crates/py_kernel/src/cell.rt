@@ -9,13 +9,12 @@ ghost use Rattle.py_meaning.specs.Meaning as spec;
 ghost use Rattle.py_meaning.specs.Cells as cells;
 
 use crate::run::{eval, exec};
-use crate::shown::show;
-use crate::supported::is_supported;
 use nb_outside::Feed;
-use plain_data::{Items, Text};
+use plain_data::Text;
 use py_heap::State;
-use py_machine::{Fault, Machine, unsupported_form};
+use py_machine::{Fault, Machine};
 use py_meaning::{CellEnd, CellError};
+use py_show::result_text;
 use py_tree::{Expr, Stmt};
 use py_value::Value;
 use std::alloc::{AllocError, Global};
@@ -27,29 +26,14 @@ const STATEMENT_LEVELS: u32 = 800;
 /// The levels that are left for an expression of such a statement.
 const EXPRESSION_LEVELS: u32 = 799;
 
-/// The levels that are left for what such an expression shows.
-const RESULT_LEVELS: u32 = 798;
-
-/// The text of a result, charged by its bytes.
-#[tactic(auto, unfolding(py_meaning::specs::Meaning::repr))]
-fn repr(alloc: Global, machine: &mut Machine, value: &Value) -> Result<Option<Text>, Fault>
-    ensures runs { Still (run (spec.repr value.now)) machine.old result machine.new }
-    ensures drawn { machine.new.drawn ≡ machine.old.drawn }
-{
-    let mut path = Items::new(alloc);
-    let empty = Text::new(alloc, "")?;
-    let text = show(alloc, RESULT_LEVELS, machine, &mut path, empty, value)?;
-    machine.charge(alloc, text.len() as u64)?;
-    Ok(Some(text))
-}
-
+/// The text of a result, if the value isn't None.
 fn result_of(alloc: Global, machine: &mut Machine, value: &Value) -> Result<Option<Text>, Fault>
     ensures runs { Still (run (spec.result value.now)) machine.old result machine.new }
     ensures drawn { machine.new.drawn ≡ machine.old.drawn }
 {
     match value {
         Value::Nothing => Ok(None),
-        _ => repr(alloc, machine, value),
+        _ => result_text(alloc, machine, value),
     }
 }
 
@@ -108,24 +92,7 @@ fn top_from<F: Feed>(
     last(alloc, machine, feed, current)
 }
 
-/// Runs statements in order, up to the first error.
-fn top<F: Feed>(
-    alloc: Global,
-    machine: &mut Machine,
-    feed: &mut F,
-    body: &[Stmt],
-) -> Result<Option<Text>, Fault>
-    ensures runs { Runs (run (spec.top body.now)) machine.old result machine.new }
-    ensures grows { Grows machine.old machine.new }
-    ensures fed { Feeding machine.old.drawn (F.seen feed.old) machine.new.drawn (F.seen feed.new) }
-{
-    match body {
-        [first, rest @ ..] => top_from(alloc, machine, feed, first, rest),
-        [] => Ok(None),
-    }
-}
-
-#[tactic(auto, unfolding(py_meaning::specs::Meaning::cell))]
+/// Runs the statements of a cell in order, up to the first error.
 fn cell<F: Feed>(
     alloc: Global,
     machine: &mut Machine,
@@ -136,16 +103,14 @@ fn cell<F: Feed>(
     ensures grows { Grows machine.old machine.new }
     ensures fed { Feeding machine.old.drawn (F.seen feed.old) machine.new.drawn (F.seen feed.new) }
 {
-    if is_supported(body) {
-        top(alloc, machine, feed, body)
-    } else {
-        Err(Fault::Raised(unsupported_form(alloc)?))
+    match body {
+        [first, rest @ ..] => top_from(alloc, machine, feed, first, rest),
+        [] => Ok(None),
     }
 }
 
-/// Runs a cell with this tree on the state of a session, and draws from the feed. One that isn't of the supported form doesn't
-/// run, and ends in a SyntaxError. An error is an end of the cell, and what the cell did before stays. The count is the
-/// caller's. (Python language reference, in the forms of `specs/Supported.antt` of py_meaning.)
+/// Runs a cell with this tree on the state of a session, and draws from the feed. An error is an end of the cell, and what the cell did before stays. The count is the
+/// caller's. (Python language reference, in the subset of docs/LANGUAGE.md.)
 ///
 /// After an `Err`, which is want of memory, the state stands for nothing and is only dropped.
 pub fn run_cell<F: Feed>(

@@ -12,24 +12,26 @@ use py_meaning::{CellEnd, CellError};
 use py_tree::Stmt;
 use std::alloc::{AllocError, Global};
 
-/// A kernel: the state of a session, on which its cells run.
+/// A kernel: the state of a session, on which its cells run, and the number of the host on which its handles are open.
 #[derive(Drop)]
 pub struct Kernel {
     pub state: State,
+    pub host: u32,
 }
 
 impl Kernel {
-    /// A kernel in the empty state. Takes no memory.
-    pub fn new(alloc: Global) -> Kernel
-        ensures { result.state ≡ empty }
+    /// A kernel in the empty state on this host. Takes no memory.
+    pub fn new(alloc: Global, host: u32) -> Kernel
+        ensures state { result.state ≡ empty }
+        ensures host { result.host ≡ host }
     {
         Kernel {
             state: State::new(alloc),
+            host,
         }
     }
 
-    /// Runs a cell with this tree, and draws from the feed. One that isn't of the supported form doesn't run, and ends in a
-    /// SyntaxError. A Python error is an end of the cell, and what the cell did before stays. The count is the caller's. After
+    /// Runs a cell with this tree, and draws from the feed. A Python error is an end of the cell, and what the cell did before stays. The count is the caller's. After
     /// an `Err`, which is want of memory, the kernel stands for nothing and is only dropped. (Python language reference, in
     /// the subset of docs/LANGUAGE.md.)
     pub fn run_cell<F: Feed>(
@@ -42,6 +44,7 @@ impl Kernel {
         ensures used { IfOk result (λ end. spec.UsesUp body.now self.old.state end.draws) }
         ensures end { IfOk result (λ end. end ≡ spec.end body.now self.old.state end.draws) }
         ensures state { IfOk result (λ end. self.new.state ≡ spec.end_state body.now self.old.state end.draws) }
+        ensures host { self.new.host ≡ self.old.host }
 
         // These are what the feed gave in this call, and it gave no others.
         ensures fed { IfOk result (λ end. Fed (F.seen feed.old) end.draws (F.seen feed.new)) }

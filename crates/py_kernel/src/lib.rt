@@ -3,13 +3,14 @@
 //! An error ends a cell, and what it did before stays. (Python language reference, in the subset of `docs/LANGUAGE.md`.)
 #![tactic(auto)]
 
+mod below;
+mod calls;
 mod cell;
+mod expressions;
+mod items;
 mod kernel;
-mod objects;
-mod plus;
+mod loops;
 mod run;
-mod shown;
-mod supported;
+mod statements;
 
 pub use kernel::Kernel;
-pub use supported::is_supported;

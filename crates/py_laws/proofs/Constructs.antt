@@ -1,21 +1,17 @@
 -- Each construct respects alikeness, level by level, and so does a cell.
-use Rattle.std.proofs.Common.{◌≡◌, ℕ, zero, suc, ◌+◌, List, [], ◌∷◌, ◌++◌, length, Option, Some, None, refl, ap, ap₂, subst}
-use Rattle.std.specs.Prelude.{◌+ℤ◌, pos}
-use Rattle.std.specs.List.{AllZip, fold}
+use Rattle.std.proofs.Common.{◌≡◌, ℕ, zero, suc, ◌==◌, Bool, true, false, List, [], ◌∷◌, ◌++◌, length, Option, Some, None, refl, ap, subst}
+use Rattle.std.specs.Prelude.{cond, not, codes}
+use Rattle.std.specs.List.{AllZip, AllByRecursion}
 use Rattle.std.proofs.lemmas.List.Elements.{AllZip-push}
-use Rattle.py_names.specs.Names.{same_text}
 use Rattle.py_tree.specs.declared.expressions.Expr.{Expr, out-Expr}
-use Rattle.py_tree.specs.declared.expressions.Expr.TheOpen.{Expr-F}
-use Rattle.py_tree.specs.declared.expressions.Literal.{Literal}
-use Rattle.py_tree.specs.declared.expressions.Literal.TheVariants as literal
+use Rattle.py_tree.specs.declared.expressions.Expr.TheOpen.{Expr-F, Relation-F}
 use Rattle.py_tree.specs.declared.expressions.Op.{Op}
-use Rattle.py_tree.specs.declared.expressions.Op.TheVariants as op
 use Rattle.py_tree.specs.declared.expressions.Operand.{Operand, out-Operand}
-use Rattle.py_tree.specs.declared.expressions.Pair.{Pair}
-use Rattle.py_tree.specs.declared.expressions.Relation.{Relation}
+use Rattle.py_tree.specs.declared.expressions.Pair.{Pair, out-Pair}
+use Rattle.py_tree.specs.declared.expressions.Relation.{Relation, out-Relation}
 use Rattle.py_tree.specs.declared.expressions.Target.{Target}
 use Rattle.py_tree.specs.declared.expressions.Target.TheVariants as target
-use Rattle.py_tree.specs.declared.statements.Arm.{Arm}
+use Rattle.py_tree.specs.declared.statements.Arm.{Arm, out-Arm}
 use Rattle.py_tree.specs.declared.statements.Def.{Def}
 use Rattle.py_tree.specs.declared.statements.Stmt.{Stmt, out-Stmt}
 use Rattle.py_tree.specs.declared.statements.Stmt.TheOpen.{Stmt-F}
@@ -23,186 +19,51 @@ use Rattle.py_value.specs.declared.value.Builtin.{Builtin}
 use Rattle.py_value.specs.declared.value.Builtin.TheVariants as builtin
 use Rattle.py_value.specs.declared.value.Value.{Value}
 use Rattle.py_value.specs.declared.value.Value.TheVariants as value
-use Rattle.py_value.specs.Values.{weight}
+use Rattle.py_heap.specs.declared.heap.Object.{Object}
 use Rattle.py_heap.specs.declared.heap.Object.TheVariants as object
 use Rattle.py_heap.specs.References.{value_refs}
-use Rattle.py_machine.specs.declared.frame.Change.TheVariants as changes
 use Rattle.py_machine.specs.declared.frame.Flow.{Flow}
 use Rattle.py_machine.specs.declared.frame.Flow.TheVariants as flow
-use Rattle.py_machine.specs.declared.kind.ValueKind.{ValueKind}
-use Rattle.py_machine.specs.declared.kind.ValueKind.TheVariants as kind
-use Rattle.py_machine.specs.Errors.{unsupported_form, overflow_error, recursion_error, unsupported_sum, no_attribute, not_callable}
+use Rattle.py_machine.specs.declared.iteration.Iteration.{Iteration}
+use Rattle.py_machine.specs.Changes.{object_kind}
+use Rattle.py_machine.specs.Errors.{recursion_error, step_limit_error, not_callable, range_elsewhere}
 use Rattle.py_machine.specs.Runs.{Name}
-use Rattle.py_meaning.specs.Acts.{Act, ◌>>=◌, ◌>>◌, pure, fail, step, add}
-use Rattle.py_meaning.specs.Supported.{is_supported}
-use Rattle.py_meaning.specs.Meaning.{fits, numbers_sum, copied, list_units, joined, unsupported, lists_joined, lists_sum, sum_of, operated, append_name, has_append, receiver, Inner, literal_value, items_from, items, display, operands, sum, append, method, print, drawn, not_called, called, call, expression, assign, assigned, show, statement, level, repr, result, show_last, last, top_from, top, cell}
+use Rattle.py_meaning.specs.Acts.{Act, ◌>>=◌, ◌>>◌, pure, fail, step}
+use Rattle.py_meaning.specs.Operators.{list_units, operated}
+use Rattle.py_meaning.specs.Iterating.{Next, iterated}
+use Rattle.py_meaning.specs.Shown.{written}
+use Rattle.py_meaning.specs.Meaning.{frame_of, returned, is_none, after_turn, most_turns, Inner, goes_on, block, items_from, items, display, operands, sum, sign, negation, conditional, any_of, disjunction, all_of, conjunction, with_right, related, if_related, relations, comparison, pairs_from, dict_display, index, if_there, slice, method, words, line, print, str_of, str, str_called, repr, repr_called, builtin_called, entered, function_called, object_called, ref_called, called, call, expression, assign, assign_item, assigned, as_expression, augment, augment_item, augment_at, delete_item, deleted, show, return, arms, turns, repeat, part_items_from, source_called, call_source, source_of, turn, rounds, for_each, statement, level, show_last, last, top_from, cell}
 use Rattle.py_laws.specs.Same.{equal, refs}
-use Rattle.py_laws.proofs.Respecting.{Setting, Paired, FlowsMatch, to_next, push, Respects, Any, Equal, next, pure_respects, fail_respects, choose_respects}
-use Rattle.py_laws.proofs.LeastActs.{Values, Listed, step_respects, charge_respects, look_respects, bind_respects, add_respects, change_respects, draw_respects, list_at_respects, kind_of_respects, write_respects}
+use Rattle.py_laws.proofs.Zipped.{zip_length, Zips, no_more, one_more, zips}
+use Rattle.py_laws.proofs.Rules.{IfThere, BindsAt, Opens}
+use Rattle.py_laws.proofs.Respecting.{Setting, Paired, FlowsMatch, to_next, breaks, continues, returns, IterationsMatch, Respects, Any, Equal, next, pure_respects, fail_respects, choose_respects}
+use Rattle.py_laws.proofs.LeastActs.{Values, Slots, object_kinds, step_respects, charge_respects, look_respects, enter_respects, leave_respects, add_respects, object_found, write_respects}
 use Rattle.py_laws.proofs.Showing.{shown_respects, written_respects}
+use Rattle.py_laws.proofs.Operating.{Gives, plain_gives, same_units, truth_respects, made_respects, made_text_respects, operated_respects, signed_respects}
+use Rattle.py_laws.proofs.Itemizing.{Held, indexed_respects, sliced_respects, item_stored_respects, item_deleted_respects}
+use Rattle.py_laws.proofs.Comparing.{compared_respects}
+use Rattle.py_laws.proofs.Iterating.{Iterates, Nexts, iterated_respects, range_of_respects, advance_respects}
+use Rattle.py_laws.proofs.Methodical.{method_of_respects, method_called_respects}
+use Rattle.py_laws.proofs.Simple.{Flows, goes, literal_respects, not_called_respects, wrong_respects, draw_called_respects, len_called_respects, int_called_respects, handle_called_respects, tell_called_respects, frame_match, returned_match, store_respects, augmented_respects, delete_respects, define_respects, Evaluated, keys_from_respects, filled_respects, same_list, result_respects}
 
 module _ (c : Setting) where
-  abbrev Gives : Act Value → Act Value → Type 0
-  Gives = Respects c (Values c)
-
-  abbrev Flows : Act Flow → Act Flow → Type 0
-  Flows = Respects c (FlowsMatch (Paired c))
-
-  unsupported_gives : Gives (fail unsupported_form) (fail unsupported_form)
-  unsupported_gives = fail_respects c (Values c) unsupported_form unsupported_form refl
-
-  goes_on : Flows (pure flow.Next) (pure flow.Next)
-  goes_on = pure_respects c (FlowsMatch (Paired c)) flow.Next flow.Next to_next
-
-  plain_gives : (v : Value) → value_refs v ≡ [] → Gives (pure v) (pure v)
-  plain_gives v none = pure_respects c (Values c) v v (equal v none)
-
-  -- ---- weights
-
-  same_weight : (v w : Value) → Values c v w → weight v ≡ weight w
-  same_weight _ _ (equal v none) = refl
-  same_weight _ _ (refs a b p) = refl
-
-  -- after equal sums
-  same_sums : (n m : ℕ) (vs ws : List Value) → n ≡ m → AllZip (Values c) vs ws → fold (λ total v. total + weight v) n vs ≡ fold (λ total v. total + weight v) m ws
-  same_sums n m [] [] e h = e
-  same_sums n m (v ∷ vs) (w ∷ ws) e h = same_sums (n + weight v) (m + weight w) vs ws (ap₂ (λ x y. x + y) e (same_weight v w h.0)) h.1
-  same_sums n m [] (w ∷ ws) e h = absurd h
-  same_sums n m (v ∷ vs) [] e h = absurd h
-
-  same_units : (vs ws : List Value) → AllZip (Values c) vs ws → list_units vs ≡ list_units ws
-  same_units vs ws h = ap (λ x. 1 + x) (same_sums 0 0 vs ws refl h)
-
-  -- ---- the operator `+`
-
-  numbers_respect : (a b : _) → Gives (numbers_sum a b) (numbers_sum a b)
-  numbers_respect a b =
-      choose_respects c (Values c) (fits (a +ℤ b)) (fits (a +ℤ b)) _ _ _ _ refl (plain_gives (value.Number (a +ℤ b)) refl) (fail_respects c (Values c) overflow_error overflow_error refl)
-
-  copied_respect : (vs ws : List Value) → AllZip (Values c) vs ws → Respects c Any (copied vs) (copied ws)
-  copied_respect [] [] h = pure_respects c Any tt tt tt
-  copied_respect (v ∷ vs) (w ∷ ws) h = next c (step_respects c) λ _ _ _. copied_respect vs ws h.1
-  copied_respect [] (w ∷ ws) h = absurd h
-  copied_respect (v ∷ vs) [] h = absurd h
-
-  -- a new list
-  made_respects : (vs ws : List Value) → AllZip (Values c) vs ws → Gives (add (object.List vs) >>= (λ at. pure (value.Ref at))) (add (object.List ws) >>= (λ at. pure (value.Ref at)))
-  made_respects vs ws h = next c (add_respects c (object.List vs) (object.List ws) h) λ a b p. pure_respects c (Values c) (value.Ref a) (value.Ref b) (refs a b p)
-
-  joined_respects : (vs ws : List Value) → AllZip (Values c) vs ws → Gives (joined vs) (joined ws)
-  unfolding joined
-  joined_respects vs ws h =
-      next c (charge_respects c (list_units vs) (list_units ws) (same_units vs ws h)) λ _ _ _.
-      next c (copied_respect vs ws h) λ _ _ _.
-      made_respects vs ws h
-
-  unsupported_respects : (x y v w : Value) → Values c x y → Values c v w → Gives (unsupported x v) (unsupported y w)
-  unfolding unsupported
-  unsupported_respects x y v w h k =
-      next c (kind_of_respects c x y h) λ i j e.
-      next c (kind_of_respects c v w k) λ l m f.
-      fail_respects c (Values c) (unsupported_sum i l) (unsupported_sum j m) (ap₂ (λ s t. unsupported_sum s t) e f)
-
-  append_lists : (vs ws xs ys : List Value) → AllZip (Values c) vs ws → AllZip (Values c) xs ys → AllZip (Values c) (vs ++ xs) (ws ++ ys)
-  append_lists [] [] xs ys h k = k
-  append_lists (v ∷ vs) (w ∷ ws) xs ys h k = (h.0, append_lists vs ws xs ys h.1 k)
-  append_lists [] (w ∷ ws) xs ys h k = absurd h
-  append_lists (v ∷ vs) [] xs ys h k = absurd h
-
-  lists_joined_respects : (a b x y : ℕ) (o u o' u' : Option (List Value)) → Paired c a b → Paired c x y → Listed c o u → Listed c o' u' → Gives (lists_joined a x o o') (lists_joined b y u u')
-  lists_joined_respects a b x y (Some vs) (Some ws) (Some xs) (Some ys) p q h k = joined_respects (vs ++ xs) (ws ++ ys) (append_lists vs ws xs ys h k)
-  lists_joined_respects a b x y None None o' u' p q h k = unsupported_respects (value.Ref a) (value.Ref b) (value.Ref x) (value.Ref y) (refs a b p) (refs x y q)
-  lists_joined_respects a b x y (Some vs) (Some ws) None None p q h k = unsupported_respects (value.Ref a) (value.Ref b) (value.Ref x) (value.Ref y) (refs a b p) (refs x y q)
-  lists_joined_respects a b x y (Some vs) (Some ws) (Some xs) None p q h k = absurd k
-  lists_joined_respects a b x y (Some vs) (Some ws) None (Some ys) p q h k = absurd k
-  lists_joined_respects a b x y (Some vs) None o' u' p q h k = absurd h
-  lists_joined_respects a b x y None (Some ws) o' u' p q h k = absurd h
-
-  lists_sum_respects : (a b x y : ℕ) → Paired c a b → Paired c x y → Gives (lists_sum a x) (lists_sum b y)
-  unfolding lists_sum
-  lists_sum_respects a b x y p q =
-      next c (list_at_respects c a b p) λ o u h.
-      next c (list_at_respects c x y q) λ o' u' k.
-      lists_joined_respects a b x y o u o' u' p q h k
-
-  -- what is no sum of numbers or of lists
-  plain_sum : (x v : Value) → value_refs x ≡ [] → value_refs v ≡ [] → Gives (sum_of x v) (sum_of x v)
-  plain_sum (value.Number a) (value.Number b) n m = numbers_respect a b
-  plain_sum (value.Ref a) v n m = cc
-  plain_sum x v n m = unsupported_respects x x v v (equal x n) (equal v m)
-
-  number_and_list : (x : Value) (a b : ℕ) → value_refs x ≡ [] → Paired c a b → Gives (sum_of x (value.Ref a)) (sum_of x (value.Ref b))
-  number_and_list (value.Ref d) a b n p = cc
-  number_and_list x a b n p = unsupported_respects x x (value.Ref a) (value.Ref b) (equal x n) (refs a b p)
-
-  list_and_number : (a b : ℕ) (v : Value) → Paired c a b → value_refs v ≡ [] → Gives (sum_of (value.Ref a) v) (sum_of (value.Ref b) v)
-  list_and_number a b (value.Ref d) p n = cc
-  list_and_number a b v p n = unsupported_respects (value.Ref a) (value.Ref b) v v (refs a b p) (equal v n)
-
-  sum_of_respects : (x y v w : Value) → Values c x y → Values c v w → Gives (sum_of x v) (sum_of y w)
-  sum_of_respects _ _ _ _ (equal x n) (equal v m) = plain_sum x v n m
-  sum_of_respects _ _ _ _ (equal x n) (refs a b p) = number_and_list x a b n p
-  sum_of_respects _ _ _ _ (refs a b p) (equal v n) = list_and_number a b v p n
-  sum_of_respects _ _ _ _ (refs a b p) (refs x y q) = lists_sum_respects a b x y p q
-
-  operated_respects : (o : Op) (x y v w : Value) → Values c x y → Values c v w → Gives (operated o x v) (operated o y w)
-  operated_respects op.Plus x y v w h k = sum_of_respects x y v w h k
-  operated_respects _ x y v w h k = unsupported_gives
-
-  -- ---- methods
-
-  no_method : (v w : Value) (k l : ValueKind) → k ≡ l → Respects c (Paired c) (fail (no_attribute k append_name)) (fail (no_attribute l append_name))
-  no_method v w k l e = fail_respects c (Paired c) _ _ (ap (λ i. no_attribute i append_name) e)
-
-  plain_receiver : (v : Value) (k : ValueKind) → value_refs v ≡ [] → Respects c (Paired c) (has_append v k) (has_append v k)
-  plain_receiver (value.Ref at) k n = cc
-  plain_receiver v k n = no_method v v k k refl
-
-  list_receiver : (a b : ℕ) (k : ValueKind) → Paired c a b → Respects c (Paired c) (has_append (value.Ref a) k) (has_append (value.Ref b) k)
-  list_receiver a b kind.List p = pure_respects c (Paired c) a b p
-  list_receiver a b k p = no_method (value.Ref a) (value.Ref b) k k refl
-
-  has_append_respects : (v w : Value) (k : ValueKind) → Values c v w → Respects c (Paired c) (has_append v k) (has_append w k)
-  has_append_respects _ _ k (equal v n) = plain_receiver v k n
-  has_append_respects _ _ k (refs a b p) = list_receiver a b k p
-
-  receiver_respects : (v w : Value) → Values c v w → Respects c (Paired c) (receiver v) (receiver w)
-  unfolding receiver
-  receiver_respects v w h =
-      next c (kind_of_respects c v w h) λ k l e.
-      subst (λ i. Respects c (Paired c) (has_append v k) (has_append w i)) e (has_append_respects v w k h)
-
-  -- ---- the text that is printed or shown
-
-  same_list : (vs ws : List ℕ) → vs ≡ ws → length vs ≡ length ws
-  same_list vs ws e = ap (λ (xs : List ℕ). length xs) e
-
-  shown_result : (v w : Value) → Values c v w → Respects c Equal (repr v) (repr w)
-  unfolding repr
-  shown_result v w h =
-      next c (shown_respects c 798 [] [] [] v w tt h) λ text other e.
-      next c (charge_respects c (length text) (length other) (same_list text other e)) λ _ _ _.
-      pure_respects c Equal (Some text) (Some other) (ap (λ z. Some z) e)
-
-  plain_result : (v : Value) → value_refs v ≡ [] → Respects c Equal (result v) (result v)
-  plain_result value.Nothing n = pure_respects c Equal None None refl
-  plain_result (value.Ref at) n = cc
-  plain_result (value.Bool truth) n = shown_result (value.Bool truth) (value.Bool truth) (equal (value.Bool truth) n)
-  plain_result (value.Number number) n = shown_result (value.Number number) (value.Number number) (equal (value.Number number) n)
-  plain_result (value.Text text) n = shown_result (value.Text text) (value.Text text) (equal (value.Text text) n)
-  plain_result (value.Builtin builtin) n = shown_result (value.Builtin builtin) (value.Builtin builtin) (equal (value.Builtin builtin) n)
-
-  result_respects : (v w : Value) → Values c v w → Respects c Equal (result v) (result w)
-  result_respects _ _ (equal v n) = plain_result v n
-  result_respects _ _ (refs a b p) = shown_result (value.Ref a) (value.Ref b) (refs a b p)
-
   -- ---- one level above another
 
-  module _ (inner : Inner) (evals : (e : Expr) → Gives (inner.eval e) (inner.eval e)) where
-    literal_respects : (value : Literal) → Gives (literal_value value) (literal_value value)
-    unfolding literal_value
-    literal_respects (literal.Number n) = next c (step_respects c) λ _ _ _. plain_gives (value.Number n) refl
-    literal_respects _ = unsupported_gives
+  module _ (inner : Inner) (evals : (e : Expr) → Gives c (inner.eval e) (inner.eval e)) (execs : (s : Stmt) → c.rules.runs s → Flows c (inner.exec s) (inner.exec s))
+      (parts : (e : Expr) → Gives c (inner.part e) (inner.part e))
+      (calls : (v w : Value) (vs ws : List Value) → Values c v w → AllZip (Values c) vs ws → Gives c (inner.calls v vs) (inner.calls w ws)) where
+    writes : (v w : Value) → Values c v w → Respects c Equal (written inner.left v) (written inner.left w)
+    writes v w h = written_respects c inner.left v w h
+
+    on_respects : (e f : Flow) (p : Act Flow) → FlowsMatch (Paired c) e f → Flows c p p → Flows c (goes_on inner e p) (goes_on inner f p)
+    on_respects _ _ p to_next k = k
+    on_respects _ _ p breaks k = goes c flow.Break flow.Break breaks
+    on_respects _ _ p continues k = goes c flow.Continue flow.Continue continues
+    on_respects _ _ p (returns v w h) k = goes c (flow.Return v) (flow.Return w) (returns v w h)
+
+    block_respects : (body : List Stmt) → AllByRecursion c.rules.runs body → Flows c (block inner body) (block inner body)
+    block_respects [] r = goes c flow.Next flow.Next to_next
+    block_respects (s ∷ more) r = next c (execs s r.0) λ e f h. on_respects e f (block inner more) h (block_respects more r.1)
 
     items_from_respects : (vs ws : List Value) (es : List Expr) → AllZip (Values c) vs ws → Respects c (AllZip (Values c)) (items_from inner vs es) (items_from inner ws es)
     items_from_respects vs ws [] h = pure_respects c (AllZip (Values c)) vs ws h
@@ -213,147 +74,496 @@ module _ (c : Setting) where
     unfolding items
     items_respect es = items_from_respects [] [] es tt
 
-    display_respects : (es : List Expr) → Gives (display inner es) (display inner es)
+    display_respects : (es : List Expr) → Gives c (display inner es) (display inner es)
     unfolding display
     display_respects es =
         next c (step_respects c) λ _ _ _.
         next c (items_respect es) λ vs ws h.
-        next c (charge_respects c (list_units vs) (list_units ws) (same_units vs ws h)) λ _ _ _.
-        made_respects vs ws h
+        next c (charge_respects c (list_units vs) (list_units ws) (same_units c vs ws h)) λ _ _ _.
+        made_respects c vs ws h
 
     operand_respects : (operand : Operand) (x y : Value) → Values c x y
-        → Gives (step >> inner.eval (out-Operand operand).value >>= operated (out-Operand operand).op x) (step >> inner.eval (out-Operand operand).value >>= operated (out-Operand operand).op y)
+        → Gives c (step >> inner.eval (out-Operand operand).value >>= operated (out-Operand operand).op x) (step >> inner.eval (out-Operand operand).value >>= operated (out-Operand operand).op y)
     operand_respects operand x y h =
-        next c (next c (step_respects c) λ _ _ _. evals (out-Operand operand).value) λ v w k. operated_respects (out-Operand operand).op x y v w h k
+        next c (next c (step_respects c) λ _ _ _. evals (out-Operand operand).value) λ v w k. operated_respects c (out-Operand operand).op x y v w h k
 
-    operands_respect : (x y : Value) (rest : List Operand) → Values c x y → Gives (operands inner x rest) (operands inner y rest)
+    operands_respect : (x y : Value) (rest : List Operand) → Values c x y → Gives c (operands inner x rest) (operands inner y rest)
     operands_respect x y [] h = pure_respects c (Values c) x y h
     operands_respect x y (operand ∷ rest) h = next c (operand_respects operand x y h) λ v w k. operands_respect v w rest k
 
-    sum_respects : (first : Expr) (rest : List Operand) → Gives (sum inner first rest) (sum inner first rest)
+    sum_respects : (first : Expr) (rest : List Operand) → Gives c (sum inner first rest) (sum inner first rest)
     unfolding sum
     sum_respects first rest = next c (evals first) λ x y h. operands_respect x y rest h
 
-    append_respects : (on e : Expr) → Gives (append inner on e) (append inner on e)
-    unfolding append
-    append_respects on e =
+    sign_respects : (minus : Bool) (e : Expr) → Gives c (sign inner minus e) (sign inner minus e)
+    unfolding sign
+    sign_respects minus e = next c (next c (step_respects c) λ _ _ _. evals e) λ v w h. signed_respects c minus v w h
+
+    negation_respects : (e : Expr) → Gives c (negation inner e) (negation inner e)
+    unfolding negation
+    negation_respects e =
         next c (step_respects c) λ _ _ _.
-        next c (evals on) λ x y h.
-        next c (receiver_respects x y h) λ a b p.
-        next c (evals e) λ v w k.
-        next c (charge_respects c (weight v) (weight w) (same_weight v w k)) λ _ _ _.
-        next c (change_respects c a b (changes.Push v) (changes.Push w) p (push v w k)) λ _ _ _.
-        plain_gives value.Nothing refl
+        next c (evals e) λ v w h.
+        next c (truth_respects c v w h) λ b d f.
+        subst (λ x. Gives c (pure (value.Bool (not b))) (pure (value.Bool (not x)))) f (plain_gives c (value.Bool (not b)) refl)
 
-    method_respects : (on : Expr) (name : Name) (args : List Expr) → Gives (method inner on name args) (method inner on name args)
-    method_respects on name (e ∷ []) = choose_respects c (Values c) (same_text name append_name) (same_text name append_name) _ _ _ _ refl (append_respects on e) unsupported_gives
-    method_respects on name [] = unsupported_gives
-    method_respects on name (e ∷ d ∷ es) = unsupported_gives
+    conditional_respects : (test first second : Expr) → Gives c (conditional inner test first second) (conditional inner test first second)
+    unfolding conditional
+    conditional_respects test first second =
+        next c (step_respects c) λ _ _ _.
+        next c (evals test) λ v w h.
+        next c (truth_respects c v w h) λ b d e.
+        choose_respects c (Values c) b d _ _ _ _ e (evals first) (evals second)
 
-    drawn_respects : Gives drawn drawn
-    unfolding drawn
-    drawn_respects = next c (draw_respects c) λ w w' e. pure_respects c (Values c) (value.Number (pos w)) (value.Number (pos w')) (subst (λ z. Values c (value.Number (pos w)) (value.Number (pos z))) e (equal (value.Number (pos w)) refl))
+    any_respects : (e : Expr) (es : List Expr) → Gives c (any_of inner e es) (any_of inner e es)
+    any_respects e [] = evals e
+    any_respects e (d ∷ es) =
+        next c (evals e) λ v w h.
+        next c (truth_respects c v w h) λ b b' f.
+        choose_respects c (Values c) b b' _ _ _ _ f (pure_respects c (Values c) v w h) (next c (step_respects c) λ _ _ _. any_respects d es)
 
-    not_called_respects : (v w : Value) → Values c v w → Gives (not_called v) (not_called w)
-    unfolding not_called
-    not_called_respects v w h = next c (kind_of_respects c v w h) λ k l e. fail_respects c (Values c) (not_callable k) (not_callable l) (ap (λ i. not_callable i) e)
+    all_respect : (e : Expr) (es : List Expr) → Gives c (all_of inner e es) (all_of inner e es)
+    all_respect e [] = evals e
+    all_respect e (d ∷ es) =
+        next c (evals e) λ v w h.
+        next c (truth_respects c v w h) λ b b' f.
+        choose_respects c (Values c) b b' _ _ _ _ f (next c (step_respects c) λ _ _ _. all_respect d es) (pure_respects c (Values c) v w h)
 
-    module _ (writes : (v w : Value) → Values c v w → Respects c Equal (inner.write v) (inner.write w)) where
-      print_respects : (v w : Value) → Values c v w → Gives (print inner v) (print inner w)
-      unfolding print
-      print_respects v w h =
-          next c (writes v w h) λ text other e.
-          next c (charge_respects c (length (text ++ 10 ∷ [])) (length (other ++ 10 ∷ [])) (same_list (text ++ 10 ∷ []) (other ++ 10 ∷ []) (ap (λ z. z ++ 10 ∷ []) e))) λ _ _ _.
-          next c (write_respects c (text ++ 10 ∷ []) (other ++ 10 ∷ []) (ap (λ z. z ++ 10 ∷ []) e)) λ _ _ _.
-          plain_gives value.Nothing refl
+    disjunction_respects : (es : List Expr) → Gives c (disjunction inner es) (disjunction inner es)
+    disjunction_respects [] = plain_gives c (value.Bool false) refl
+    disjunction_respects (e ∷ es) = any_respects e es
 
-      printed_respects : (vs ws : List Value) → AllZip (Values c) vs ws → Gives (called inner (value.Builtin builtin.Print) vs) (called inner (value.Builtin builtin.Print) ws)
-      printed_respects (v ∷ []) (w ∷ []) h = print_respects v w h.0
-      printed_respects [] [] h = unsupported_gives
-      printed_respects (v ∷ v' ∷ vs) (w ∷ w' ∷ ws) h = unsupported_gives
-      printed_respects [] (w ∷ ws) h = absurd h
-      printed_respects (v ∷ vs) [] h = absurd h
-      printed_respects (v ∷ []) (w ∷ w' ∷ ws) h = absurd h.1
-      printed_respects (v ∷ v' ∷ vs) (w ∷ []) h = absurd h.1
+    conjunction_respects : (es : List Expr) → Gives c (conjunction inner es) (conjunction inner es)
+    conjunction_respects [] = plain_gives c (value.Bool true) refl
+    conjunction_respects (e ∷ es) = all_respect e es
 
-      draws_respect : (vs ws : List Value) → AllZip (Values c) vs ws → Gives (called inner (value.Builtin builtin.Draw) vs) (called inner (value.Builtin builtin.Draw) ws)
-      draws_respect [] [] h = drawn_respects
-      draws_respect (v ∷ vs) (w ∷ ws) h = unsupported_gives
-      draws_respect [] (w ∷ ws) h = absurd h
-      draws_respect (v ∷ vs) [] h = absurd h
+    -- ---- comparisons
 
-      builtin_respects : (b : Builtin) (vs ws : List Value) → AllZip (Values c) vs ws → Gives (called inner (value.Builtin b) vs) (called inner (value.Builtin b) ws)
-      builtin_respects builtin.Print vs ws h = printed_respects vs ws h
-      builtin_respects builtin.Draw vs ws h = draws_respect vs ws h
-      builtin_respects _ vs ws h = unsupported_gives
+    -- an operand to go on with, or none
+    data Goes : Option Value → Option Value → Type 0 where
+      nothing : Goes None None
+      some : (v w : Value) → Values c v w → Goes (Some v) (Some w)
 
-      plain_called : (v : Value) (vs ws : List Value) → value_refs v ≡ [] → AllZip (Values c) vs ws → Gives (called inner v vs) (called inner v ws)
-      plain_called (value.Builtin b) vs ws n h = builtin_respects b vs ws h
-      plain_called v vs ws n h = not_called_respects v v (equal v n)
+    cond_goes : (b d : Bool) (v w : Value) → b ≡ d → Values c v w → Goes (cond b (Some v) None) (cond d (Some w) None)
+    cond_goes true true v w e h = some v w h
+    cond_goes false false v w e h = nothing
+    cond_goes true false v w e h = let no : ⊥ = cc in absurd no
+    cond_goes false true v w e h = let no : ⊥ = cc in absurd no
 
-      called_respects : (v w : Value) (vs ws : List Value) → Values c v w → AllZip (Values c) vs ws → Gives (called inner v vs) (called inner w ws)
-      called_respects _ _ vs ws (equal v n) h = plain_called v vs ws n h
-      called_respects _ _ vs ws (refs a b p) h = not_called_respects (value.Ref a) (value.Ref b) (refs a b p)
+    cond_stops : (b d : Bool) (v w : Value) → b ≡ d → Values c v w → Goes (cond b None (Some v)) (cond d None (Some w))
+    cond_stops true true v w e h = nothing
+    cond_stops false false v w e h = some v w h
+    cond_stops true false v w e h = let no : ⊥ = cc in absurd no
+    cond_stops false true v w e h = let no : ⊥ = cc in absurd no
 
-      call_respects : (callee : Expr) (args : List Expr) → Gives (call inner callee args) (call inner callee args)
-      unfolding call
-      call_respects callee args =
-          next c (step_respects c) λ _ _ _.
-          next c (evals callee) λ v w h.
-          next c (items_respect args) λ vs ws k.
-          called_respects v w vs ws h k
+    same_none : (v w : Value) → Values c v w → is_none v ≡ is_none w
+    same_none _ _ (equal v n) = refl
+    same_none _ _ (refs a b p) = refl
 
-      expression_respects : (e : Expr-F Expr Relation Operand Pair) → Gives (expression inner e) (expression inner e)
-      expression_respects (Expr-F.Name name) = next c (step_respects c) λ _ _ _. look_respects c name
-      expression_respects (Expr-F.Literal constant) = literal_respects constant
-      expression_respects (Expr-F.ListOf es) = display_respects es
-      expression_respects (Expr-F.Sum first rest) = sum_respects first rest
-      expression_respects (Expr-F.Method on name args) = method_respects on name args
-      expression_respects (Expr-F.Call callee args) = call_respects callee args
-      expression_respects _ = unsupported_gives
+    with_right_respects : (v w : Value) (o : Op) (e : Expr) → Values c v w → Respects c Goes (with_right inner v o e) (with_right inner w o e)
+    unfolding with_right
+    with_right_respects v w o e h =
+        next c (evals e) λ x y k.
+        next c (compared_respects c inner.left o v w x y h k) λ b d f.
+        pure_respects c Goes _ _ (cond_goes b d x y f k)
+
+    related_respects : (v w : Value) (r : Relation-F Expr Relation Operand Pair) → Values c v w → Respects c Goes (related inner v r) (related inner w r)
+    related_respects v w (Relation-F.With o e) h = with_right_respects v w o e h
+    related_respects v w Relation-F.IsNone h = pure_respects c Goes _ _ (cond_goes _ _ v w (same_none v w h) h)
+    related_respects v w Relation-F.IsNotNone h = pure_respects c Goes _ _ (cond_stops _ _ value.Nothing value.Nothing (same_none v w h) (equal value.Nothing refl))
+
+    goes_with : (o u : Option Value) (p : Value → Act Value) → Goes o u → ((v w : Value) → Values c v w → Gives c (p v) (p w)) → Gives c (if_related inner o p) (if_related inner u p)
+    goes_with _ _ p nothing k = plain_gives c (value.Bool false) refl
+    goes_with _ _ p (some v w h) k = k v w h
+
+    relations_respect : (rs : List Relation) (v w : Value) → Values c v w → Gives c (relations inner v rs) (relations inner w rs)
+    relations_respect [] v w h = plain_gives c (value.Bool true) refl
+    relations_respect (r ∷ rs) v w h =
+        next c (next c (step_respects c) λ _ _ _. related_respects v w (out-Relation r) h) λ o u k.
+        goes_with o u (λ held. relations inner held rs) k (λ x y m. relations_respect rs x y m)
+
+    comparison_respects : (first : Expr) (rest : List Relation) → Gives c (comparison inner first rest) (comparison inner first rest)
+    unfolding comparison
+    comparison_respects first rest = next c (evals first) λ v w h. relations_respect rest v w h
+
+    -- ---- dicts
+
+    pairs_from_respects : (vs ws : List (Value × Value)) (ps : List Pair) → Evaluated c vs ws → Respects c (Evaluated c) (pairs_from inner vs ps) (pairs_from inner ws ps)
+    pairs_from_respects vs ws [] h = pure_respects c (Evaluated c) vs ws h
+    pairs_from_respects vs ws (p ∷ ps) h =
+        next c (evals (out-Pair p).key) λ x y k.
+        next c (evals (out-Pair p).value) λ v w m.
+        pairs_from_respects (vs ++ (x, v) ∷ []) (ws ++ (y, w) ∷ []) ps (AllZip-push (λ x y. Values c x.0 y.0 × Values c x.1 y.1) vs ws (x, v) (y, w) h (k, m))
+
+    dict_display_respects : (ps : List Pair) → Gives c (dict_display inner ps) (dict_display inner ps)
+    unfolding dict_display
+    dict_display_respects ps =
+        next c (step_respects c) λ _ _ _.
+        next c (pairs_from_respects [] [] ps tt) λ vs ws h.
+        next c (keys_from_respects c [] [] vs ws tt h) λ xs ys k.
+        next c (charge_respects c 1 1 refl) λ _ _ _.
+        next c (add_respects c (object.Dict []) (object.Dict []) tt c.rules.dict_fit) λ a b p.
+        filled_respects c a b xs ys p k
+
+    -- ---- items, methods and calls
+
+    index_respects : (e at : Expr) → Gives c (index inner e at) (index inner e at)
+    unfolding index
+    index_respects e at =
+        next c (step_respects c) λ _ _ _.
+        next c (evals e) λ v w h.
+        next c (evals at) λ x y k.
+        indexed_respects c v w x y h k
+
+    if_there_respects : (e : Option Expr) → Respects c (Held c) (if_there inner e) (if_there inner e)
+    if_there_respects None = pure_respects c (Held c) None None tt
+    if_there_respects (Some e) = next c (evals e) λ v w h. pure_respects c (Held c) (Some v) (Some w) h
+
+    slice_respects : (e : Expr) (from to : Option Expr) → Gives c (slice inner e from to) (slice inner e from to)
+    unfolding slice
+    slice_respects e from to =
+        next c (step_respects c) λ _ _ _.
+        next c (evals e) λ v w h.
+        next c (if_there_respects from) λ o u k.
+        next c (if_there_respects to) λ o' u' m.
+        sliced_respects c v w o u o' u' h k m
+
+    method_respects : (on : Expr) (name : Name) (args : List Expr) → Gives c (method inner on name args) (method inner on name args)
+    unfolding method
+    method_respects on name args =
+        next c (step_respects c) λ _ _ _.
+        next c (evals on) λ v w h.
+        next c (method_of_respects c v w name h) λ m n k.
+        next c (items_respect args) λ vs ws l.
+        method_called_respects c m n vs ws k l
+
+    same_text_act : (text other : List ℕ) → text ≡ other → Respects c Equal (pure text) (pure other)
+    same_text_act text other e = pure_respects c Equal text other e
+
+    words_respect : (text : List ℕ) (vs ws : List Value) → AllZip (Values c) vs ws → Respects c Equal (words inner text vs) (words inner text ws)
+    words_respect text [] [] h = same_text_act _ _ refl
+    words_respect text (v ∷ vs) (w ∷ ws) h =
+        next c (writes v w h.0) λ word other e.
+        subst (λ (z : List ℕ). Respects c Equal (words inner ((text ++ codes " ") ++ word) vs) (words inner ((text ++ codes " ") ++ z) ws)) e (words_respect ((text ++ codes " ") ++ word) vs ws h.1)
+    words_respect text [] (w ∷ ws) h = absurd h
+    words_respect text (v ∷ vs) [] h = absurd h
+
+    line_respects : (vs ws : List Value) → AllZip (Values c) vs ws → Respects c Equal (line inner vs) (line inner ws)
+    line_respects [] [] h = same_text_act _ _ refl
+    line_respects (v ∷ vs) (w ∷ ws) h =
+        next c (writes v w h.0) λ word other e.
+        subst (λ (z : List ℕ). Respects c Equal (words inner word vs) (words inner z ws)) e (words_respect word vs ws h.1)
+    line_respects [] (w ∷ ws) h = absurd h
+    line_respects (v ∷ vs) [] h = absurd h
+
+    print_respects : (vs ws : List Value) → AllZip (Values c) vs ws → Gives c (print inner vs) (print inner ws)
+    unfolding print
+    print_respects vs ws h =
+        next c (line_respects vs ws h) λ text other e.
+        next c (charge_respects c (length text) (length other) (same_list c text other e)) λ _ _ _.
+        next c (write_respects c text other e) λ _ _ _.
+        plain_gives c value.Nothing refl
+
+    text_gives : (text other : List ℕ) → text ≡ other → Gives c (pure (value.Text text)) (pure (value.Text other))
+    text_gives text other e = subst (λ (t : List ℕ). Gives c (pure (value.Text text)) (pure (value.Text t))) e (plain_gives c (value.Text text) refl)
+
+    plain_str : (v : Value) (text other : List ℕ) → value_refs v ≡ [] → text ≡ other → Gives c (str_of inner v text) (str_of inner v other)
+    plain_str (value.Ref at) text other n e = cc
+    plain_str (value.Text bytes) text other n e = text_gives text other e
+    plain_str v text other n e = made_text_respects c text other e
+
+    str_of_respects : (v w : Value) (text other : List ℕ) → Values c v w → text ≡ other → Gives c (str_of inner v text) (str_of inner w other)
+    str_of_respects _ _ text other (equal v n) e = plain_str v text other n e
+    str_of_respects _ _ text other (refs a b p) e = made_text_respects c text other e
+
+    str_respects : (v w : Value) → Values c v w → Gives c (str inner v) (str inner w)
+    unfolding str
+    str_respects v w h = next c (writes v w h) λ text other e. str_of_respects v w text other h e
+
+    str_called_respects : (vs ws : List Value) → Zips (Values c) vs ws → Gives c (str_called inner vs) (str_called inner ws)
+    str_called_respects _ _ (one_more v w _ _ h no_more) = str_respects v w h
+    str_called_respects vs ws _ = wrong_respects c (codes "str")
+
+    repr_respects : (v w : Value) → Values c v w → Gives c (repr inner v) (repr inner w)
+    unfolding repr
+    repr_respects v w h = next c (shown_respects c inner.left [] [] [] v w tt h) λ text other e. made_text_respects c text other e
+
+    repr_called_respects : (vs ws : List Value) → Zips (Values c) vs ws → Gives c (repr_called inner vs) (repr_called inner ws)
+    repr_called_respects _ _ (one_more v w _ _ h no_more) = repr_respects v w h
+    repr_called_respects vs ws _ = wrong_respects c (codes "repr")
+
+    builtin_respects : (b : Builtin) (vs ws : List Value) → AllZip (Values c) vs ws → Gives c (builtin_called inner b vs) (builtin_called inner b ws)
+    builtin_respects builtin.Print vs ws h = print_respects vs ws h
+    builtin_respects builtin.Draw vs ws h = draw_called_respects c vs ws h
+    builtin_respects builtin.Len vs ws h = len_called_respects c vs ws h
+    builtin_respects builtin.Str vs ws h = str_called_respects vs ws (zips (Values c) vs ws h)
+    builtin_respects builtin.Repr vs ws h = repr_called_respects vs ws (zips (Values c) vs ws h)
+    builtin_respects builtin.Int vs ws h = int_called_respects c vs ws (zips (Values c) vs ws h)
+    builtin_respects builtin.Range vs ws h = fail_respects c (Values c) range_elsewhere range_elsewhere refl
+    builtin_respects builtin.Handle vs ws h = handle_called_respects c vs ws (zips (Values c) vs ws h)
+    builtin_respects builtin.Tell vs ws h = tell_called_respects c vs ws (zips (Values c) vs ws h)
+
+    entered_respects : (def : Def) (vs ws : List Value) → c.rules.fit (object.Function def) → AllZip (Values c) vs ws → Gives c (entered inner def vs) (entered inner def ws)
+    unfolding entered
+    entered_respects def vs ws fit h =
+        next c (enter_respects c (frame_of def vs) (frame_of def ws) (frame_match c def vs ws h)) λ f g k.
+        next c (block_respects def.body (c.rules.bodies def fit)) λ e e' m.
+        next c (leave_respects c f g k) λ _ _ _.
+        pure_respects c (Values c) (returned e) (returned e') (returned_match c e e' m)
+
+    function_respects : (def : Def) (vs ws : List Value) → c.rules.fit (object.Function def) → AllZip (Values c) vs ws → Gives c (function_called inner def vs) (function_called inner def ws)
+    function_respects def vs ws fit h =
+        choose_respects c (Values c) _ _ _ _ _ _ (ap (λ n. n == length def.params) (zip_length (Values c) vs ws h)) (entered_respects def vs ws fit h) (wrong_respects c def.name)
+
+    no_call : (o u : Option Object) → Slots c o u → Gives c (fail (not_callable (object_kind o))) (fail (not_callable (object_kind u)))
+    no_call o u h = fail_respects c (Values c) _ _ (ap (λ k. not_callable k) (object_kinds c o u h))
+
+    object_called_respects : (vs ws : List Value) (o u : Option Object) → AllZip (Values c) vs ws → Slots c o u → IfThere c.rules.fit o → Gives c (object_called inner vs o) (object_called inner ws u)
+    object_called_respects vs ws (Some (object.Function def)) (Some (object.Function other)) k h fit =
+        subst (λ d. Gives c (function_called inner def vs) (function_called inner d ws)) h (function_respects def vs ws fit k)
+    object_called_respects vs ws (Some (object.List xs)) (Some (object.List ys)) k h fit = no_call (Some (object.List xs)) (Some (object.List ys)) h
+    object_called_respects vs ws (Some (object.Dict xs)) (Some (object.Dict ys)) k h fit = no_call (Some (object.Dict xs)) (Some (object.Dict ys)) h
+    object_called_respects vs ws (Some (object.Handle name uses)) (Some (object.Handle other others)) k h fit = no_call (Some (object.Handle name uses)) (Some (object.Handle other others)) h
+    object_called_respects vs ws (Some _) (Some _) k h fit = absurd h
+    object_called_respects vs ws None None k h fit = no_call None None h
+    object_called_respects vs ws None (Some u) k h fit = absurd h
+    object_called_respects vs ws (Some o) None k h fit = absurd h
+
+    ref_called_respects : (a b : ℕ) (vs ws : List Value) → Paired c a b → AllZip (Values c) vs ws → Gives c (ref_called inner a vs) (ref_called inner b ws)
+    unfolding ref_called
+    ref_called_respects a b vs ws p k = next c (object_found c a b p) λ o u h. object_called_respects vs ws o u k h.0 h.1
+
+    plain_called : (v : Value) (vs ws : List Value) → value_refs v ≡ [] → AllZip (Values c) vs ws → Gives c (called inner v vs) (called inner v ws)
+    plain_called (value.Builtin b) vs ws n h = builtin_respects b vs ws h
+    plain_called (value.Ref at) vs ws n h = cc
+    plain_called v vs ws n h = not_called_respects c v v (equal v n)
+
+    called_respects : (v w : Value) (vs ws : List Value) → Values c v w → AllZip (Values c) vs ws → Gives c (called inner v vs) (called inner w ws)
+    called_respects _ _ vs ws (equal v n) h = plain_called v vs ws n h
+    called_respects _ _ vs ws (refs a b p) h = ref_called_respects a b vs ws p h
+
+    call_respects : (callee : Expr) (args : List Expr) → Gives c (call inner callee args) (call inner callee args)
+    unfolding call
+    call_respects callee args =
+        next c (step_respects c) λ _ _ _.
+        next c (evals callee) λ v w h.
+        next c (items_respect args) λ vs ws k.
+        called_respects v w vs ws h k
+
+    expression_respects : (e : Expr-F Expr Relation Operand Pair) → Gives c (expression inner e) (expression inner e)
+    expression_respects (Expr-F.Name name) = next c (step_respects c) λ _ _ _. look_respects c name
+    expression_respects (Expr-F.Literal constant) = literal_respects c constant
+    expression_respects (Expr-F.ListOf es) = display_respects es
+    expression_respects (Expr-F.Conditional test first second) = conditional_respects test first second
+    expression_respects (Expr-F.Or es) = disjunction_respects es
+    expression_respects (Expr-F.And es) = conjunction_respects es
+    expression_respects (Expr-F.Not e) = negation_respects e
+    expression_respects (Expr-F.Compare first rest) = comparison_respects first rest
+    expression_respects (Expr-F.Sum first rest) = sum_respects first rest
+    expression_respects (Expr-F.Product first rest) = sum_respects first rest
+    expression_respects (Expr-F.Sign minus e) = sign_respects minus e
+    expression_respects (Expr-F.Method on name args) = method_respects on name args
+    expression_respects (Expr-F.Call callee args) = call_respects callee args
+    expression_respects (Expr-F.DictOf pairs) = dict_display_respects pairs
+    expression_respects (Expr-F.Index e at) = index_respects e at
+    expression_respects (Expr-F.Slice e from to) = slice_respects e from to
 
     -- ---- statements
 
-    assign_respects : (name : Name) (e : Expr) → Flows (assign inner name e) (assign inner name e)
+    assign_respects : (name : Name) (e : Expr) → c.rules.may name → Flows c (assign inner name e) (assign inner name e)
     unfolding assign
-    assign_respects name e =
+    assign_respects name e may =
         next c (step_respects c) λ _ _ _.
         next c (evals e) λ v w h.
-        next c (bind_respects c name v w h) λ _ _ _.
-        goes_on
+        next c (store_respects c name v w may h) λ _ _ _.
+        goes c flow.Next flow.Next to_next
 
-    assigned_respects : (target : Target) (e : Expr) → Flows (assigned inner target e) (assigned inner target e)
-    assigned_respects (target.Name name) e = assign_respects name e
-    assigned_respects (target.Item value at) e = fail_respects c (FlowsMatch (Paired c)) unsupported_form unsupported_form refl
+    assign_item_respects : (on at e : Expr) → Flows c (assign_item inner on at e) (assign_item inner on at e)
+    unfolding assign_item
+    assign_item_respects on at e =
+        next c (step_respects c) λ _ _ _.
+        next c (evals e) λ v w h.
+        next c (evals on) λ r s k.
+        next c (evals at) λ x y m.
+        next c (item_stored_respects c r s x y v w k m h) λ _ _ _.
+        goes c flow.Next flow.Next to_next
 
-    show_respects : (e : Expr) → Flows (show inner e) (show inner e)
-    show_respects e = next c (next c (step_respects c) λ _ _ _. evals e) λ _ _ _. goes_on
+    assigned_respects : (place : Target) (e : Expr) → BindsAt c.rules.may place → Flows c (assigned inner place e) (assigned inner place e)
+    assigned_respects (target.Name name) e may = assign_respects name e may
+    assigned_respects (target.Item on at) e may = assign_item_respects on at e
 
-    statement_respects : (s : Stmt-F Stmt Arm Def) → Flows (statement inner s) (statement inner s)
-    statement_respects (Stmt-F.Assign target e) = assigned_respects target e
-    statement_respects (Stmt-F.Expression e) = show_respects e
-    statement_respects _ = fail_respects c (FlowsMatch (Paired c)) unsupported_form unsupported_form refl
+    as_expression_respects : Respects c Any (as_expression inner) (as_expression inner)
+    unfolding as_expression
+    as_expression_respects = choose_respects c Any (inner.left == 0) (inner.left == 0) _ _ _ _ refl (fail_respects c Any recursion_error recursion_error refl) (step_respects c)
+
+    augment_respects : (name : Name) (o : Op) (e : Expr) → c.rules.may name → Flows c (augment inner name o e) (augment inner name o e)
+    unfolding augment
+    augment_respects name o e may =
+        next c (step_respects c) λ _ _ _.
+        next c as_expression_respects λ _ _ _.
+        next c (look_respects c name) λ x y h.
+        next c (evals e) λ v w k.
+        next c (augmented_respects c o x y v w h k) λ r s m.
+        next c (store_respects c name r s may m) λ _ _ _.
+        goes c flow.Next flow.Next to_next
+
+    augment_item_respects : (on at : Expr) (o : Op) (e : Expr) → Flows c (augment_item inner on at o e) (augment_item inner on at o e)
+    unfolding augment_item
+    augment_item_respects on at o e =
+        next c (step_respects c) λ _ _ _.
+        next c as_expression_respects λ _ _ _.
+        next c (parts on) λ r s h.
+        next c (parts at) λ x y k.
+        next c (indexed_respects c r s x y h k) λ i j m.
+        next c (evals e) λ v w l.
+        next c (augmented_respects c o i j v w m l) λ new other q.
+        next c (item_stored_respects c r s x y new other h k q) λ _ _ _.
+        goes c flow.Next flow.Next to_next
+
+    augment_at_respects : (place : Target) (o : Op) (e : Expr) → BindsAt c.rules.may place → Flows c (augment_at inner place o e) (augment_at inner place o e)
+    augment_at_respects (target.Name name) o e may = augment_respects name o e may
+    augment_at_respects (target.Item on at) o e may = augment_item_respects on at o e
+
+    delete_item_respects : (on at : Expr) → Flows c (delete_item inner on at) (delete_item inner on at)
+    unfolding delete_item
+    delete_item_respects on at =
+        next c (step_respects c) λ _ _ _.
+        next c (evals on) λ r s h.
+        next c (evals at) λ x y k.
+        next c (item_deleted_respects c r s x y h k) λ _ _ _.
+        goes c flow.Next flow.Next to_next
+
+    deleted_respects : (target : Target) → Flows c (deleted inner target) (deleted inner target)
+    deleted_respects (target.Name name) = delete_respects c name
+    deleted_respects (target.Item on at) = delete_item_respects on at
+
+    show_respects : (e : Expr) → Flows c (show inner e) (show inner e)
+    show_respects e = next c (next c (step_respects c) λ _ _ _. evals e) λ _ _ _. goes c flow.Next flow.Next to_next
+
+    return_respects : (e : Option Expr) → Flows c (return inner e) (return inner e)
+    return_respects None = next c (step_respects c) λ _ _ _. goes c (flow.Return value.Nothing) (flow.Return value.Nothing) (returns value.Nothing value.Nothing (equal value.Nothing refl))
+    return_respects (Some e) = next c (next c (step_respects c) λ _ _ _. evals e) λ v w h. goes c (flow.Return v) (flow.Return w) (returns v w h)
+
+    arms_respect : (tests : List Arm) (other : List Stmt) → AllByRecursion (λ arm. AllByRecursion c.rules.runs (out-Arm arm).body) tests → AllByRecursion c.rules.runs other → Flows c (arms inner tests other) (arms inner tests other)
+    arms_respect [] other r q = block_respects other q
+    arms_respect (arm ∷ more) other r q =
+        next c (evals (out-Arm arm).test) λ v w h.
+        next c (truth_respects c v w h) λ b d e.
+        choose_respects c (FlowsMatch (Paired c)) b d _ _ _ _ e (block_respects (out-Arm arm).body r.0) (arms_respect more other r.1 q)
+
+    after_turn_respects : (e f : Flow) (p q : Act Flow) → FlowsMatch (Paired c) e f → Flows c p q → Flows c (after_turn e p) (after_turn f q)
+    after_turn_respects _ _ p q to_next k = k
+    after_turn_respects _ _ p q continues k = k
+    after_turn_respects _ _ p q breaks k = goes c flow.Next flow.Next to_next
+    after_turn_respects _ _ p q (returns v w h) k = goes c (flow.Return v) (flow.Return w) (returns v w h)
+
+    turns_respect : (n : ℕ) (test : Expr) (body : List Stmt) → AllByRecursion c.rules.runs body → Flows c (turns inner n test body) (turns inner n test body)
+    unfolding turns
+    turns_respect zero test body r = fail_respects c (FlowsMatch (Paired c)) step_limit_error step_limit_error refl
+    turns_respect (suc n) test body r =
+        next c (evals test) λ v w h.
+        next c (truth_respects c v w h) λ b d e.
+        choose_respects c (FlowsMatch (Paired c)) b d _ _ _ _ e
+        (next c (block_respects body r) λ x y k. after_turn_respects x y _ _ k (turns_respect n test body r)) (goes c flow.Next flow.Next to_next)
+
+    repeat_respects : (test : Expr) (body : List Stmt) → AllByRecursion c.rules.runs body → Flows c (repeat inner test body) (repeat inner test body)
+    unfolding repeat
+    repeat_respects test body r = next c (step_respects c) λ _ _ _. turns_respect most_turns test body r
+
+    -- ---- `for`
+
+    part_items_respect : (vs ws : List Value) (es : List Expr) → AllZip (Values c) vs ws → Respects c (AllZip (Values c)) (part_items_from inner vs es) (part_items_from inner ws es)
+    part_items_respect vs ws [] h = pure_respects c (AllZip (Values c)) vs ws h
+    part_items_respect vs ws (e ∷ es) h = next c (parts e) λ v w k. part_items_respect (vs ++ v ∷ []) (ws ++ w ∷ []) es (AllZip-push (Values c) vs ws v w h k)
+
+    source_made : (v w : Value) (vs ws : List Value) → Values c v w → AllZip (Values c) vs ws → Iterates c (inner.calls v vs >>= iterated) (inner.calls w ws >>= iterated)
+    source_made v w vs ws h k = next c (calls v w vs ws h k) λ x y m. iterated_respects c x y m
+
+    plain_source : (v : Value) (vs ws : List Value) → value_refs v ≡ [] → AllZip (Values c) vs ws → Iterates c (source_called inner v vs) (source_called inner v ws)
+    plain_source (value.Builtin builtin.Range) vs ws n h = range_of_respects c vs ws (zips (Values c) vs ws h)
+    plain_source v vs ws n h = source_made v v vs ws (equal v n) h
+
+    source_called_respects : (v w : Value) (vs ws : List Value) → Values c v w → AllZip (Values c) vs ws → Iterates c (source_called inner v vs) (source_called inner w ws)
+    source_called_respects _ _ vs ws (equal v n) h = plain_source v vs ws n h
+    source_called_respects _ _ vs ws (refs a b p) h = source_made (value.Ref a) (value.Ref b) vs ws (refs a b p) h
+
+    call_source_respects : (callee : Expr) (args : List Expr) → Iterates c (call_source inner callee args) (call_source inner callee args)
+    unfolding call_source
+    call_source_respects callee args =
+        next c as_expression_respects λ _ _ _.
+        next c (parts callee) λ v w h.
+        next c (part_items_respect [] [] args tt) λ vs ws k.
+        source_called_respects v w vs ws h k
+
+    source_evaluated : (e : Expr) → Iterates c (inner.eval e >>= iterated) (inner.eval e >>= iterated)
+    source_evaluated e = next c (evals e) λ v w h. iterated_respects c v w h
+
+    source_respects : (e : Expr) (opened : Expr-F Expr Relation Operand Pair) → Iterates c (source_of inner e opened) (source_of inner e opened)
+    source_respects e (Expr-F.Call callee args) = call_source_respects callee args
+    source_respects e _ = source_evaluated e
+
+    turn_respects : (name : Name) (o u : Next) (p q : Iteration → Act Flow) → c.rules.may name → Nexts c o u → ((r s : Iteration) → IterationsMatch (Paired c) r s → Flows c (p r) (q s))
+        → Flows c (turn inner name o p) (turn inner name u q)
+    turn_respects name (Some x) (Some y) p q may h k = next c (next c (step_respects c) λ _ _ _. store_respects c name x.0 y.0 may h.0) λ _ _ _. k x.1 y.1 h.1
+    turn_respects name None None p q may h k = goes c flow.Next flow.Next to_next
+    turn_respects name (Some x) None p q may h k = absurd h
+    turn_respects name None (Some y) p q may h k = absurd h
+
+    rounds_respect : (n : ℕ) (name : Name) (body : List Stmt) (r s : Iteration) → c.rules.may name → AllByRecursion c.rules.runs body → IterationsMatch (Paired c) r s → Flows c (rounds inner n name body r) (rounds inner n name body s)
+    unfolding rounds
+    rounds_respect zero name body r s may all h = fail_respects c (FlowsMatch (Paired c)) step_limit_error step_limit_error refl
+    rounds_respect (suc n) name body r s may all h =
+        next c (advance_respects c r s h) λ o u k.
+        turn_respects name o u _ _ may k λ r' s' m. next c (block_respects body all) λ x y l. after_turn_respects x y _ _ l (rounds_respect n name body r' s' may all m)
+
+    for_respects : (name : Name) (e : Expr) (body : List Stmt) → c.rules.may name × AllByRecursion c.rules.runs body → Flows c (for_each inner name e body) (for_each inner name e body)
+    unfolding for_each
+    for_respects name e body all = next c (next c (step_respects c) λ _ _ _. source_respects e (out-Expr e)) λ r s h. rounds_respect most_turns name body r s all.0 all.1 h
+
+    one_step : (e : Flow) → FlowsMatch (Paired c) e e → Flows c (step >> pure e) (step >> pure e)
+    one_step e h = next c (step_respects c) λ _ _ _. goes c e e h
+
+    statement_respects : (s : Stmt-F Stmt Arm Def) → Opens c.rules.may c.rules.fit c.rules.runs s → Flows c (statement inner s) (statement inner s)
+    statement_respects Stmt-F.Pass r = one_step flow.Next to_next
+    statement_respects Stmt-F.Break r = one_step flow.Break breaks
+    statement_respects Stmt-F.Continue r = one_step flow.Continue continues
+    statement_respects (Stmt-F.Return e) r = return_respects e
+    statement_respects (Stmt-F.Global names) r = one_step flow.Next to_next
+    statement_respects (Stmt-F.Delete place) r = deleted_respects place
+    statement_respects (Stmt-F.Assign place e) r = assigned_respects place e r
+    statement_respects (Stmt-F.Augment place o e) r = augment_at_respects place o e r
+    statement_respects (Stmt-F.Expression e) r = show_respects e
+    statement_respects (Stmt-F.If tests other) r = next c (step_respects c) λ _ _ _. arms_respect tests other r.0 r.1
+    statement_respects (Stmt-F.While test body) r = repeat_respects test body r
+    statement_respects (Stmt-F.For name source body) r = for_respects name source body r
+    statement_respects (Stmt-F.Function def) r = define_respects c def r
 
   -- ---- the levels
 
   record LevelRespects (n : ℕ) : Type 0 where
-    evals : (e : Expr) → Gives ((level n).eval e) ((level n).eval e)
-    execs : (s : Stmt) → Flows ((level n).exec s) ((level n).exec s)
-    writes : (v w : Value) → Values c v w → Respects c Equal ((level n).write v) ((level n).write w)
+    evals : (e : Expr) → Gives c ((level n).eval e) ((level n).eval e)
+    execs : (s : Stmt) → c.rules.runs s → Flows c ((level n).exec s) ((level n).exec s)
+    parts : (e : Expr) → Gives c ((level n).part e) ((level n).part e)
+    calls : (v w : Value) (vs ws : List Value) → Values c v w → AllZip (Values c) vs ws → Gives c ((level n).calls v vs) ((level n).calls w ws)
+
+  no_level : Gives c (fail recursion_error) (fail recursion_error)
+  no_level = fail_respects c (Values c) recursion_error recursion_error refl
 
   level_respects : (n : ℕ) → LevelRespects n
   unfolding level
   level_respects zero = record {
-    evals = λ e. fail_respects c (Values c) recursion_error recursion_error refl;
-    execs = λ s. fail_respects c (FlowsMatch (Paired c)) recursion_error recursion_error refl;
-    writes = written_respects c zero;
+    evals = λ e. no_level;
+    execs = λ s r. fail_respects c (FlowsMatch (Paired c)) recursion_error recursion_error refl;
+    parts = λ e. no_level;
+    calls = λ v w vs ws h k. no_level;
   }
   level_respects (suc n) =
       let below = level_respects n in
       record {
-        evals = λ e. expression_respects (level n) below.evals below.writes (out-Expr e);
-        execs = λ s. statement_respects (level n) below.evals (out-Stmt s);
-        writes = written_respects c (suc n);
+        evals = λ e. expression_respects (level n) below.evals below.execs below.parts below.calls (out-Expr e);
+        execs = λ s r. statement_respects (level n) below.evals below.execs below.parts below.calls (out-Stmt s) (c.rules.opens s r);
+        parts = below.evals;
+        calls = called_respects (level n) below.evals below.execs below.parts below.calls;
       }
 
   -- ---- a cell
@@ -364,28 +574,24 @@ module _ (c : Setting) where
   show_last_respects : (e : Expr) → Results (show_last e) (show_last e)
   show_last_respects e =
       let below = level_respects 799 in
-      next c (next c (step_respects c) λ _ _ _. below.evals e) λ v w h. result_respects v w h
+      next c (next c (step_respects c) λ _ _ _. below.evals e) λ v w h. result_respects c v w h
 
-  exec_last : (s : Stmt) → Results ((level 800).exec s >> pure None) ((level 800).exec s >> pure None)
-  exec_last s =
+  exec_last : (s : Stmt) → c.rules.runs s → Results ((level 800).exec s >> pure None) ((level 800).exec s >> pure None)
+  exec_last s r =
       let below = level_respects 800 in
-      next c (below.execs s) λ _ _ _. pure_respects c Equal None None refl
+      next c (below.execs s r) λ _ _ _. pure_respects c Equal None None refl
 
-  last_respects : (s : Stmt) (opened : Stmt-F Stmt Arm Def) → Results (last s opened) (last s opened)
-  last_respects s (Stmt-F.Expression e) = show_last_respects e
-  last_respects s _ = exec_last s
+  last_respects : (s : Stmt) (opened : Stmt-F Stmt Arm Def) → c.rules.runs s → Results (last s opened) (last s opened)
+  last_respects s (Stmt-F.Expression e) r = show_last_respects e
+  last_respects s _ r = exec_last s r
 
-  top_from_respects : (s : Stmt) (more : List Stmt) → Results (top_from s more) (top_from s more)
-  top_from_respects s [] = last_respects s (out-Stmt s)
-  top_from_respects s (t ∷ more) =
+  top_from_respects : (s : Stmt) (more : List Stmt) → AllByRecursion c.rules.runs (s ∷ more) → Results (top_from s more) (top_from s more)
+  top_from_respects s [] r = last_respects s (out-Stmt s) r.0
+  top_from_respects s (t ∷ more) r =
       let below = level_respects 800 in
-      next c (below.execs s) λ _ _ _. top_from_respects t more
-
-  top_respects : (body : List Stmt) → Results (top body) (top body)
-  top_respects [] = pure_respects c Equal None None refl
-  top_respects (s ∷ more) = top_from_respects s more
+      next c (below.execs s r.0) λ _ _ _. top_from_respects t more r.1
 
   -- a cell on machines that are alike ends in such machines, with the same outcome
-  pub cell_respects : (body : List Stmt) → Respects c Equal (cell body) (cell body)
-  unfolding cell
-  cell_respects body = choose_respects c Equal (is_supported body) (is_supported body) _ _ _ _ refl (top_respects body) (fail_respects c Equal unsupported_form unsupported_form refl)
+  pub cell_respects : (body : List Stmt) → AllByRecursion c.rules.runs body → Respects c Equal (cell body) (cell body)
+  cell_respects [] r = pure_respects c Equal None None refl
+  cell_respects (s ∷ more) r = top_from_respects s more r

@@ -21,7 +21,8 @@ use Rattle.py_laws.proofs.Sparing.{Spared, spared}
 use Rattle.py_laws.proofs.Members.{no_name, no_number}
 use Rattle.py_laws.proofs.Partners.{reach_partner}
 use Rattle.py_laws.proofs.Narrowing.{Narrow, reached_same}
-use Rattle.py_laws.proofs.Respecting.{Setting, Paired, MarksMatch, Alike, ResultsMatch, Ends, Equal}
+use Rattle.py_laws.proofs.Rules.{no_rules, any_body}
+use Rattle.py_laws.proofs.Respecting.{Setting, Paired, Alike, ResultsMatch, Ends, Equal}
 use Rattle.py_laws.proofs.LeastActs.{left_one, right_one}
 use Rattle.py_laws.proofs.Constructs.{cell_respects}
 
@@ -60,17 +61,17 @@ module _ (named : Name → Type 0) (body : List Stmt) (draws : List Drawn) (s t 
   left_spared : Spared (start s) (outcome body s draws).1
   left_spared = spared (cell body) draws (start s)
 
-  grows : length s.heap ≤ length (outcome body s draws).1.state.heap
+  pub grows : length s.heap ≤ length (outcome body s draws).1.state.heap
   grows = left_spared.long
 
   module _ (ps : ℕ → ℕ → Type 0) (h : SameBy ps named s t) where
     abbrev pub setting : Setting
-    setting = record { named = named; base = ps; lefts = length s.heap; rights = length t.heap; most = length (outcome body s draws).1.state.heap - length s.heap; one = h.pairs; old = live_pair ps named s t h }
+    setting = record { named = named; base = ps; lefts = length s.heap; rights = length t.heap; most = length (outcome body s draws).1.state.heap - length s.heap; one = h.pairs; old = live_pair ps named s t h; rules = no_rules }
 
     abbrev pub All : ℕ → ℕ → Type 0
     All = Paired setting
 
-    begins : Alike setting (start s) (start t)
+    pub begins : Alike setting (start s) (start t)
     begins = record {
       counts = record { steps = refl; printed = refl; meter = meters; drawn = refl };
       marks = record { looked = refl; bound = refl; changed = λ a i. absurd (no_number a i); changed_back = λ b i. absurd (no_number b i); drew = refl };
@@ -85,10 +86,12 @@ module _ (named : Name → Type 0) (body : List Stmt) (draws : List Drawn) (s t 
         left_size = omega arith;
         right_size = omega arith;
       };
+      may = λ x v e. tt;
+      fit = λ a o e. tt;
     }
 
     pub ended : Ends setting Equal (outcome body s draws) (outcome body t draws)
-    ended = (cell_respects setting body).ends draws (start s) (start t) begins (record { looks = looks; size = omega (arith, grows) })
+    ended = (cell_respects setting body (any_body body)).ends draws (start s) (start t) begins (record { looks = looks; size = omega (arith, grows) })
 
     live_at_end : (a b : ℕ) → All a b → a < length (outcome body s draws).1.state.heap
     live_at_end a b (inl p) = omega (arith, (live_pair ps named s t h a b p).0, grows)

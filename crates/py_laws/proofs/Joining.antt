@@ -1,7 +1,6 @@
 -- Sameness over some names is by the pairs of what they reach alone, and it joins over names that reach nothing in common.
 use Rattle.std.proofs.Common.{◌≡◌, ℕ, List, [], ◌∷◌, ◌++◌, sym, ◌⊎◌, inl, inr, subst}
-use Rattle.std.specs.Prelude.{Contains, slice_get}
-use Rattle.std.specs.FinMap as finite
+use Rattle.std.specs.Prelude.{Contains}
 use Rattle.std.proofs.lemmas.List.Elements.{Contains-append_left, Contains-append_right, Contains-append_cases}
 use Rattle.py_heap.specs.declared.state.State.{State}
 use Rattle.py_heap.specs.References.{IsClosed}

@@ -1,8 +1,8 @@
 -- The least acts respect alikeness.
-use Rattle.std.proofs.Common.{◌≡◌, ℕ, ◌+◌, ◌<◌, Bool, true, false, cond, List, [], ◌∷◌, ◌++◌, length, Option, Some, None, refl, sym, ap, ap₂, ◌⊎◌, ◌∙◌, inl, inr, subst, set, length-append, arith}
+use Rattle.std.proofs.Common.{◌≡◌, ℕ, zero, suc, ◌+◌, ◌<◌, Bool, true, false, cond, List, [], ◌∷◌, ◌++◌, length, Option, Some, None, refl, sym, ap, ap₂, ◌⊎◌, ◌∙◌, inl, inr, subst, set, length-append, arith}
 use Rattle.std.proofs.Math.ListN.{length-set}
 use Rattle.std.proofs.lemmas.Bool.{cases_eq, cases_order}
-use Rattle.std.proofs.lemmas.Option.{slice_get_within, slice_get_past}
+use Rattle.std.proofs.lemmas.Option.{slice_get_within, slice_get_past, none-some}
 use Rattle.std.proofs.lemmas.List.Elements.{AllZip-push}
 use Rattle.std.specs.Prelude.{slice_get, is_some, nat_lt, nat_le}
 use Rattle.std.specs.Prelude.{insert as inserted, remove as removed}
@@ -11,7 +11,6 @@ use Rattle.std.specs.FinMap as finite
 use Rattle.nb_outside.specs.declared.feed.Drawn.{Drawn}
 use Rattle.nb_outside.specs.declared.feed.Drawn.TheVariants as answer
 use Rattle.py_value.specs.declared.value.Builtin.{Builtin}
-use Rattle.py_value.specs.declared.key.Key.{Key}
 use Rattle.py_value.specs.declared.value.Value.{Value}
 use Rattle.py_value.specs.declared.value.Value.TheVariants as value
 use Rattle.py_heap.specs.declared.heap.Object.{Object}
@@ -32,12 +31,13 @@ use Rattle.py_machine.specs.Marked.{IsIn, with_member, has_member, noted}
 use Rattle.py_machine.specs.Marked as event
 use Rattle.py_machine.specs.Runs.{Name, marked, slot, with_slot, built_in, found, looked, met, sought, replaced, taken}
 use Rattle.py_machine.specs.Runs as runs
-use Rattle.py_meaning.specs.Acts.{step, charge, look, seek, bind, unbind, is_local, enter, leave, add, object_at, change, list_at, kind_of, write, draw, pure}
+use Rattle.py_meaning.specs.Acts.{step, charge, look, seek, bind, unbind, is_local, enter, leave, add, object_at, change, list_at, kind_of, write, draw}
 use Rattle.py_laws.specs.Same.{ValuesMatch, equal, refs, PairsMatch, ObjectsMatch, BothOrNone}
-use Rattle.py_laws.proofs.Members.{same_name, name_itself, name_before, looked_newly, number_kept, number_newly, number_before}
-use Rattle.py_laws.proofs.Places.{Named, bound, unbound, get_kept, get_new, set_same, set_other}
-use Rattle.py_laws.proofs.Zipped.{zip_length, zip_insert, zip_set, zip_remove, put_match, drop_match}
-use Rattle.py_laws.proofs.Respecting.{Setting, Paired, SlotsMatch, empty, held, FramesMatch, ChangesMatch, push, insert, setting, remove, put, drop, clear, use_, SameCounts, MarksMatch, HeapsMatch, NamesMatch, Alike, Ends, Stays, Respects, Any, Equal, cond_ends, next, pure_respects}
+use Rattle.py_laws.proofs.Members.{same_name, name_itself, name_cases, name_before, looked_newly, number_kept, number_newly, number_before}
+use Rattle.py_laws.proofs.Places.{Named, bound, unbound, bound_other, unbound_other, get_kept, get_new, set_same, set_other}
+use Rattle.py_laws.proofs.Zipped.{zip_length, zip_append, zip_insert, zip_set, zip_remove, put_match, drop_match}
+use Rattle.py_laws.proofs.Rules.{IfThere}
+use Rattle.py_laws.proofs.Respecting.{Setting, Paired, SlotsMatch, empty, held, FramesMatch, ChangesMatch, push, extends, insert, setting, remove, put, drop, clear, use_, MarksMatch, MayHold, AreFit, Alike, Ends, Stays, Respects, Any, Equal, cond_ends, next, pure_respects}
 
 module _ (c : Setting) where
   abbrev pub Values : Value → Value → Type 0
@@ -61,7 +61,7 @@ module _ (c : Setting) where
   unfolding runs.step
   step_respects = record {
     ends = λ draws m n h stay. cond_ends c Any _ _ _ _ _ _ (ap (λ x. nat_lt x 1000000) h.counts.steps)
-        (plain _ _ (record { counts = record { steps = ap (λ x. x + 1) h.counts.steps; printed = h.counts.printed; meter = h.counts.meter; drawn = h.counts.drawn }; marks = h.marks; frame = h.frame; names = h.names; heaps = h.heaps }))
+        (plain _ _ (record { counts = record { steps = ap (λ x. x + 1) h.counts.steps; printed = h.counts.printed; meter = h.counts.meter; drawn = h.counts.drawn }; marks = h.marks; frame = h.frame; names = h.names; heaps = h.heaps; may = h.may; fit = h.fit }))
         (record { alike = h; result = refl });
   }
 
@@ -69,7 +69,7 @@ module _ (c : Setting) where
   unfolding runs.charge
   charge_respects k l e = record {
     ends = λ draws m n h stay. cond_ends c Any _ _ _ _ _ _ (ap₂ (λ x y. nat_le (x + y) 16777216) h.counts.meter e)
-        (plain _ _ (record { counts = record { steps = h.counts.steps; printed = h.counts.printed; meter = ap₂ (λ x y. x + y) h.counts.meter e; drawn = h.counts.drawn }; marks = h.marks; frame = h.frame; names = h.names; heaps = h.heaps }))
+        (plain _ _ (record { counts = record { steps = h.counts.steps; printed = h.counts.printed; meter = ap₂ (λ x y. x + y) h.counts.meter e; drawn = h.counts.drawn }; marks = h.marks; frame = h.frame; names = h.names; heaps = h.heaps; may = h.may; fit = h.fit }))
         (record { alike = h; result = refl });
   }
 
@@ -82,6 +82,8 @@ module _ (c : Setting) where
       frame = h.frame;
       names = h.names;
       heaps = h.heaps;
+      may = h.may;
+      fit = h.fit;
     });
   }
 
@@ -100,6 +102,8 @@ module _ (c : Setting) where
     frame = h.frame;
     names = h.names;
     heaps = h.heaps;
+    may = h.may;
+    fit = h.fit;
   }
 
   built_in_ends : (name : Name) (b : Option Builtin) (m n : Machine) → Alike c m n → Ends c Values (built_in name b m) (built_in name b n)
@@ -175,7 +179,7 @@ module _ (c : Setting) where
     cond_match true o o' u u' h k = h
     cond_match false o o' u u' h k = k
 
-    bound_match : (g k : Named A) (name x : Name) (v w : A) → M v w → BothOrNone M (finite.get g x) (finite.get k x)
+    pub bound_match : (g k : Named A) (name x : Name) (v w : A) → M v w → BothOrNone M (finite.get g x) (finite.get k x)
         → BothOrNone M (finite.get (finite.insert g name v) x) (finite.get (finite.insert k name w) x)
     bound_match g k name x v w h old = rw (bound g name x v, bound k name x w) (cond_match (same_name x name) (Some v) (finite.get g x) (Some w) (finite.get k x) h old)
 
@@ -201,14 +205,30 @@ module _ (c : Setting) where
     frame = k;
     names = h.names;
     heaps = h.heaps;
+    may = h.may;
+    fit = h.fit;
   }
 
   bound_marks : (x : Name) (k l : Marks) → MarksMatch (Paired c) k l → MarksMatch (Paired c) (noted (event.Bind x) k) (noted (event.Bind x) l)
   bound_marks x k l h = record { looked = h.looked; bound = ap (λ s. with_member s x) h.bound; changed = h.changed; changed_back = h.changed_back; drew = h.drew }
 
-  bound_alike : (x : Name) (v w : Value) (o u : Option Slot) (m n : Machine) → Values v w → Alike c m n → Locals o u → Alike c (runs.bound x v o m) (runs.bound x w u n)
-  bound_alike x v w (Some o) (Some u) m n k h s = framed_alike m n _ _ h (with_slots_match x (Held v) (Held w) m.frame n.frame (held v w k) h.frame)
-  bound_alike x v w None None m n k h s = record {
+  bound_may : (g : Named Value) (name x : Name) (v w : Value) → c.rules.may name → MayHold c g → finite.get (finite.insert g name v) x ≡ Some w → c.rules.may x
+  bound_may g name x v w r h e = elim (name_cases x name) [
+    | inl same ↦ subst c.rules.may (sym same) r
+    | inr other ↦ h x w (sym (bound_other g name x v other) ∙ e)
+  ]
+
+  unbound_may : (g : Named Value) (name x : Name) (w : Value) → MayHold c g → finite.get (finite.remove g name) x ≡ Some w → c.rules.may x
+  unbound_may g name x w h e = elim (name_cases x name) [
+    | inl same ↦
+        let gone : finite.get (finite.remove g name) x ≡ None = rw (unbound g name x, same, name_itself name) refl in
+        absurd (none-some w (sym gone ∙ e))
+    | inr other ↦ h x w (sym (unbound_other g name x other) ∙ e)
+  ]
+
+  bound_alike : (x : Name) (v w : Value) (o u : Option Slot) (m n : Machine) → Values v w → c.rules.may x → Alike c m n → Locals o u → Alike c (runs.bound x v o m) (runs.bound x w u n)
+  bound_alike x v w (Some o) (Some u) m n k r h s = framed_alike m n _ _ h (with_slots_match x (Held v) (Held w) m.frame n.frame (held v w k) h.frame)
+  bound_alike x v w None None m n k r h s = record {
     counts = record { steps = h.counts.steps; printed = h.counts.printed; meter = h.counts.meter; drawn = h.counts.drawn };
     marks = bound_marks x m.marks n.marks h.marks;
     frame = h.frame;
@@ -220,13 +240,15 @@ module _ (c : Setting) where
       ]
     ];
     heaps = h.heaps;
+    may = λ y d e. bound_may m.state.globals x y v d r h.may e;
+    fit = h.fit;
   }
-  bound_alike x v w (Some o) None m n k h s = absurd s
-  bound_alike x v w None (Some u) m n k h s = absurd s
+  bound_alike x v w (Some o) None m n k r h s = absurd s
+  bound_alike x v w None (Some u) m n k r h s = absurd s
 
-  pub bind_respects : (name : Name) (v w : Value) → Values v w → Respects c Any (bind name v) (bind name w)
+  pub bind_respects : (name : Name) (v w : Value) → Values v w → c.rules.may name → Respects c Any (bind name v) (bind name w)
   unfolding runs.bind
-  bind_respects name v w k = record { ends = λ draws m n h stay. plain _ _ (bound_alike name v w _ _ m n k h (slots_match name m.frame n.frame h.frame)) }
+  bind_respects name v w k r = record { ends = λ draws m n h stay. plain _ _ (bound_alike name v w _ _ m n k r h (slots_match name m.frame n.frame h.frame)) }
 
   unbound_alike : (x : Name) (o u : Option Slot) (m n : Machine) → Alike c m n → Locals o u → Alike c (runs.unbound x o m) (runs.unbound x u n)
   unbound_alike x (Some o) (Some u) m n h s = framed_alike m n _ _ h (with_slots_match x Empty Empty m.frame n.frame empty h.frame)
@@ -242,6 +264,8 @@ module _ (c : Setting) where
       ]
     ];
     heaps = h.heaps;
+    may = λ y d e. unbound_may m.state.globals x y d h.may e;
+    fit = h.fit;
   }
   unbound_alike x (Some o) None m n h s = absurd s
   unbound_alike x None (Some u) m n h s = absurd s
@@ -307,9 +331,15 @@ module _ (c : Setting) where
   added_slots m n o u h k a b (inl p) = kept_slots m n o u h a b (inl p) (omega (arith, (c.old a b p).0, h.heaps.left_size), omega (arith, (c.old a b p).1, h.heaps.right_size))
   added_slots m n o u h k a b (inr p) = turn_slots m n o u h k a b p.0 (inr p) p.2 p.3 (cases_order p.0 h.heaps.added)
 
-  pub add_respects : (o u : Object) → ObjectsMatch (Paired c) o u → Respects c (Paired c) (add o) (add u)
+  added_fit : (heap : List Object) (o : Object) → c.rules.fit o → AreFit c heap → (a : ℕ) (x : Object) → slice_get (heap ++ o ∷ []) a ≡ Some x → c.rules.fit x
+  added_fit [] o k h zero x e = let same : o ≡ x = cc in subst c.rules.fit same k
+  added_fit [] o k h (suc a) x e = absurd (none-some x e)
+  added_fit (y ∷ heap) o k h zero x e = h zero x e
+  added_fit (y ∷ heap) o k h (suc a) x e = added_fit heap o k (λ b z f. h (suc b) z f) a x e
+
+  pub add_respects : (o u : Object) → ObjectsMatch (Paired c) o u → c.rules.fit o → Respects c (Paired c) (add o) (add u)
   unfolding runs.add
-  add_respects o u k = record {
+  add_respects o u k fit = record {
     ends = λ draws m n h stay.
         let x : length (m.state.heap ++ o ∷ []) ≡ length m.state.heap + 1 = length-append m.state.heap (o ∷ []) in
         let y : length (n.state.heap ++ u ∷ []) ≡ length n.state.heap + 1 = length-append n.state.heap (u ∷ []) in
@@ -321,6 +351,8 @@ module _ (c : Setting) where
             frame = h.frame;
             names = h.names;
             heaps = record { objects = added_slots m n o u h k; added = h.heaps.added + 1; left_size = omega (arith, x, h.heaps.left_size); right_size = omega (arith, y, h.heaps.right_size) };
+            may = h.may;
+            fit = added_fit m.state.heap o fit h.fit;
           };
           result = inr (h.heaps.added, omega (arith, x, z, h.heaps.left_size), h.heaps.left_size, h.heaps.right_size);
         };
@@ -349,6 +381,7 @@ module _ (c : Setting) where
 
   items_changed : (p q : Change) (vs ws : List Value) → ChangesMatch (Paired c) p q → AllZip Values vs ws → Slots (changed_items p vs) (changed_items q ws)
   items_changed _ _ vs ws (push v w k) h = AllZip-push Values vs ws v w h k
+  items_changed _ _ vs ws (extends xs ys k) h = zip_append Values vs ws xs ys h k
   items_changed _ _ vs ws (insert at v w k) h = if_there _ _ (object.List (inserted vs at v)) (object.List (inserted ws at w)) (ap (λ n. nat_le at n) (zip_length Values vs ws h)) (zip_insert Values at vs ws v w k h)
   items_changed _ _ vs ws (setting at v w k) h = if_there _ _ (object.List (set vs at v)) (object.List (set ws at w)) (ap (λ n. nat_lt at n) (zip_length Values vs ws h)) (zip_set Values at vs ws v w k h)
   items_changed _ _ vs ws (remove at) h = if_there _ _ (object.List (removed vs at)) (object.List (removed ws at)) (ap (λ n. nat_lt at n) (zip_length Values vs ws h)) (zip_remove Values at vs ws h)
@@ -362,6 +395,7 @@ module _ (c : Setting) where
   pairs_changed _ _ vs ws (drop key) h = drop_match (Paired c) vs ws key h
   pairs_changed _ _ vs ws clear h = tt
   pairs_changed _ _ vs ws (push v w k) h = tt
+  pairs_changed _ _ vs ws (extends xs ys k) h = tt
   pairs_changed _ _ vs ws (insert at v w k) h = tt
   pairs_changed _ _ vs ws (setting at v w k) h = tt
   pairs_changed _ _ vs ws (remove at) h = tt
@@ -373,6 +407,7 @@ module _ (c : Setting) where
   handle_changed _ _ name other uses others (drop key) e f = tt
   handle_changed _ _ name other uses others clear e f = tt
   handle_changed _ _ name other uses others (push v w k) e f = tt
+  handle_changed _ _ name other uses others (extends xs ys k) e f = tt
   handle_changed _ _ name other uses others (insert at v w k) e f = tt
   handle_changed _ _ name other uses others (setting at v w k) e f = tt
   handle_changed _ _ name other uses others (remove at) e f = tt
@@ -399,10 +434,17 @@ module _ (c : Setting) where
     drew = h.drew;
   }
 
-  replaced_alike : (a b : ℕ) (new other : Option Object) (m n : Machine) → Alike c m n → Paired c a b → a < length m.state.heap → b < length n.state.heap → Slots new other
+  set_fit : (heap : List Object) (b : ℕ) (o : Object) → c.rules.fit o → AreFit c heap → (a : ℕ) (x : Object) → slice_get (set heap b o) a ≡ Some x → c.rules.fit x
+  set_fit [] b o k h a x e = h a x e
+  set_fit (y ∷ heap) zero o k h zero x e = let same : o ≡ x = cc in subst c.rules.fit same k
+  set_fit (y ∷ heap) zero o k h (suc a) x e = h (suc a) x e
+  set_fit (y ∷ heap) (suc b) o k h zero x e = h zero x e
+  set_fit (y ∷ heap) (suc b) o k h (suc a) x e = set_fit heap b o k (λ d z f. h (suc d) z f) a x e
+
+  replaced_alike : (a b : ℕ) (new other : Option Object) (m n : Machine) → Alike c m n → Paired c a b → a < length m.state.heap → b < length n.state.heap → Slots new other → IfThere c.rules.fit new
       → Alike c (replaced a new m) (replaced b other n)
-  replaced_alike a b None None m n h p l l' k = h
-  replaced_alike a b (Some o) (Some u) m n h p l l' k = record {
+  replaced_alike a b None None m n h p l l' k f = h
+  replaced_alike a b (Some o) (Some u) m n h p l l' k f = record {
     counts = record { steps = h.counts.steps; printed = h.counts.printed; meter = h.counts.meter; drawn = h.counts.drawn };
     marks = changed_marks a b m.marks n.marks p h.marks;
     frame = h.frame;
@@ -413,15 +455,17 @@ module _ (c : Setting) where
       left_size = length-set m.state.heap a o ∙ h.heaps.left_size;
       right_size = length-set n.state.heap b u ∙ h.heaps.right_size;
     };
+    may = h.may;
+    fit = set_fit m.state.heap a o f h.fit;
   }
-  replaced_alike a b (Some o) None m n h p l l' k = absurd k
-  replaced_alike a b None (Some u) m n h p l l' k = absurd k
+  replaced_alike a b (Some o) None m n h p l l' k f = absurd k
+  replaced_alike a b None (Some u) m n h p l l' k f = absurd k
 
   change_alike : (a b : ℕ) (p q : Change) (o u : Option Object) (m n : Machine) → Alike c m n → Paired c a b → ChangesMatch (Paired c) p q → slice_get m.state.heap a ≡ o → slice_get n.state.heap b ≡ u → Slots o u
       → Alike c (replaced a (changed_in p o) m) (replaced b (changed_in q u) n)
   change_alike a b p q None None m n h r k e f s = h
   change_alike a b p q (Some o) (Some u) m n h r k e f s =
-      replaced_alike a b (of.changed p o) (of.changed q u) m n h r (slice_get_within m.state.heap a o e) (slice_get_within n.state.heap b u f) (changed_match p q o u k s)
+      replaced_alike a b (of.changed p o) (of.changed q u) m n h r (slice_get_within m.state.heap a o e) (slice_get_within n.state.heap b u f) (changed_match p q o u k s) (c.rules.change_fit p o (h.fit a o e))
   change_alike a b p q (Some o) None m n h r k e f s = absurd s
   change_alike a b p q None (Some u) m n h r k e f s = absurd s
 
@@ -438,6 +482,8 @@ module _ (c : Setting) where
     frame = h.frame;
     names = h.names;
     heaps = h.heaps;
+    may = h.may;
+    fit = h.fit;
   }
 
   taken_ends : (o u : Option Drawn) (m n : Machine) → o ≡ u → Alike c m n → Ends c Equal (taken o m) (taken u n)
@@ -455,10 +501,22 @@ module _ (c : Setting) where
   unfolding runs.object_at
   object_at_respects a b p = record { ends = λ draws m n h stay. record { alike = h; result = h.heaps.objects a b p } }
 
+  -- the same, and that the object is fit
+  abbrev pub Found : Option Object → Option Object → Type 0
+  Found o u = Slots o u × IfThere c.rules.fit o
+
+  fit_there : (o : Option Object) → ((x : Object) → o ≡ Some x → c.rules.fit x) → IfThere c.rules.fit o
+  fit_there None h = tt
+  fit_there (Some x) h = h x refl
+
+  pub object_found : (a b : ℕ) → Paired c a b → Respects c Found (object_at a) (object_at b)
+  unfolding runs.object_at
+  object_found a b p = record { ends = λ draws m n h stay. record { alike = h; result = (h.heaps.objects a b p, fit_there (slice_get m.state.heap a) (λ x e. h.fit a x e)) } }
+
   abbrev pub Listed : Option (List Value) → Option (List Value) → Type 0
   Listed = BothOrNone (AllZip Values)
 
-  listed : (o u : Option Object) → Slots o u → Listed (list_in o) (list_in u)
+  pub listed : (o u : Option Object) → Slots o u → Listed (list_in o) (list_in u)
   listed (Some (object.List vs)) (Some (object.List ws)) h = h
   listed (Some (object.Dict vs)) (Some (object.Dict ws)) h = tt
   listed (Some (object.Function def)) (Some (object.Function other)) h = tt
@@ -472,7 +530,7 @@ module _ (c : Setting) where
   unfolding list_at
   list_at_respects a b p = next c (object_at_respects a b p) λ o u h. pure_respects c Listed (list_in o) (list_in u) (listed o u h)
 
-  object_kinds : (o u : Option Object) → Slots o u → object_kind o ≡ object_kind u
+  pub object_kinds : (o u : Option Object) → Slots o u → object_kind o ≡ object_kind u
   object_kinds (Some (object.List vs)) (Some (object.List ws)) h = refl
   object_kinds (Some (object.Dict vs)) (Some (object.Dict ws)) h = refl
   object_kinds (Some (object.Function def)) (Some (object.Function other)) h = refl

@@ -5,9 +5,17 @@ pub mod Sameness
 pub mod Members
 pub mod Places
 pub mod Sparing
+pub mod Rules
 pub mod Respecting
 pub mod LeastActs
+pub mod Slotted
 pub mod Showing
+pub mod Operating
+pub mod Itemizing
+pub mod Comparing
+pub mod Iterating
+pub mod Methodical
+pub mod Simple
 pub mod Constructs
 pub mod Narrowing
 pub mod Partners
@@ -18,4 +26,4 @@ pub mod Joining
 pub mod Within
 pub mod Reporting
 pub mod Closing
-pub mod Examples
+pub mod Validity

@@ -1,8 +1,9 @@
 -- Acts on machines that are alike end in machines that are alike, where the first run looks up no name but some and those bound before.
 -- The pairs are known from the start: those of the states, and the new objects of both runs in their order. Both runs take the same draws.
-use Rattle.std.proofs.Common.{◌≡◌, ℕ, ◌+◌, ◌<◌, ◌≤◌, Bool, true, false, cond, List, length, Option, Result, Ok, Err, ap, ◌⊎◌, arith}
+use Rattle.std.proofs.Common.{◌≡◌, ℕ, ℤ, ◌+◌, ◌<◌, ◌≤◌, Bool, true, false, cond, List, length, Option, Some, Result, Ok, Err, ap, ◌⊎◌, arith}
 use Rattle.std.specs.Prelude.{slice_get}
 use Rattle.std.specs.FinMap as finite
+use Rattle.std.specs.List.{AllZip}
 use Rattle.nb_outside.specs.declared.feed.Drawn.{Drawn}
 use Rattle.py_value.specs.declared.key.Key.{Key}
 use Rattle.py_value.specs.declared.value.Value.{Value}
@@ -16,15 +17,25 @@ use Rattle.py_machine.specs.declared.frame.Flow.TheVariants as flow
 use Rattle.py_machine.specs.declared.frame.Frame.{Frame}
 use Rattle.py_machine.specs.declared.frame.Slot.{Slot}
 use Rattle.py_machine.specs.declared.frame.Slot.TheVariants.{Empty, Held}
+use Rattle.py_machine.specs.declared.iteration.Iteration.{Iteration}
+use Rattle.py_machine.specs.declared.iteration.Iteration.TheVariants as iteration
 use Rattle.py_machine.specs.declared.machine.Machine.{Machine}
 use Rattle.py_machine.specs.declared.marks.Marks.{Marks}
+use Rattle.py_machine.specs.declared.method.BoundMethod.{BoundMethod}
+use Rattle.py_machine.specs.declared.method.BoundMethod.TheVariants as method
+use Rattle.py_machine.specs.declared.method.ListMethod.{ListMethod}
+use Rattle.py_machine.specs.declared.method.DictMethod.{DictMethod}
+use Rattle.py_machine.specs.declared.method.TextMethod.{TextMethod}
 use Rattle.py_machine.specs.Marked.{IsIn}
 use Rattle.py_machine.specs.Runs.{Name, Outcome, Stop, raised, after}
 use Rattle.py_meaning.specs.Acts.{Act, run, pure, fail, chain, choose}
 use Rattle.py_laws.specs.Same.{IsOneToOne, ValuesMatch, ObjectsMatch, BothOrNone}
+use Rattle.py_laws.proofs.Places.{Named}
 use Rattle.py_laws.proofs.Sparing.{Spared, spared}
+use Rattle.py_laws.proofs.Rules.{Rules}
 
--- the names and pairs of the two states, how many objects each state has, and the most objects that the runs may add
+-- the names and pairs of the two states, how many objects each state has, the most objects that the runs may add, and what the first
+-- run may bind, add and execute
 pub record Setting : Type 1 where
   pub named : Name → Type 0
   pub base : ℕ → ℕ → Type 0
@@ -33,6 +44,7 @@ pub record Setting : Type 1 where
   pub most : ℕ
   pub one : IsOneToOne base
   pub old : (a b : ℕ) → base a b → (a < lefts) × (b < rights)
+  pub rules : Rules
 
 -- a pair of the start, or the objects that both runs add at one turn
 abbrev pub Paired : Setting → ℕ → ℕ → Type 0
@@ -57,6 +69,7 @@ pub data FlowsMatch (ps : ℕ → ℕ → Type 0) : Flow → Flow → Type 0 whe
 
 pub data ChangesMatch (ps : ℕ → ℕ → Type 0) : Change → Change → Type 0 where
   push : (v w : Value) → ValuesMatch ps v w → ChangesMatch ps (change.Push v) (change.Push w)
+  extends : (vs ws : List Value) → AllZip (ValuesMatch ps) vs ws → ChangesMatch ps (change.Extend vs) (change.Extend ws)
   insert : (at : ℕ) (v w : Value) → ValuesMatch ps v w → ChangesMatch ps (change.Insert at v) (change.Insert at w)
   setting : (at : ℕ) (v w : Value) → ValuesMatch ps v w → ChangesMatch ps (change.Set at v) (change.Set at w)
   remove : (at : ℕ) → ChangesMatch ps (change.Remove at) (change.Remove at)
@@ -64,6 +77,19 @@ pub data ChangesMatch (ps : ℕ → ℕ → Type 0) : Change → Change → Type
   drop : (key : Key) → ChangesMatch ps (change.Drop key) (change.Drop key)
   clear : ChangesMatch ps change.Clear change.Clear
   use_ : ChangesMatch ps change.Use change.Use
+
+-- what a `for` goes over matches by pairs
+pub data IterationsMatch (ps : ℕ → ℕ → Type 0) : Iteration → Iteration → Type 0 where
+  over_items : (a b next : ℕ) → ps a b → IterationsMatch ps (iteration.Items a next) (iteration.Items b next)
+  over_keys : (a b next size : ℕ) → ps a b → IterationsMatch ps (iteration.Keys a next size) (iteration.Keys b next size)
+  over_characters : (text : List ℕ) (next : ℕ) → IterationsMatch ps (iteration.Characters text next) (iteration.Characters text next)
+  over_range : (next : Option ℤ) (stop by : ℤ) → IterationsMatch ps (iteration.Range next stop by) (iteration.Range next stop by)
+
+-- a method of a list or a dict matches by pairs
+pub data BoundMethodsMatch (ps : ℕ → ℕ → Type 0) : BoundMethod → BoundMethod → Type 0 where
+  list_methods : (m : ListMethod) (a b : ℕ) → ps a b → BoundMethodsMatch ps (method.List m a) (method.List m b)
+  dict_methods : (m : DictMethod) (a b : ℕ) → ps a b → BoundMethodsMatch ps (method.Dict m a) (method.Dict m b)
+  text_methods : (m : TextMethod) (text : List ℕ) → BoundMethodsMatch ps (method.Text m text) (method.Text m text)
 
 -- ---- machines that are alike
 
@@ -90,12 +116,21 @@ pub record HeapsMatch (c : Setting) (h k : List Object) : Type 0 where
 abbrev pub NamesMatch : Setting → Marks → State → State → Type 0
 NamesMatch c k s t = (x : Name) → c.named x ⊎ IsIn k.bound x → BothOrNone (ValuesMatch (Paired c)) (finite.get s.globals x) (finite.get t.globals x)
 
+-- by the rules: each name that has a value may be bound, and each object is fit
+abbrev pub MayHold : Setting → Named Value → Type 0
+MayHold c names = (x : Name) (v : Value) → finite.get names x ≡ Some v → c.rules.may x
+
+abbrev pub AreFit : Setting → List Object → Type 0
+AreFit c heap = (a : ℕ) (o : Object) → slice_get heap a ≡ Some o → c.rules.fit o
+
 pub record Alike (c : Setting) (m n : Machine) : Type 0 where
   pub counts : SameCounts m n
   pub marks : MarksMatch (Paired c) m.marks n.marks
   pub frame : BothOrNone (FramesMatch (Paired c)) m.frame n.frame
   pub names : NamesMatch c m.marks m.state n.state
   pub heaps : HeapsMatch c m.state.heap n.state.heap
+  pub may : MayHold c m.state.globals
+  pub fit : AreFit c m.state.heap
 
 -- equal ends, or results that match
 abbrev pub ResultsMatch : {A B : Type 0} → (A → B → Type 0) → Result A Stop → Result B Stop → Type 0

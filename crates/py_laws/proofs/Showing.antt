@@ -36,7 +36,7 @@ module _ (c : Setting) where
   abbrev Paths : List ℕ → List ℕ → Type 0
   Paths = AllZip (Paired c)
 
-  same_address : (a b x y : ℕ) → Paired c a b → Paired c x y → (a == x) ≡ (b == y)
+  pub same_address : (a b x y : ℕ) → Paired c a b → Paired c x y → (a == x) ≡ (b == y)
   same_address a b x y p q = elim (cases_eq a x) [
     | inl e ↦
         let f : b ≡ y = left_one c a b y p (subst (λ z. Paired c z y) (sym e) q) in

@@ -1,17 +1,16 @@
 -- The pairs of the end states are of objects that the names reached, or of new ones.
-use Rattle.std.proofs.Common.{◌≡◌, ℕ, ◌-◌, ◌≤◌, List, length, ◌⊎◌, inl, inr, arith}
+use Rattle.std.proofs.Common.{◌≡◌, List, inl, inr, arith}
 use Rattle.std.specs.Prelude.{Contains}
 use Rattle.nb_outside.specs.declared.feed.Drawn.{Drawn}
 use Rattle.py_tree.specs.declared.statements.Stmt.{Stmt}
 use Rattle.py_heap.specs.declared.state.State.{State}
 use Rattle.py_heap.specs.References.{IsClosed}
-use Rattle.py_heap.specs.Reaching.{Reach}
 use Rattle.py_machine.specs.Marked.{IsIn}
 use Rattle.py_machine.specs.Runs.{Name}
 use Rattle.py_meaning.specs.Cells.{outcome}
-use Rattle.py_laws.specs.Same.{HasPair, Same, SameWithin}
+use Rattle.py_laws.specs.Same.{Same, SameWithin}
 use Rattle.py_laws.specs.Framed.{FramedWithin}
-use Rattle.py_laws.proofs.Framing.{framed_by, All, from_list}
+use Rattle.py_laws.proofs.Framing.{framed_by, from_list}
 use Rattle.py_laws.proofs.Joining.{reached_only}
 
 pub framed_within : (names : List Name) (body : List Stmt) (draws : List Drawn) (s t : State) → IsClosed s → IsClosed t → Same (Contains names) s t → s.meter ≡ t.meter

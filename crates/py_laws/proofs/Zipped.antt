@@ -1,7 +1,7 @@
 -- Lists and dicts that match place by place, after the same change.
-use Rattle.std.proofs.Common.{◌≡◌, ℕ, zero, suc, ◌+◌, true, false, List, [], ◌∷◌, ◌++◌, length, take, drop, set, Option, Some, None, refl, sym, ap, ◌∙◌, inl, inr, subst}
-use Rattle.std.specs.Prelude.{insert, remove}
-use Rattle.std.specs.List.{AllZip}
+use Rattle.std.proofs.Common.{◌≡◌, ℕ, zero, suc, true, false, List, [], ◌∷◌, ◌++◌, length, take, drop, set, refl, ap, inl, inr, subst}
+use Rattle.std.specs.Prelude.{◌-◌, insert, remove, slice_get, slice_range}
+use Rattle.std.specs.List.{AllZip, repeat}
 use Rattle.std.proofs.lemmas.Bool.{cases_Bool}
 use Rattle.py_value.specs.declared.key.Key.{Key}
 use Rattle.py_value.specs.declared.value.Value.{Value}
@@ -48,6 +48,32 @@ module _ {A : Type 0} (R : A → A → Type 0) where
 
   pub zip_remove : (n : ℕ) (xs ys : List A) → AllZip R xs ys → AllZip R (remove xs n) (remove ys n)
   zip_remove n xs ys h = zip_append (take n xs) (take n ys) (drop (suc n) xs) (drop (suc n) ys) (zip_take n xs ys h) (zip_drop (suc n) xs ys h)
+
+  pub zip_range : (n m : ℕ) (xs ys : List A) → AllZip R xs ys → AllZip R (slice_range xs n m) (slice_range ys n m)
+  zip_range n m xs ys h = zip_take (m - n) (drop n xs) (drop n ys) (zip_drop n xs ys h)
+
+  pub zip_repeat : (n : ℕ) (xs ys : List A) → AllZip R xs ys → AllZip R (repeat n xs) (repeat n ys)
+  zip_repeat zero xs ys h = tt
+  zip_repeat (suc n) xs ys h = zip_append xs ys (repeat n xs) (repeat n ys) h (zip_repeat n xs ys h)
+
+  pub zip_get : (n : ℕ) (xs ys : List A) → AllZip R xs ys → BothOrNone R (slice_get xs n) (slice_get ys n)
+  zip_get n [] [] h = tt
+  zip_get zero (x ∷ xs) (y ∷ ys) h = h.0
+  zip_get (suc n) (x ∷ xs) (y ∷ ys) h = zip_get n xs ys h.1
+  zip_get n [] (y ∷ ys) h = absurd h
+  zip_get n (x ∷ xs) [] h = absurd h
+
+-- lists that match, by cases
+pub data Zips {A : Type 0} (R : A → A → Type 0) : List A → List A → Type 0 where
+  no_more : Zips R [] []
+  one_more : (x y : A) (xs ys : List A) → R x y → Zips R xs ys → Zips R (x ∷ xs) (y ∷ ys)
+
+module _ {A : Type 0} (R : A → A → Type 0) where
+  pub zips : (xs ys : List A) → AllZip R xs ys → Zips R xs ys
+  zips [] [] h = no_more
+  zips (x ∷ xs) (y ∷ ys) h = one_more x y xs ys h.0 (zips xs ys h.1)
+  zips [] (y ∷ ys) h = absurd h
+  zips (x ∷ xs) [] h = absurd h
 
 -- ---- dicts
 

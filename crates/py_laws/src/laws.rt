@@ -1,14 +1,17 @@
 ghost use Rattle.std.specs.Prelude.{◌≡◌, ◌↔◌, ◌++◌, ℕ, Bool, true, Contains, IsTrue, List};
 ghost use Rattle.nb_outside.specs.declared.feed.Drawn.{Drawn};
+ghost use Rattle.py_tree.specs.declared.statements.Def.{Def};
 ghost use Rattle.py_tree.specs.declared.statements.Stmt.{Stmt};
 ghost use Rattle.py_heap.specs.declared.state.State.{State};
 ghost use Rattle.py_heap.specs.References.{IsClosed};
 ghost use Rattle.py_heap.specs.Reaching.{Reach};
+ghost use Rattle.py_heap.specs.Valid.{IsValidBy};
 ghost use Rattle.py_machine.specs.Marked.{IsIn, IsLooked, IsBound, IsChanged, IsDrew};
 ghost use Rattle.py_machine.specs.Runs.{Name};
 ghost use Rattle.py_meaning.specs.Cells.{outcome, traced, end_state, Asks};
 ghost use Rattle.py_laws.specs.Same.{Same, SameStates, SameWithin, IsListOf};
 ghost use Rattle.py_laws.specs.Framed.{Framed, FramedWithin, Agree, Renamed};
+ghost use Rattle.py_laws.specs.Allowed.{AreAllowed};
 
 /// What a cell does depends on the names that it looks up, and on its draws, alone. From two states that are the same over
 /// these names, with equal meters and under the same draws, it does the same. In neither does it change a name that it doesn't
@@ -58,6 +61,14 @@ pub fn cells_run_alike_in_same_states()
 /// A cell keeps a state closed: where each reference named an object before, each does after.
 pub fn cells_keep_states_closed()
     ensures { (body : List Stmt) (draws : List Drawn) (s : State) → IsClosed s → IsClosed (end_state body s draws) }
+{}
+
+/// A cell keeps a state valid, whatever test the definitions of functions have to pass: where each name that the cell's
+/// statements bind is one that a program may bind, and each function that they define has such a name and passes the test, and
+/// where the body of each function that passes the test is such too.
+pub fn cells_keep_states_valid()
+    ensures { (test : Def → Bool) (body : List Stmt) (draws : List Drawn) (s : State) → AreAllowed test body
+        → ((def : Def) → IsTrue (test def) → AreAllowed test def.body) → IsValidBy test s → IsValidBy test (end_state body s draws) }
 {}
 
 /// What a machine has marked of a cell is the report of the cell's trace: the names looked up before they were bound or

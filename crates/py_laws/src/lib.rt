@@ -1,4 +1,5 @@
-//! Laws of the meaning of a cell: what a cell depends on, what its marks report, and when two states are the same.
+//! Laws of the meaning of a cell: what a cell depends on, what its marks report, that it keeps states valid, and when two
+//! states are the same.
 //!
 //! Two states are the same over some names where these have equal values, but for the addresses of objects. Each law is
 //! the contract of a function that does nothing.
@@ -8,7 +9,7 @@ mod laws;
 
 pub use laws::{
     a_state_is_the_same_as_itself, cells_depend_on_what_they_look_up, cells_keep_states_closed,
-    cells_pair_what_names_reach, cells_run_alike_in_same_states, marks_report_the_trace,
-    more_draws_change_nothing, sameness_goes_both_ways, sameness_goes_on,
+    cells_keep_states_valid, cells_pair_what_names_reach, cells_run_alike_in_same_states,
+    marks_report_the_trace, more_draws_change_nothing, sameness_goes_both_ways, sameness_goes_on,
     sameness_is_of_what_is_reached, sameness_joins, what_names_reach_is_a_list,
 };

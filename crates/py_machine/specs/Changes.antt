@@ -14,6 +14,7 @@ use Rattle.py_machine.specs.declared.kind.ValueKind.TheVariants as kind
 -- what the change makes of a list's items, if it is one for lists and the place is there
 abbrev pub changed_items : Change → List Value → Option Object
 changed_items (change.Push last) items = Some (object.List (items ++ last ∷ []))
+changed_items (change.Extend more) items = Some (object.List (items ++ more))
 changed_items (change.Insert at item) items = cond (nat_le at (length items)) (Some (object.List (insert items at item))) None
 changed_items (change.Set at item) items = cond (nat_lt at (length items)) (Some (object.List (slice_set items at item))) None
 changed_items (change.Remove at) items = cond (nat_lt at (length items)) (Some (object.List (remove items at))) None

@@ -1,5 +1,7 @@
 -- The errors that a run may raise, and their texts. (Python language reference: built-in exceptions.)
-use Rattle.std.specs.Prelude.{ℕ, List, ◌++◌, codes}
+use Rattle.std.specs.Prelude.{ℕ, Bool, true, false, List, ◌++◌, codes}
+use Rattle.py_tree.specs.declared.expressions.Op.{Op}
+use Rattle.py_tree.specs.declared.expressions.Op.TheVariants as op
 use Rattle.py_machine.specs.declared.error.ErrorKind.{ErrorKind}
 use Rattle.py_machine.specs.declared.error.ErrorKind.TheVariants as error
 use Rattle.py_machine.specs.declared.error.PyError.{PyError}
@@ -17,10 +19,11 @@ error_name error.Overflow = codes "OverflowError"
 error_name error.Recursion = codes "RecursionError"
 error_name error.StepLimit = codes "StepLimitError"
 error_name error.Memory = codes "MemoryError"
-
--- a cell that isn't of the supported form
-abbrev pub unsupported_form : PyError
-unsupported_form = record { kind = error.Syntax; text = codes "not built" }
+error_name error.ZeroDivision = codes "ZeroDivisionError"
+error_name error.Value = codes "ValueError"
+error_name error.Index = codes "IndexError"
+error_name error.Key = codes "KeyError"
+error_name error.Runtime = codes "RuntimeError"
 
 -- numbers end at 128 bits
 abbrev pub overflow_error : PyError
@@ -59,12 +62,71 @@ kind_name kind.Function = codes "function"
 kind_name kind.Handle = codes "handle"
 kind_name kind.Builtin = codes "builtin_function_or_method"
 
--- a `+` between values of these kinds
-abbrev pub unsupported_sum : ValueKind → ValueKind → PyError
-unsupported_sum left right = record {
+abbrev pub op_text : Op → List ℕ
+op_text op.Plus = codes "+"
+op_text op.Minus = codes "-"
+op_text op.Times = codes "*"
+op_text op.Floor = codes "//"
+op_text op.Mod = codes "%"
+op_text op.Equal = codes "=="
+op_text op.NotEqual = codes "!="
+op_text op.Less = codes "<"
+op_text op.AtMost = codes "<="
+op_text op.More = codes ">"
+op_text op.AtLeast = codes ">="
+op_text op.In = codes "in"
+op_text op.NotIn = codes "not in"
+
+abbrev pub kinds_text : ValueKind → ValueKind → List ℕ
+kinds_text left right = (((codes "'" ++ kind_name left) ++ codes "' and '") ++ kind_name right) ++ codes "'"
+
+-- an operator between values of these kinds
+abbrev pub unsupported_operands : Op → ValueKind → ValueKind → PyError
+unsupported_operands o left right = record {
   kind = error.Type;
-  text = (((codes "unsupported operand type(s) for +: '" ++ kind_name left) ++ codes "' and '") ++ kind_name right) ++ codes "'";
+  text = ((codes "unsupported operand type(s) for " ++ op_text o) ++ codes ": ") ++ kinds_text left right;
 }
+
+abbrev pub sign_text : Bool → List ℕ
+sign_text true = codes "-"
+sign_text false = codes "+"
+
+-- a sign before a value of this kind
+abbrev pub bad_operand : Bool → ValueKind → PyError
+bad_operand minus operand = record {
+  kind = error.Type;
+  text = (((codes "bad operand type for unary " ++ sign_text minus) ++ codes ": '") ++ kind_name operand) ++ codes "'";
+}
+
+-- an order of values of these kinds
+abbrev pub not_ordered : Op → ValueKind → ValueKind → PyError
+not_ordered o left right = record {
+  kind = error.Type;
+  text = ((codes "'" ++ op_text o) ++ codes "' not supported between instances of ") ++ kinds_text left right;
+}
+
+-- a value of this kind holds nothing that `in` could find
+abbrev pub not_searched : ValueKind → PyError
+not_searched kind = record { kind = error.Type; text = (codes "argument of type '" ++ kind_name kind) ++ codes "' is not iterable" }
+
+-- a value of this kind is looked for in a text
+abbrev pub not_in_text : ValueKind → PyError
+not_in_text kind = record { kind = error.Type; text = codes "'in <string>' requires string as left operand, not " ++ kind_name kind }
+
+-- a value of this kind is no key of a dict
+abbrev pub unhashable : ValueKind → PyError
+unhashable kind = record { kind = error.Type; text = (codes "unhashable type: '" ++ kind_name kind) ++ codes "'" }
+
+-- a call of the function of this name
+abbrev pub wrong_number : List ℕ → PyError
+wrong_number name = record { kind = error.Type; text = (codes "wrong number of arguments for " ++ name) ++ codes "()" }
+
+abbrev pub wrong_argument : List ℕ → PyError
+wrong_argument name = record { kind = error.Type; text = (codes "wrong argument for " ++ name) ++ codes "()" }
+
+-- a divisor that is 0
+abbrev pub division_error : PyError
+division_error = record { kind = error.ZeroDivision; text = codes "division by zero" }
 
 -- a call of a value of this kind
 abbrev pub not_callable : ValueKind → PyError
@@ -76,3 +138,64 @@ no_attribute kind name = record {
   kind = error.Attribute;
   text = (((codes "'" ++ kind_name kind) ++ codes "' object has no attribute '") ++ name) ++ codes "'";
 }
+
+-- ---- items
+
+-- a value of this kind has no items
+abbrev pub not_subscriptable : ValueKind → PyError
+not_subscriptable kind = record { kind = error.Type; text = (codes "'" ++ kind_name kind) ++ codes "' object is not subscriptable" }
+
+-- a `for` over a value of this kind
+abbrev pub not_iterable : ValueKind → PyError
+not_iterable kind = record { kind = error.Type; text = (codes "'" ++ kind_name kind) ++ codes "' object is not iterable" }
+
+-- an item of a value of this kind is assigned to, or deleted
+abbrev pub no_item_assignment : ValueKind → PyError
+no_item_assignment kind = record { kind = error.Type; text = (codes "'" ++ kind_name kind) ++ codes "' object does not support item assignment" }
+
+abbrev pub no_item_deletion : ValueKind → PyError
+no_item_deletion kind = record { kind = error.Type; text = (codes "'" ++ kind_name kind) ++ codes "' object does not support item deletion" }
+
+-- an index, or a bound of a slice, that is no number
+abbrev pub not_an_index : PyError
+not_an_index = record { kind = error.Type; text = codes "indices must be integers" }
+
+-- an index past the ends
+abbrev pub no_list_index : PyError
+no_list_index = record { kind = error.Index; text = codes "list index out of range" }
+
+abbrev pub no_text_index : PyError
+no_text_index = record { kind = error.Index; text = codes "string index out of range" }
+
+abbrev pub no_assigned_index : PyError
+no_assigned_index = record { kind = error.Index; text = codes "list assignment index out of range" }
+
+abbrev pub no_popped_index : PyError
+no_popped_index = record { kind = error.Index; text = codes "pop index out of range" }
+
+abbrev pub popped_empty : PyError
+popped_empty = record { kind = error.Index; text = codes "pop from empty list" }
+
+-- a key that a dict doesn't have, by what it shows
+abbrev pub no_key : List ℕ → PyError
+no_key shown = record { kind = error.Key; text = shown }
+
+-- a dict that a `for` goes over has more pairs or fewer than at its start
+abbrev pub changed_size : PyError
+changed_size = record { kind = error.Runtime; text = codes "dictionary changed size during iteration" }
+
+-- ---- calls of built-in functions and methods
+
+-- `range` anywhere but as the source of a `for`
+abbrev pub range_elsewhere : PyError
+range_elsewhere = record { kind = error.Type; text = codes "range() stands only as the source of a for" }
+
+abbrev pub zero_range_step : PyError
+zero_range_step = record { kind = error.Value; text = codes "range() arg 3 must not be zero" }
+
+-- a text that spells no number, by what it shows
+abbrev pub invalid_literal : List ℕ → PyError
+invalid_literal shown = record { kind = error.Value; text = codes "invalid literal for int() with base 10: " ++ shown }
+
+abbrev pub empty_separator : PyError
+empty_separator = record { kind = error.Value; text = codes "empty separator" }

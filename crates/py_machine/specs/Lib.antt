@@ -1,5 +1,6 @@
 pub mod Errors
 pub mod Builtins
+pub mod Methods
 pub mod Marked
 pub mod Changes
 pub mod Runs

@@ -1,7 +1,6 @@
 ghost use Rattle.std.specs.Prelude.{◌≡◌, IfOk};
 ghost use Rattle.py_machine.specs.Errors as spec;
 
-use crate::kind::{ValueKind, kind_name};
 use plain_data::Text;
 use std::alloc::{AllocError, Global};
 use std::error::Error;
@@ -19,6 +18,11 @@ pub enum ErrorKind {
     Recursion,
     StepLimit,
     Memory,
+    ZeroDivision,
+    Value,
+    Index,
+    Key,
+    Runtime,
 }
 
 impl ErrorKind {
@@ -36,6 +40,11 @@ impl ErrorKind {
             ErrorKind::Recursion => "RecursionError",
             ErrorKind::StepLimit => "StepLimitError",
             ErrorKind::Memory => "MemoryError",
+            ErrorKind::ZeroDivision => "ZeroDivisionError",
+            ErrorKind::Value => "ValueError",
+            ErrorKind::Index => "IndexError",
+            ErrorKind::Key => "KeyError",
+            ErrorKind::Runtime => "RuntimeError",
         }
     }
 }
@@ -95,17 +104,6 @@ impl From<AllocError> for Fault {
     fn from(_: AllocError) -> Fault {
         Fault::OutOfMemory
     }
-}
-
-/// The error of a cell that isn't of the supported form.
-pub fn unsupported_form(alloc: Global) -> Result<PyError, AllocError>
-    ensures { IfOk result (λ error. error ≡ spec.unsupported_form) }
-{
-    let text = Text::new(alloc, "not built")?;
-    Ok(PyError {
-        kind: ErrorKind::Syntax,
-        text,
-    })
 }
 
 /// The error of a number past 128 bits.
@@ -174,48 +172,6 @@ pub fn unbound_error(alloc: Global, name: &Text) -> Result<PyError, AllocError>
     )?;
     Ok(PyError {
         kind: ErrorKind::UnboundLocal,
-        text: Text::from_string(text),
-    })
-}
-
-/// The error of a `+` between values of these kinds.
-pub fn unsupported_sum(
-    alloc: Global,
-    left: ValueKind,
-    right: ValueKind,
-) -> Result<PyError, AllocError>
-    ensures { IfOk result (λ error. error ≡ spec.unsupported_sum left right) }
-{
-    let left = kind_name(left);
-    let right = kind_name(right);
-    let text = format!(in alloc; "unsupported operand type(s) for +: '{left}' and '{right}'")?;
-    Ok(PyError {
-        kind: ErrorKind::Type,
-        text: Text::from_string(text),
-    })
-}
-
-/// The error of a call of a value that no call can stand on.
-pub fn not_callable(alloc: Global, kind: ValueKind) -> Result<PyError, AllocError>
-    ensures { IfOk result (λ error. error ≡ spec.not_callable kind) }
-{
-    let kind = kind_name(kind);
-    let text = format!(in alloc; "'{kind}' object is not callable")?;
-    Ok(PyError {
-        kind: ErrorKind::Type,
-        text: Text::from_string(text),
-    })
-}
-
-/// The error of a method that values of this kind don't have.
-pub fn no_attribute(alloc: Global, kind: ValueKind, name: &Text) -> Result<PyError, AllocError>
-    ensures { IfOk result (λ error. error ≡ spec.no_attribute kind name.now) }
-{
-    let kind = kind_name(kind);
-    let name = name.as_str();
-    let text = format!(in alloc; "'{kind}' object has no attribute '{name}'")?;
-    Ok(PyError {
-        kind: ErrorKind::Attribute,
         text: Text::from_string(text),
     })
 }

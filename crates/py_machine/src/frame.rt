@@ -1,4 +1,4 @@
-use plain_data::TextMap;
+use plain_data::{Items, TextMap};
 use py_value::{Key, Value};
 
 /// What a local of a function is.
@@ -29,10 +29,12 @@ pub enum Flow {
 }
 
 /// A change of an object.
-#[derive(Debug, Drop)]
+#[derive(Drop)]
 pub enum Change {
     /// A list gets this value at its end.
     Push(Value),
+    /// A list gets these values after its end.
+    Extend(Items<Value>),
     /// A list gets this value at a place from 0 to its length; the items from there on move up.
     Insert { at: u32, item: Value },
     /// A list has this value at a place.

@@ -8,21 +8,38 @@
 mod builtins;
 mod error;
 mod frame;
+mod item_errors;
+mod iteration;
 mod kind;
 mod machine;
 mod marks;
+mod method;
 mod numbers;
 #[cfg(test)]
 mod tests;
+mod type_errors;
 
 pub use builtins::builtin_named;
 pub use error::{
-    ErrorKind, Fault, PyError, memory_error, name_error, no_attribute, not_callable,
-    overflow_error, recursion_error, step_limit_error, unbound_error, unsupported_form,
-    unsupported_sum,
+    ErrorKind, Fault, PyError, memory_error, name_error, overflow_error, recursion_error,
+    step_limit_error, unbound_error,
 };
 pub use frame::{Change, Flow, Frame, Slot};
+pub use item_errors::{
+    changed_size, empty_separator, invalid_literal, no_assigned_index, no_item_assignment,
+    no_item_deletion, no_key, no_list_index, no_popped_index, no_text_index, not_an_index,
+    not_iterable, not_subscriptable, popped_empty, range_elsewhere, zero_range_step,
+};
+pub use iteration::Iteration;
 pub use kind::{ValueKind, kind_name};
 pub use machine::Machine;
 pub use marks::Marks;
+pub use method::{
+    BoundMethod, DictMethod, ListMethod, TextMethod, dict_method_name, dict_method_named,
+    list_method_name, list_method_named, text_method_name, text_method_named,
+};
 pub use numbers::NumberSet;
+pub use type_errors::{
+    bad_operand, division_error, no_attribute, not_callable, not_in_text, not_ordered,
+    not_searched, unhashable, unsupported_operands, wrong_argument, wrong_number,
+};

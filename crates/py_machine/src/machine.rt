@@ -235,6 +235,7 @@ impl Machine {
     {
         match change {
             Change::Push(item) => self.push(at, item),
+            Change::Extend(items) => self.extend(at, items),
             Change::Insert { at: place, item } => self.insert(at, place, item),
             Change::Set { at: place, item } => self.set(at, place, item),
             Change::Remove { at: place } => self.remove(at, place),
@@ -253,6 +254,18 @@ impl Machine {
         if self.state.is_list(at) {
             self.marks.change(at)?;
             self.state.push_item(at, item)?;
+        }
+        Ok(())
+    }
+
+    #[tactic(auto, unfolding(crate::specs::Runs::change))]
+    fn extend(&mut self, at: u32, items: Items<Value>) -> Result<(), Fault>
+        ensures runs { Is (spec.change at (Change.Extend items) self.old) result self.new }
+        ensures drawn { self.new.drawn ≡ self.old.drawn }
+    {
+        if self.state.is_list(at) {
+            self.marks.change(at)?;
+            self.state.extend_items(at, items)?;
         }
         Ok(())
     }

@@ -1,10 +1,11 @@
 use crate::{
     Change, ErrorKind, Fault, Frame, Machine, PyError, Slot, ValueKind, name_error, no_attribute,
-    not_callable, unbound_error, unsupported_sum,
+    not_callable, unbound_error, unsupported_operands,
 };
 use nb_outside::{Drawn, MemFeed};
 use plain_data::{Items, Text, TextMap};
 use py_heap::{Object, State};
+use py_tree::Op;
 use py_value::{Builtin, Value};
 use std::alloc::{AllocError, Global};
 use std::test::Fail;
@@ -28,7 +29,7 @@ fn errors_have_the_texts_of_python(rt: HostRuntime) -> Result<(), Fail> {
     let alloc = rt.alloc();
     let name = name_error(alloc, &Text::new(alloc, "x")?)?;
     assert_eq!(rt; name.text.as_str(), "name 'x' is not defined");
-    let sum = unsupported_sum(alloc, ValueKind::Number, ValueKind::List)?;
+    let sum = unsupported_operands(alloc, Op::Plus, ValueKind::Number, ValueKind::List)?;
     assert_eq!(rt;
         sum.text.as_str(),
         "unsupported operand type(s) for +: 'int' and 'list'"

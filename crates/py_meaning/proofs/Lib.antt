@@ -2,4 +2,3 @@ pub mod Keeping
 pub mod Growing
 pub mod Telling
 pub mod Opened
-pub mod Examples

@@ -1,6 +1,13 @@
 pub mod Acts
-pub mod Supported
 pub mod Shown
+pub mod Truth
+pub mod Numbers
+pub mod Operators
+pub mod Texts
+pub mod Items
+pub mod Compared
+pub mod Iterating
+pub mod Methods
 pub mod Meaning
 pub mod Cells
 pub mod Kept

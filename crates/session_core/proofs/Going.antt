@@ -1,7 +1,6 @@
 -- What a request to move leaves.
-use Rattle.std.proofs.Common.{◌≡◌, ℕ, Bool, true, false, ◌⊎◌, inl, inr, List, [], ◌∷◌, ◌++◌, refl, sym, ap, ◌∙◌, subst, append_assoc, Ok, Err, Option, Some, None, ◌≢◌, ◌<◌}
+use Rattle.std.proofs.Common.{◌≡◌, ℕ, false, inl, inr, List, [], ◌∷◌, ◌++◌, refl, sym, ap, ◌∙◌, subst, Ok, Err, Some, None, ◌≢◌, ◌<◌}
 use Rattle.std.proofs.lemmas.List.{append-nil}
-use Rattle.graph_model.specs.declared.graph.Graph.{Graph}
 use Rattle.graph_model.specs.declared.plan.Weights.{Weights}
 use Rattle.graph_model.specs.declared.plan.Certified.{Certified}
 use Rattle.session_core.specs.declared.request.Ask.{Ask}
@@ -17,7 +16,7 @@ use Rattle.session_core.specs.declared.engine.PackFault.{PackFault}
 use Rattle.session_core.specs.declared.engine.PackFault.TheVariants as pack
 use Rattle.session_core.specs.Meanings.{Served, Meaning, HasNoEnd, IsPacked}
 use Rattle.session_core.specs.Engines.{Packs}
-use Rattle.session_core.specs.Legal.{Phase, settled, sealed, arriving, Progress, after, progress_of, IsReason, MayTry, MayGo, HasPlan, MayCome, MayBeResumed, IsLegal, if_settled, asked_by, asked}
+use Rattle.session_core.specs.Legal.{Phase, settled, arriving, Progress, after, progress_of, IsReason, MayTry, MayGo, HasPlan, MayCome, MayBeResumed, IsLegal, if_settled, asked_by, asked}
 use Rattle.session_core.specs.Stepping.{IsEarly, HasGone, HasEnded, reason_of}
 use Rattle.session_core.proofs.Progressing.{progress_more, asked_more, legal_more}
 

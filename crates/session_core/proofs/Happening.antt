@@ -1,5 +1,5 @@
 -- What each event keeps.
-use Rattle.std.proofs.Common.{◌≡◌, ℕ, ◌+◌, ◌<◌, Bool, true, false, not, cond, ◌⊎◌, inl, inr, List, [], ◌∷◌, ◌++◌, refl, sym, ap, ◌∙◌, subst, append_assoc}
+use Rattle.std.proofs.Common.{◌≡◌, ℕ, ◌<◌, Bool, true, false, not, cond, inl, inr, List, [], ◌∷◌, ◌++◌, refl, sym, ap, ◌∙◌, subst, append_assoc}
 use Rattle.std.specs.Prelude.{filter}
 use Rattle.std.proofs.lemmas.List.{append-nil}
 use Rattle.std.proofs.lemmas.List.Elements.{filter-append}
@@ -10,8 +10,8 @@ use Rattle.session_core.specs.declared.entry.Entry.{Entry}
 use Rattle.session_core.specs.declared.entry.Entry.TheVariants.{Opened, Ran, Died, Dead, Sealed, Moved, Adopted, Refused, Resumed}
 use Rattle.session_core.specs.Asks.{is_main, is_control}
 use Rattle.session_core.specs.Meanings.{Meaning}
-use Rattle.session_core.specs.Legal.{Phase, settled, sealed, arriving, moved, Progress, after, progress_of, MayCome, MayBeMoved, IsLegal, if_settled, asked_by, asked, main_asked, control_asked}
-use Rattle.session_core.specs.Machine.{Seat, in_cell, out_with, parcel_for, carried_by, Waiting, joined, Session, IsTaken, Event, admit, claim, ends, give, seal, move, adopt, IsNoted, Happens, Happen, admitted, main_admitted, control_admitted, IsSeated, HasResident, opened_session}
+use Rattle.session_core.specs.Legal.{settled, moved, Progress, after, progress_of, IsLegal, if_settled, asked_by, asked, main_asked, control_asked}
+use Rattle.session_core.specs.Machine.{Seat, in_cell, out_with, parcel_for, carried_by, Waiting, Session, IsTaken, Event, admit, claim, ends, give, seal, move, adopt, IsNoted, Happens, Happen, admitted, main_admitted, control_admitted, IsSeated, HasResident, opened_session}
 use Rattle.session_core.proofs.Progressing.{progress_more, asked_more, legal_more}
 
 -- ---- lists of requests

@@ -4,4 +4,3 @@ pub mod Once
 pub mod Headline
 pub mod Stepping
 pub mod Going
-pub mod Counting

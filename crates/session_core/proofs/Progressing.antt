@@ -1,10 +1,9 @@
 -- A journal that is one entry longer.
-use Rattle.std.proofs.Common.{◌≡◌, ℕ, Bool, true, false, List, [], ◌∷◌, ◌++◌, refl, sym, ap, ◌∙◌, append_assoc}
+use Rattle.std.proofs.Common.{◌≡◌, ℕ, List, [], ◌∷◌, ◌++◌, refl, sym, ap, ◌∙◌, append_assoc}
 use Rattle.std.proofs.lemmas.List.{append-nil}
-use Rattle.session_core.specs.declared.request.Request.{Request}
 use Rattle.session_core.specs.declared.entry.Entry.{Entry}
 use Rattle.session_core.specs.Meanings.{Meaning}
-use Rattle.session_core.specs.Legal.{Phase, settled, sealed, arriving, moved, Progress, after, all_after, before_all, progress_of, MayCome, AllMayCome, IsOpening, IsLegal, asked_by, asked_after, asked}
+use Rattle.session_core.specs.Legal.{Phase, settled, sealed, arriving, moved, Progress, after, all_after, before_all, progress_of, MayCome, AllMayCome, IsLegal, asked_by, asked_after, asked}
 use Rattle.session_core.specs.Answering.{is_away}
 
 pub away_moved : (phase : Phase) → is_away (moved phase) ≡ is_away phase

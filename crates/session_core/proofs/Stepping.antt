@@ -12,7 +12,7 @@ use Rattle.session_core.specs.Engines.{RunsOn}
 use Rattle.session_core.specs.Stepping.{cause_of}
 use Rattle.session_core.specs.Asks.{is_end}
 use Rattle.session_core.specs.Meanings.{Served, Meaning, more, HasNoEnd}
-use Rattle.session_core.specs.Legal.{Phase, settled, sealed, arriving, Progress, after, all_after, before_all, progress_of, IsCause, MayCome, IsLegal, if_settled, asked_by, asked}
+use Rattle.session_core.specs.Legal.{Phase, settled, Progress, after, all_after, before_all, progress_of, IsCause, MayCome, IsLegal, if_settled, asked_by, asked}
 use Rattle.session_core.specs.Entries.{IsEnd}
 use Rattle.session_core.specs.Machine.{IsNoted}
 use Rattle.session_core.proofs.Progressing.{progress_more, asked_more, legal_more}

@@ -1,5 +1,5 @@
 -- What a request asks, and in which list it waits.
-use Rattle.std.specs.Prelude.{ℕ, Bool, true, false, not, ◌&&◌, List, [], ◌∷◌, filter}
+use Rattle.std.specs.Prelude.{ℕ, Bool, true, false, not, ◌&&◌}
 use Rattle.graph_model.specs.declared.plan.Weights.{Weights}
 use Rattle.session_core.specs.declared.request.Channel.{Channel}
 use Rattle.session_core.specs.declared.request.Channel.TheVariants.{Shell, Control}

@@ -1,5 +1,4 @@
 -- What entries are about.
-use Rattle.std.specs.Prelude.{List, [], ◌∷◌}
 use Rattle.session_core.specs.declared.request.Request.{Request}
 use Rattle.session_core.specs.declared.entry.Entry.{Entry}
 use Rattle.session_core.specs.declared.entry.Entry.TheVariants.{Opened, Ran, Died, Dead, Sealed, Moved, Adopted, Refused, Resumed}

@@ -1,6 +1,5 @@
 -- Which journals are legal histories of a session.
 use Rattle.std.specs.Prelude.{◌≡◌, ◌≢◌, ℕ, ◌<◌, ◌≤◌, Bool, true, false, ◌||◌, List, [], ◌∷◌, ◌++◌, filter, Option, Some, None}
-use Rattle.nb_outside.specs.declared.feed.Drawn.{Drawn}
 use Rattle.graph_model.specs.declared.graph.Graph.{Graph}
 use Rattle.graph_model.specs.declared.graph.Version.{Version}
 use Rattle.graph_model.specs.declared.plan.Weights.{Weights}

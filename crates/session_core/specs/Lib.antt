@@ -8,4 +8,3 @@ pub mod Engines
 pub mod Answering
 pub mod Stepping
 pub mod Aloneness
-pub mod Counting

@@ -1,5 +1,5 @@
 -- A session as a machine: two lists of waiting requests, a journal, and where its Resident is; and what may happen to it.
-use Rattle.std.specs.Prelude.{◌≡◌, ◌≢◌, ℕ, ◌<◌, ◌⊎◌, Bool, cond, List, [], ◌∷◌, ◌++◌, filter}
+use Rattle.std.specs.Prelude.{◌≡◌, ℕ, ◌⊎◌, cond, List, [], ◌∷◌, ◌++◌, filter}
 use Rattle.session_core.specs.declared.request.Header.{Header}
 use Rattle.session_core.specs.declared.request.Channel.{Channel}
 use Rattle.session_core.specs.declared.request.Request.{Request}
@@ -8,7 +8,7 @@ use Rattle.session_core.specs.declared.entry.Entry.TheVariants.{Opened, Ran, Die
 use Rattle.session_core.specs.Asks.{is_main, is_control}
 use Rattle.session_core.specs.Entries.{IsEnd, IsArrival}
 use Rattle.session_core.specs.Meanings.{Meaning}
-use Rattle.session_core.specs.Legal.{Phase, settled, sealed, arriving, Progress, progress_of, MayCome}
+use Rattle.session_core.specs.Legal.{settled, sealed, arriving, Progress, progress_of, MayCome}
 
 -- where the Resident is, which owns the engine and the journal
 pub data Seat : Type 0 where

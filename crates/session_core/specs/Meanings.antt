@@ -1,5 +1,5 @@
 -- What an engine gives: which lists of asks may be served, what is answered, and what such a list leaves.
-use Rattle.std.specs.Prelude.{◌≡◌, ℕ, Bool, true, false, List, [], ◌∷◌, ◌++◌}
+use Rattle.std.specs.Prelude.{◌≡◌, ℕ, false, List, [], ◌∷◌, ◌++◌}
 use Rattle.nb_outside.specs.declared.feed.Drawn.{Drawn}
 use Rattle.graph_model.specs.declared.graph.Graph.{Graph}
 use Rattle.graph_model.specs.declared.plan.Plan.{Plan}

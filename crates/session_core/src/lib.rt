@@ -20,6 +20,3 @@ pub use entry::{DiedCause, Entry, MoveRefusal};
 pub use journal::Journal;
 pub use reply::{Completion, Done, Reply};
 pub use request::{Ask, Channel, Header, Request};
-
-#[cfg(test)]
-mod tests;

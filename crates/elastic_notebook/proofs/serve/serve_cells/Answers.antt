@@ -7,7 +7,7 @@ use Rattle.elastic_notebook.proofs.serve.serve_cells.Goals as goal
 
 pub loop-served-init : goal.loop-served-init
 loop-served-init g c =
-    let fresh = c.new-session.ensures in
+    let fresh = c.new-session.ensures.state in
     rw fresh (nothing_served _ _ _ _ _ _, c.requires, refl, omega arith, omega arith)
 
 pub returns-in-Err-clause-err : goal.returns-in-Err-clause-err

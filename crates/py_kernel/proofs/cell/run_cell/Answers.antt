@@ -2,7 +2,7 @@ use Rattle.std.proofs.Common.{◌∙◌, ap, Err, refl}
 use Rattle.py_machine.specs.Runs.{start}
 use Rattle.py_meaning.specs.Meaning.{cell}
 use Rattle.py_meaning.proofs.Telling.{failed_rises}
-use Rattle.py_kernel.proofs.Ending.{fed_start, end_is}
+use Rattle.py_kernel.proofs.Ending.{fed_start, end_is, uses_up}
 use Rattle.py_kernel.proofs.cell.run_cell.Goals as goal
 use Rattle.py_kernel.proofs.cell.run_cell.Goals.{in-Ok, in-Err-Raised, in-Err-DrawFailed}
 
@@ -44,3 +44,18 @@ returns-clause-feed_error g c = λ x. elim c.match-outcome.branch [
       failed_rises (cell c.args.body.now) _ c.cell-outcome.new.machine c.cell-outcome.result _ _ (w.in-Err-DrawFailed.is ∙ ap (λ z. Err z) w.in-Err-DrawFailed.field-0-is) c.cell-outcome.ensures.runs
       (c.cell-outcome.ensures.fed (g.F.Feed.seen c.args.feed.now) (fed_start _ _ _ c.in_ok-machine.ensures))
 ]
+
+pub returns-clause-used : goal.returns-clause-used
+returns-clause-used g c =
+    let begins = c.in_ok-machine.ensures ∙ ap start c.replace.ensures.value in
+    elim c.match-outcome.branch [
+      | in-Ok w ↦
+          let is = w.in-Ok.is in
+          uses_up c.args.body.now c.args.state.now c.in_ok-machine.machine c.cell-outcome.new.machine c.cell-outcome.result begins c.cell-outcome.ensures.runs (rw is refl)
+      | in-Err-Raised w ↦
+          let is = w.in-Err-Raised.is ∙ ap (λ z. Err z) w.in-Err-Raised.field-0-is in
+          uses_up c.args.body.now c.args.state.now c.in_ok-machine.machine c.cell-outcome.new.machine c.cell-outcome.result begins c.cell-outcome.ensures.runs (rw is refl)
+      | in-Err-DrawFailed w ↦
+          let is = w.in-Err-DrawFailed.is ∙ ap (λ z. Err z) w.in-Err-DrawFailed.field-0-is in
+          uses_up c.args.body.now c.args.state.now c.in_ok-machine.machine c.cell-outcome.new.machine c.cell-outcome.result begins c.cell-outcome.ensures.runs (rw is refl)
+    ]

@@ -1,4 +1,4 @@
-use Rattle.std.proofs.Common.{◌≡◌, true, false, refl, sym, ap, ◌∙◌, subst}
+use Rattle.std.proofs.Common.{◌≡◌, true, false, refl, sym, ap, ◌∙◌}
 use Rattle.session_core.specs.Legal.{progress_of}
 use Rattle.session_core.proofs.Stepping.{ends_legal, ends_phase, ends_owner, ends_asked}
 use Rattle.session_core.proofs.alone.served.Goals as goal

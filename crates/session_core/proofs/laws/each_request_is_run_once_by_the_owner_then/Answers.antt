@@ -1,4 +1,3 @@
-use Rattle.std.proofs.Common.{◌⊎◌, inl, inr}
 use Rattle.session_core.specs.Asks.{is_main, is_control}
 use Rattle.session_core.proofs.Happening.{opened_goes_on}
 use Rattle.session_core.proofs.Once.{waits_or_run_once}

@@ -1,4 +1,4 @@
-use Rattle.std.proofs.Common.{◌≡◌, refl}
+use Rattle.std.proofs.Common.{refl}
 use Rattle.session_core.specs.declared.entry.Entry.TheVariants.{Refused}
 use Rattle.session_core.specs.Legal.{progress_of}
 use Rattle.session_core.proofs.Going.{refused, early, stays}

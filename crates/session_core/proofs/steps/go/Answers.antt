@@ -1,5 +1,5 @@
-use Rattle.std.proofs.Common.{◌≡◌, ◌++◌, ◌∷◌, [], ◌⊎◌, inl, inr, refl, sym, ap, ◌∙◌, subst}
-use Rattle.session_core.specs.declared.entry.Entry.TheVariants.{Sealed, Moved, Adopted, Resumed}
+use Rattle.std.proofs.Common.{◌≡◌, ◌++◌, ◌∷◌, [], inl, sym, ap, ◌∙◌, subst}
+use Rattle.session_core.specs.declared.entry.Entry.TheVariants.{Sealed, Moved, Adopted}
 use Rattle.session_core.specs.Legal.{progress_of}
 use Rattle.session_core.specs.Meanings.{IsPacked}
 use Rattle.session_core.proofs.steps.go.Goals as goal

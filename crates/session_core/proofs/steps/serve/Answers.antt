@@ -1,4 +1,4 @@
-use Rattle.std.proofs.Common.{◌≡◌, ◌||◌, refl, sym, ap, ◌∙◌, subst}
+use Rattle.std.proofs.Common.{◌||◌, refl, sym, ap, ◌∙◌, subst}
 use Rattle.session_core.specs.declared.entry.Entry.TheVariants.{Ran, Died}
 use Rattle.session_core.specs.Asks.{is_end}
 use Rattle.session_core.specs.Legal.{progress_of}

@@ -1,4 +1,4 @@
-use Rattle.std.proofs.Common.{◌≡◌, ◌++◌, ◌∷◌, [], refl, sym, ap, ◌∙◌}
+use Rattle.std.proofs.Common.{◌++◌, ◌∷◌, [], refl, sym, ap, ◌∙◌}
 use Rattle.session_core.specs.declared.entry.Entry.TheVariants.{Refused, Resumed}
 use Rattle.session_core.specs.Legal.{progress_of}
 use Rattle.session_core.proofs.Going.{refused, resumed, against, no_memory, owner_stays}

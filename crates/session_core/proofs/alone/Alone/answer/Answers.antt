@@ -1,5 +1,5 @@
-use Rattle.std.proofs.Common.{◌≡◌, true, false, ◌++◌, ◌∷◌, [], refl, sym, ap, ◌∙◌, subst}
-use Rattle.session_core.specs.Legal.{progress_of, asked}
+use Rattle.std.proofs.Common.{◌≡◌, true, false, ◌++◌, ◌∷◌, [], sym, ap, ◌∙◌}
+use Rattle.session_core.specs.Legal.{asked}
 use Rattle.session_core.proofs.Stepping.{ends_legal, ends_phase, ends_asked, dead_stays, dead_served}
 use Rattle.session_core.proofs.alone.Alone.answer.Goals as goal
 

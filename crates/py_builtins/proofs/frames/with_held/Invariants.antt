@@ -1,0 +1,6 @@
+use Rattle.std.proofs.Common.{◌≡◌, drop}
+use Rattle.py_meaning.specs.Meaning as spec
+use Rattle.py_builtins.proofs.frames.with_held.Given as goal
+
+abbrev pub invariant-loop-name : goal.invariant-loop-name
+invariant-loop-name l = spec.with_held l.fn.frame l.names l.fn.values ≡ spec.with_held l.frame (drop l.name-index l.names) l.rest

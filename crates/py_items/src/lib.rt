@@ -1,0 +1,21 @@
+//! Items of lists, dicts and texts: what an index and a slice give, what is stored and deleted, and what a `for` goes over.
+//! (Python reference: subscriptions, slicings, assignment statements, the `for` statement.)
+#![tactic(auto)]
+
+mod advanced;
+mod deleted;
+mod filled;
+mod indexed;
+mod iterated;
+mod places;
+mod sliced;
+mod stored;
+
+pub use advanced::advance;
+pub use deleted::delete_item;
+pub use filled::{fill, keys_from};
+pub use indexed::index;
+pub use iterated::{iterate, range_of};
+pub use places::{clipped, item_at, place_in, short_place};
+pub use sliced::slice;
+pub use stored::{put, store_item};

@@ -1,0 +1,69 @@
+ghost use Rattle.std.specs.Prelude.{◌≡◌, ◌<◌, ◌≤◌, length, IfOk, IfSome};
+ghost use Rattle.std.specs.Option.{option_copied};
+ghost use Rattle.py_ops.specs.Signs.{number_of};
+ghost use Rattle.py_meaning.specs.Items as spec;
+
+use plain_data::Items;
+use py_ops::Signed;
+use py_value::Value;
+use std::alloc::AllocError;
+
+/// The place of an index among so many, if it is there: below 0 it counts from the end.
+pub fn place_in(count: usize, index: Signed) -> Option<usize>
+    ensures value { result ≡ spec.place_in count (number_of index) }
+    ensures within { IfSome result (λ place. place < count) }
+{
+    match index {
+        Signed::Natural(n) => {
+            if n < count as u128 {
+                Some(n as usize)
+            } else {
+                None
+            }
+        }
+        Signed::Negative(n) => {
+            if n < count as u128 {
+                Some(count - 1 - n as usize)
+            } else {
+                None
+            }
+        }
+    }
+}
+
+/// The place from 0 to a count that is nearest to an index: below 0 it counts from the end.
+pub fn clipped(count: usize, index: Signed) -> usize
+    ensures value { result ≡ spec.clipped count (number_of index) }
+    ensures within { result ≤ count }
+{
+    match index {
+        Signed::Natural(n) => n.min(count as u128) as usize,
+        Signed::Negative(n) => {
+            if n < count as u128 {
+                count - 1 - n as usize
+            } else {
+                0
+            }
+        }
+    }
+}
+
+/// The item at an index, if it is there.
+pub fn item_at(items: &Items<Value>, index: Signed) -> Option<&Value>
+    ensures { option_copied result ≡ spec.item_at items.now (spec.place_in (length items.now) (number_of index)) }
+{
+    match place_in(items.len(), index) {
+        Some(place) => items.get(place),
+        None => None,
+    }
+}
+
+/// A place as changes name it. One past 32 bits is want of memory: the meter lets no list get so long.
+pub fn short_place(place: usize) -> Result<u32, AllocError>
+    ensures { IfOk result (λ short. short ≡ place) }
+{
+    if place > u32::MAX as usize {
+        return Err(AllocError);
+    }
+    Ok(place as u32)
+}

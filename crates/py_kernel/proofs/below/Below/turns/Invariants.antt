@@ -1,0 +1,13 @@
+use Rattle.std.proofs.Common.{drop, ◌-◌}
+use Rattle.py_machine.specs.Runs.{LeadsTo, Grows, Feeding}
+use Rattle.py_meaning.specs.Acts.{run}
+use Rattle.py_meaning.specs.Meaning as spec
+use Rattle.py_meaning.specs.Meaning.{level}
+use Rattle.py_kernel.proofs.below.Below.turns.Given as goal
+
+abbrev pub invariant-loop-turn : goal.invariant-loop-turn
+invariant-loop-turn g l = record {
+  runs : LeadsTo (run (spec.turns (level l.self.left) spec.most_turns l.test l.body)) l.initial.machine (run (spec.turns (level l.self.left) (spec.most_turns - l._turn) l.test l.body)) l.machine;
+  grows : Grows l.initial.machine l.machine;
+  fed : Feeding l.initial.machine.drawn (g.F.Feed.seen l.initial.feed) l.machine.drawn (g.F.Feed.seen l.feed);
+}

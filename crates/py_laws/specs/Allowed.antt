@@ -1,0 +1,36 @@
+-- Statements that bind only names that a program may bind, and define only functions that pass a test.
+use Rattle.std.specs.Prelude.{Bool, IsTrue, List, All}
+use Rattle.py_names.specs.Names.{is_variable}
+use Rattle.py_tree.specs.declared.expressions.Target.{Target}
+use Rattle.py_tree.specs.declared.expressions.Target.TheVariants as target
+use Rattle.py_tree.specs.declared.statements.Arm.{Arm}
+use Rattle.py_tree.specs.declared.statements.Def.{Def}
+use Rattle.py_tree.specs.declared.statements.Stmt.{Stmt}
+use Rattle.py_tree.specs.declared.statements.Stmt.TheOpen.{Stmt-F, Arm-F, Def-F}
+use Rattle.py_tree.specs.declared.statements.Stmt.TheFolds.{every-Stmt}
+
+-- an item of a list or dict binds no name
+abbrev pub MayBindAt : Target → Type 0
+MayBindAt (target.Name name) = IsTrue (is_variable name)
+MayBindAt (target.Item on at) = Unit {0}
+
+-- a statement by itself: the name that it binds is one that a program may bind, and the function that it defines passes the test
+abbrev pub IsAllowedHere : (Def → Bool) → Stmt-F Stmt Arm Def → Type 0
+IsAllowedHere test (Stmt-F.Assign place e) = MayBindAt place
+IsAllowedHere test (Stmt-F.Augment place op e) = MayBindAt place
+IsAllowedHere test (Stmt-F.For name source body) = IsTrue (is_variable name)
+IsAllowedHere test (Stmt-F.Function def) = IsTrue (is_variable def.name) × IsTrue (test def)
+IsAllowedHere test _ = Unit {0}
+
+abbrev pub ArmAny : Arm-F Stmt Arm Def → Type 0
+ArmAny arm = Unit {0}
+
+abbrev pub DefAny : Def-F Stmt Arm Def → Type 0
+DefAny def = Unit {0}
+
+-- it and each statement inside it, at any depth, those of functions too
+abbrev pub IsAllowed : (Def → Bool) → Stmt → Type 0
+IsAllowed test = every-Stmt (IsAllowedHere test) ArmAny DefAny
+
+abbrev pub AreAllowed : (Def → Bool) → List Stmt → Type 0
+AreAllowed test body = All (IsAllowed test) body

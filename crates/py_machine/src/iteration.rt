@@ -1,0 +1,28 @@
+use plain_data::SharedText;
+
+/// What a `for` goes over, from where it has come to.
+#[derive(Drop)]
+pub enum Iteration {
+    /// The items of the list at an address, from a place on.
+    Items {
+        at: u32,
+        next: usize,
+    },
+    /// The keys of the dict at an address, from a place on. The dict had so many pairs at the start.
+    Keys {
+        at: u32,
+        next: usize,
+        size: usize,
+    },
+    /// The characters of a text, from a place on.
+    Characters {
+        text: SharedText,
+        next: usize,
+    },
+    /// The numbers from `next` on by `step`, before `stop`. There is no next one past 128 bits.
+    Range {
+        next: Option<i128>,
+        stop: i128,
+        step: i128,
+    },
+}

@@ -1,0 +1,9 @@
+use Rattle.std.proofs.Common.{◌≡◌, ◌+◌, ◌++◌, length}
+use Rattle.std.specs.List.{flat_map}
+use Rattle.py_methods.proofs.texts.more_len.Given as goal
+
+abbrev pub invariant-loop-rest : goal.invariant-loop-rest
+invariant-loop-rest l = length (l.first ++ flat_map (λ text. l.between ++ text) l.fn.more) ≡ l.units + length (flat_map (λ text. l.between ++ text) l.rest)
+
+abbrev pub decreases-loop-rest : goal.decreases-loop-rest
+decreases-loop-rest l = length l.rest

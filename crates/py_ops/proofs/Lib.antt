@@ -1,0 +1,5 @@
+pub mod Compared
+pub mod Deeper
+pub mod Lengths
+pub mod Substrings
+pub mod Repeated

@@ -1,0 +1,10 @@
+use Rattle.std.proofs.Common.{◌≡◌, ◌+◌, ◌≤◌, length}
+use Rattle.std.specs.Prelude.{sum_by}
+use Rattle.py_value.specs.Values.{weight}
+use Rattle.py_ops.proofs.operators.charge_items.Given as goal
+
+abbrev pub invariant-loop-rest : goal.invariant-loop-rest
+invariant-loop-rest l = (sum_by weight l.fn.items ≡ l.units + sum_by weight l.rest) × (l.units ≤ 16777216)
+
+abbrev pub decreases-loop-rest : goal.decreases-loop-rest
+decreases-loop-rest l = length l.rest

@@ -1,0 +1,241 @@
+ghost use Rattle.std.specs.Prelude.{◌≡◌, ◌+◌, ◌*◌, ◌≤◌, ◌++◌, length, sum_by, IfOk, OnOk, SomeIff};
+ghost use Rattle.std.specs.List.{repeat};
+ghost use Rattle.py_value.specs.Values.{weight as weight_of};
+ghost use Rattle.py_machine.specs.Runs.{Is, Still, charge};
+ghost use Rattle.py_meaning.specs.Acts.{run};
+ghost use Rattle.py_meaning.specs.Numbers as numbers;
+ghost use Rattle.py_meaning.specs.Operators as spec;
+ghost use Rattle.py_ops.specs.Signs.{number_of};
+
+use crate::operators::{listed, unsupported};
+use crate::signs::{Signed, sign_of};
+use plain_data::{Items, SharedText, Text};
+use py_heap::METER_LIMIT;
+use py_machine::{Fault, Machine, memory_error};
+use py_objects::list_at;
+use py_tree::Op;
+use py_value::{Value, weight};
+use std::alloc::{AllocError, Global};
+
+/// How many times a number repeats: below 1 none.
+fn times(number: Signed) -> u128
+    ensures { result ≡ spec.times (number_of number) }
+{
+    match number {
+        Signed::Natural(count) => count,
+        Signed::Negative(_) => 0,
+    }
+}
+
+/// So many times so many units, if the meter's limit has room for them.
+fn units_of(count: u128, each: u64) -> Option<u64>
+    ensures { SomeIff result (count * each ≤ METER_LIMIT) (count * each) }
+{
+    match count.checked_mul(u128::from(each)) {
+        Some(units) => {
+            if units <= u128::from(METER_LIMIT) {
+                Some(units as u64)
+            } else {
+                None
+            }
+        }
+        None => None,
+    }
+}
+
+/// The charge of a text so many times.
+#[tactic(auto, unfolding(py_machine::specs::Runs::charge), using(crate::proofs::Repeated::repetitions))]
+fn charge_text(
+    alloc: Global,
+    machine: &mut Machine,
+    count: u128,
+    text: &SharedText,
+) -> Result<(), Fault>
+    ensures runs { Is (charge (length (repeat count text.now)) machine.old) result machine.new }
+    ensures drawn { machine.new.drawn ≡ machine.old.drawn }
+    ensures within { OnOk result (count * length text.now ≤ METER_LIMIT) }
+{
+    match units_of(count, text.len() as u64) {
+        Some(units) => machine.charge(alloc, units),
+        None => Err(Fault::Raised(memory_error(alloc)?)),
+    }
+}
+
+/// A text so many times.
+#[tactic(auto, using(crate::proofs::Repeated::repeat_none, crate::proofs::Repeated::times_le))]
+fn copies_of_text(alloc: Global, count: u128, text: &SharedText) -> Result<Text, AllocError>
+    requires { count * length text.now ≤ METER_LIMIT }
+    ensures { IfOk result (λ all. all ≡ repeat count text.now) }
+{
+    if text.len() == 0 {
+        return Text::new(alloc, "");
+    }
+    Ok(Text::from_string(text.as_str().repeat(alloc, count as usize)?))
+}
+
+/// A text that is repeated. It is charged before it is made.
+#[tactic(auto, unfolding(py_meaning::specs::Operators::made_text))]
+fn text_repeated(
+    alloc: Global,
+    machine: &mut Machine,
+    count: u128,
+    text: &SharedText,
+) -> Result<Value, Fault>
+    ensures runs { Still (run (spec.made_text (repeat count text.now))) machine.old result machine.new }
+    ensures drawn { machine.new.drawn ≡ machine.old.drawn }
+{
+    charge_text(alloc, machine, count, text)?;
+    let all = copies_of_text(alloc, count, text)?;
+    Ok(Value::Text(SharedText::new(alloc, all)?))
+}
+
+/// What items weigh together, if the meter's limit has room for that.
+fn weights(items: &[Value]) -> Option<u64>
+    ensures { SomeIff result (sum_by weight_of items.entry.now ≤ METER_LIMIT) (sum_by weight_of items.entry.now) }
+{
+    let mut units: u64 = 0;
+    let mut rest = items;
+    while let [item, more @ ..] = rest {
+        let next = weight(item);
+        if next > u64::from(METER_LIMIT) - units {
+            return None;
+        }
+        units += next;
+        rest = more;
+    }
+    Some(units)
+}
+
+/// The units of a list of items so many times, if the meter's limit has room for them.
+#[tactic(auto, using(crate::proofs::Repeated::weighed))]
+fn list_units(count: u128, items: &[Value]) -> Option<u64>
+    ensures { SomeIff result (spec.list_units (repeat count items.now) ≤ METER_LIMIT) (spec.list_units (repeat count items.now)) }
+{
+    if count == 0 {
+        return Some(1);
+    }
+    let each = weights(items)?;
+    let units = units_of(count, each)?;
+    if units < u64::from(METER_LIMIT) {
+        Some(units + 1)
+    } else {
+        None
+    }
+}
+
+/// The charge of a new list of items so many times.
+#[tactic(auto, unfolding(py_machine::specs::Runs::charge))]
+fn charge_copies(
+    alloc: Global,
+    machine: &mut Machine,
+    count: u128,
+    items: &[Value],
+) -> Result<(), Fault>
+    ensures runs { Is (charge (spec.list_units (repeat count items.now)) machine.old) result machine.new }
+    ensures drawn { machine.new.drawn ≡ machine.old.drawn }
+    ensures within { OnOk result (spec.list_units (repeat count items.now) ≤ METER_LIMIT) }
+{
+    match list_units(count, items) {
+        Some(units) => machine.charge(alloc, units),
+        None => Err(Fault::Raised(memory_error(alloc)?)),
+    }
+}
+
+/// Puts copies of items after others. After an error some of them may be there.
+fn append_copies(all: &mut Items<Value>, items: &[Value]) -> Result<(), AllocError>
+    ensures { OnOk result (all.new ≡ all.old ++ items.now) }
+{
+    for item in items {
+        all.push(item.copy()?)?;
+    }
+    Ok(())
+}
+
+/// Items so many times.
+#[tactic(auto, using(crate::proofs::Repeated::copied))]
+fn copies_of_items(alloc: Global, count: u128, items: &[Value]) -> Result<Items<Value>, AllocError>
+    requires { spec.list_units (repeat count items.now) ≤ METER_LIMIT }
+    ensures { IfOk result (λ all. all ≡ repeat count items.now) }
+{
+    let mut all = Items::new(alloc);
+    if items.len() == 0 {
+        return Ok(all);
+    }
+    for turn in 0..count as usize {
+        append_copies(&mut all, items)?;
+    }
+    Ok(all)
+}
+
+/// A list that is repeated. It is charged before it is made.
+#[tactic(auto, unfolding(py_meaning::specs::Operators::joined))]
+fn items_repeated(
+    alloc: Global,
+    machine: &mut Machine,
+    count: u128,
+    items: &[Value],
+) -> Result<Value, Fault>
+    ensures runs { Still (run (spec.joined (repeat count items.now))) machine.old result machine.new }
+    ensures drawn { machine.new.drawn ≡ machine.old.drawn }
+{
+    charge_copies(alloc, machine, count, items)?;
+    let all = copies_of_items(alloc, count, items)?;
+    listed(alloc, machine, all)
+}
+
+/// The list at an address, repeated.
+#[tactic(auto, unfolding(py_meaning::specs::Operators::ref_repeated))]
+fn ref_repeated(
+    alloc: Global,
+    machine: &mut Machine,
+    number: Signed,
+    left: &Value,
+    right: &Value,
+    at: u32,
+) -> Result<Value, Fault>
+    ensures runs { Still (run (spec.ref_repeated (number_of number) left.now right.now at)) machine.old result machine.new }
+    ensures drawn { machine.new.drawn ≡ machine.old.drawn }
+{
+    match list_at(alloc, machine, at)? {
+        Some(items) => items_repeated(alloc, machine, times(number), items.as_slice()),
+        None => unsupported(alloc, machine, Op::Times, left, right),
+    }
+}
+
+/// A text or a list, which is one of the two operands, repeated.
+fn repeated(
+    alloc: Global,
+    machine: &mut Machine,
+    number: Signed,
+    left: &Value,
+    right: &Value,
+    value: &Value,
+) -> Result<Value, Fault>
+    ensures runs { Still (run (spec.repeated (number_of number) left.now right.now value.now)) machine.old result machine.new }
+    ensures drawn { machine.new.drawn ≡ machine.old.drawn }
+{
+    match value {
+        Value::Text(text) => text_repeated(alloc, machine, times(number), text),
+        Value::Ref(at) => ref_repeated(alloc, machine, number, left, right, *at),
+        Value::Nothing | Value::Bool(_) | Value::Number(_) | Value::Builtin(_) => {
+            unsupported(alloc, machine, Op::Times, left, right)
+        }
+    }
+}
+
+/// `*` between what isn't two numbers.
+pub(crate) fn multiplied(
+    alloc: Global,
+    machine: &mut Machine,
+    left: &Value,
+    right: &Value,
+) -> Result<Value, Fault>
+    ensures runs { Still (run (spec.multiplied (numbers.as_number left.now) (numbers.as_number right.now) left.now right.now)) machine.old result machine.new }
+    ensures drawn { machine.new.drawn ≡ machine.old.drawn }
+{
+    match (sign_of(left), sign_of(right)) {
+        (Some(number), _) => repeated(alloc, machine, number, left, right, right),
+        (None, Some(number)) => repeated(alloc, machine, number, left, right, left),
+        (None, None) => unsupported(alloc, machine, Op::Times, left, right),
+    }
+}

@@ -1,0 +1,4 @@
+pub mod Limiting
+pub mod Alike
+pub mod Deeper
+pub mod Ending

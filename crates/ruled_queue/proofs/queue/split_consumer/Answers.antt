@@ -1,0 +1,5 @@
+use Rattle.ruled_queue.proofs.Keeping.{forks_roles}
+use Rattle.ruled_queue.proofs.queue.split_consumer.Goals as goal
+
+pub another-requires-clause-rule : goal.another-requires-clause-rule
+another-requires-clause-rule g c = forks_roles g.N.Numbering.number g.N.Numbering.is_fit g.N.Numbering.opens _ _ c.requires.consumer

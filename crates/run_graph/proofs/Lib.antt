@@ -1,0 +1,17 @@
+pub mod Lists
+pub mod Reached
+pub mod Weighing
+pub mod Kept
+pub mod Holding
+pub mod Standing
+pub mod Checking
+pub mod Fencing
+pub mod Repeating
+pub mod Runs
+pub mod Growing
+pub mod Fitting
+pub mod Only
+pub mod Ending
+pub mod Examples
+pub mod JoinedAndSplit
+pub mod DeletedAndBound

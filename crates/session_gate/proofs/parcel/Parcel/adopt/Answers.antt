@@ -1,0 +1,32 @@
+use Rattle.std.proofs.Common.{◌≡◌, ◌<◌, ◌≤◌, ◌+◌, sym, ap, ◌∙◌, refl, subst, ◌∷◌, ◌++◌, [], arith}
+use Rattle.session_core.specs.declared.entry.Entry.TheVariants.{Sealed, Moved, Adopted, Refused, Resumed}
+use Rattle.session_core.specs.Legal.{settled, sealed, arriving, progress_of, after, moved, asked_by}
+use Rattle.session_core.proofs.Progressing.{progress_more}
+use Rattle.session_gate.specs.Facts.{Holds, Away, HasNoted, IsOnItsWay, IsPackFor}
+use Rattle.session_gate.proofs.Noting.{answered_more, settled_now}
+use Rattle.session_gate.proofs.Going.{may_move, may_stay, may_adopt, moved_way, arriving_room, sealed_room}
+use Rattle.session_gate.proofs.parcel.Parcel.adopt.Goals as goal
+
+pub adopt-requires-clause-spare : goal.adopt-requires-clause-spare
+adopt-requires-clause-spare g c = let i = c.self.inside in
+    arriving_room (progress_of i.resident.entries).phase i.again i.to i.resident.spare (subst (λ (p : Away g.row.E.Denot g.row.F.Denot). (progress_of p.held.entries).phase ≡ arriving p.again p.to) (sym c.self.view_is) c.requires.arriving) c.self.invariant.phase
+
+pub adopt-requires-clause-may : goal.adopt-requires-clause-may
+adopt-requires-clause-may g c = let i = c.self.inside in let v = c.self.view_is in
+    may_adopt g.E.Engine.meaning i.resident.hosts (progress_of i.resident.entries) (progress_of i.resident.entries).phase i.again i.from i.to c.args.objects (record { bytes = i.bytes; certified = i.certified })
+    (subst (λ (p : Away g.row.E.Denot g.row.F.Denot). (progress_of p.held.entries).phase ≡ arriving p.again p.to) (sym v) c.requires.arriving) c.self.invariant.from c.self.invariant.packs
+    (subst (λ (p : Away g.row.E.Denot g.row.F.Denot). g.E.Engine.meaning.HasObjects (progress_of p.held.entries).served c.args.objects) (sym v) c.requires.objects)
+
+pub adopt-requires-clause-still : goal.adopt-requires-clause-still
+adopt-requires-clause-still g c = (refl, refl, refl, refl)
+
+pub adopt-requires-clause-owes : goal.adopt-requires-clause-owes
+adopt-requires-clause-owes g c = let i = c.self.inside in
+    answered_more i.resident.entries (Adopted i.from i.to i.again i.certified c.args.objects) i.resident.ends [] refl c.self.invariant.owes refl
+
+pub adopt-requires-clause-stands : goal.adopt-requires-clause-stands
+adopt-requires-clause-stands g c = let v = c.self.view_is in
+    (subst (λ (p : Away g.row.E.Denot g.row.F.Denot). g.E.Engine.stands_for c.args.engine (progress_of p.held.entries).served) (sym v) c.requires.stands, c.requires.host ∙ ap (λ (p : Away g.row.E.Denot g.row.F.Denot). p.to) (sym v))
+
+pub invariant_of-result : goal.invariant_of-result
+invariant_of-result g c = let i = c.self.inside in settled_now i.resident.entries _ (Adopted i.from i.to i.again i.certified c.args.objects) c.adopt.ensures.noted.1 refl

@@ -1,0 +1,19 @@
+use Rattle.std.proofs.Common.{◌≡◌, sym, ap, ◌∙◌, ◌++◌, ◌∷◌, [], subst}
+use Rattle.session_core.specs.Legal.{progress_of, MayCome}
+use Rattle.session_gate.specs.Answered.{IsAnswered}
+use Rattle.session_gate.specs.Facts.{Holds}
+use Rattle.session_gate.specs.Slots.{IsQuiet}
+use Rattle.session_gate.proofs.Noting.{noted}
+use Rattle.session_gate.proofs.resident.Resident.note.Goals as goal
+
+pub invariant_of-self : goal.invariant_of-self
+invariant_of-self g c = let e = g.E.Engine in let v = c.self.view_is in let i = c.self.inside in let r = c.requires in
+    noted e.meaning i.hosts (e.stands_for i.engine) (e.host_of i.engine) (g.F.Feed.seen i.feed) i.dead i.count i.journal.entries c.push.new.self.entries i.ends i.publisher c.args.entry c.self.invariant c.push.ensures.entries
+    (subst (λ (h : Holds g.row.E.Denot g.row.F.Denot). MayCome e.meaning h.hosts (progress_of h.entries) c.args.entry) (sym v) r.may)
+    (subst (λ (h : Holds g.row.E.Denot g.row.F.Denot). IsQuiet (progress_of h.entries) c.args.entry) (sym v) r.quiet)
+    (subst (λ (h : Holds g.row.E.Denot g.row.F.Denot). IsAnswered (h.entries ++ c.args.entry ∷ []) h.ends []) (sym v) r.owes)
+
+pub returns-clause-owes : goal.returns-clause-owes
+returns-clause-owes g c = let v = c.self.view_is in
+    subst (λ es. IsAnswered es c.self.inside.ends []) (sym c.push.ensures.entries)
+    (subst (λ (h : Holds g.row.E.Denot g.row.F.Denot). IsAnswered (h.entries ++ c.args.entry ∷ []) h.ends []) (sym v) c.requires.owes)

@@ -1,0 +1,113 @@
+-- What contracts see of a Resident, a Lease and a Parcel, and what their types keep.
+use Rattle.std.specs.Prelude.{◌≡◌, ◌⊎◌, ℕ, ◌+◌, ◌≤◌, Bool, true, false, ⊤, List, [], ◌∷◌, ◌++◌, slice_get, Option, Some, None, MatchOption, Ok}
+use Rattle.nb_outside.specs.Feeds.{Seen}
+use Rattle.graph_model.specs.declared.plan.Certified.{Certified}
+use Rattle.graph_model.specs.declared.plan.Weights.{Weights}
+use Rattle.session_core.specs.declared.request.Ask.{Ask}
+use Rattle.session_core.specs.declared.request.Request.{Request}
+use Rattle.session_core.specs.declared.entry.Entry.{Entry}
+use Rattle.session_core.specs.declared.entry.Entry.TheVariants.{Opened, Ran, Died, Dead, Sealed, Moved, Adopted, Refused, Resumed}
+use Rattle.session_core.specs.declared.engine.Packed.{Packed}
+use Rattle.session_core.specs.Asks.{IsMove}
+use Rattle.session_core.specs.Engines.{Packs}
+use Rattle.session_core.specs.Meanings.{Served, Meaning}
+use Rattle.session_core.specs.Legal.{Phase, settled, sealed, arriving, Progress, progress_of, CanGo, IsLegal}
+use Rattle.session_queues.specs.declared.shared.SharedQueues.{SharedQueues}
+use Rattle.session_queues.specs.Passes.{KeepsAll}
+use Rattle.session_queues.specs.Ends.{Held, OnOut}
+use Rattle.session_gate.specs.Answered.{IsAnswered}
+use Rattle.session_gate.specs.Drawing.{HasDrawn}
+
+-- what a contract sees of a session's owner: engine and feed, the journal with its room, the ends of the queues, the session's
+-- number and the number of hosts
+pub record Holds (E F : Type 0) : Type 0 where
+  pub engine : E
+  pub feed : F
+  pub entries : List Entry
+  pub spare : ℕ
+  pub ends : Held
+  -- what was pushed on out
+  pub out : OnOut
+  pub number : ℕ
+  pub hosts : ℕ
+
+-- The journal is legal. While the session is alive the engine stands for what was served, on the owner, or last owner; once it is
+-- dead the count is that of what was served.
+pub record IsKept (meaning : Meaning) (Stands : List Served → Type 0) (host hosts : ℕ) (is_dead : Bool) (count : ℕ) (entries : List Entry) : Type 0 where
+  pub legal : IsLegal meaning hosts entries
+  pub dead : is_dead ≡ (progress_of entries).dead
+  pub alive : is_dead ≡ false → Stands (progress_of entries).served × (host ≡ (progress_of entries).owner)
+  pub counts : is_dead ≡ true → count ≡ meaning.count (progress_of entries).served
+
+-- what was pushed on the session's out queue is the beginning of the journal
+abbrev pub IsPublished : List Entry → Held → OnOut → Type 0
+IsPublished entries ends published = (published.out_queue ≡ ends.queues.out) × ((rest : List Entry) × (entries ≡ published.entries ++ rest))
+
+-- all that a Resident keeps
+pub record IsResident (meaning : Meaning) (Stands : List Served → Type 0) (host : ℕ) (seen : Seen) (hosts : ℕ) (is_dead : Bool) (count : ℕ) (entries : List Entry) (ends : Held) (out : OnOut) : Type 0 where
+  pub kept : IsKept meaning Stands host hosts is_dead count entries
+  pub answered : (owed : List Request) × IsAnswered entries ends owed
+  pub drawn : HasDrawn seen entries
+  pub published : IsPublished entries ends out
+
+module _ {E F : Type 0} where
+  abbrev pub owner_of : Holds E F → ℕ
+  owner_of h = (progress_of h.entries).owner
+
+  abbrev pub IsSettled : Holds E F → Type 0
+  IsSettled h = (progress_of h.entries).phase ≡ settled
+
+  -- every request that was popped is answered
+  abbrev pub OwesNone : Holds E F → Type 0
+  OwesNone h = IsAnswered h.entries h.ends []
+
+  -- and one more was popped
+  abbrev pub Owes : Holds E F → Request → Type 0
+  Owes h r = IsAnswered h.entries h.ends (r ∷ [])
+
+  -- it holds no producer's lists
+  abbrev pub IsBare : Holds E F → Type 0
+  IsBare h = (h.ends.main.lists ≡ []) × (h.ends.main.given ≡ 0) × (h.ends.control.lists ≡ []) × (h.ends.control.given ≡ 0)
+
+  -- it holds all producers' passes, joined into its own
+  abbrev pub IsWhole : Holds E F → Type 0
+  IsWhole h = KeepsAll h.ends.main × KeepsAll h.ends.control
+
+  -- it belongs to the queues that the name lists under its number, and has the name's number of hosts
+  abbrev pub IsIn : ℕ → List SharedQueues → Holds E F → Type 0
+  IsIn hosts queues h = (slice_get queues h.number ≡ Some h.ends.queues) × (h.hosts ≡ hosts)
+
+  -- the same session with another journal
+  abbrev pub HasSame : Holds E F → Holds E F → Type 0
+  HasSame old new = (new.ends ≡ old.ends) × (new.out ≡ old.out) × (new.number ≡ old.number) × (new.hosts ≡ old.hosts)
+
+  -- one entry more, and nothing else
+  abbrev pub HasNoted : Holds E F → Holds E F → Entry → Type 0
+  HasNoted old new e = (new.engine ≡ old.engine) × (new.feed ≡ old.feed) × (new.entries ≡ old.entries ++ e ∷ []) × (old.spare ≡ new.spare + 1) × HasSame old new
+
+-- what a contract sees of a parcel
+pub record Away (E F : Type 0) : Type 0 where
+  pub held : Holds E F
+  pub bytes : List ℕ
+  pub certified : Certified
+  -- the second copy of the request
+  pub again : Request
+  pub from : ℕ
+  pub to : ℕ
+
+-- where a parcel is: sealed for its host, with room for two entries; or arriving there, with room for one
+abbrev pub IsOnItsWay : Phase → Request → ℕ → ℕ → Type 0
+IsOnItsWay settled again to spare = ⊥
+IsOnItsWay (sealed request host) again to spare = (request ≡ again) × (host ≡ to) × (2 ≤ spare)
+IsOnItsWay (arriving request host) again to spare = (request ≡ again) × (host ≡ to) × (1 ≤ spare)
+
+-- the bytes and the plan are a pack of what this list leaves, under the weights of the move
+abbrev pub IsPackFor : Meaning → List Served → Packed → Ask → Type 0
+IsPackFor meaning served packed ask = IsMove (λ _ weights. Packs meaning served weights (Ok packed)) ask
+
+pub record IsParcel {E F : Type 0} (meaning : Meaning) (p : Away E F) : Type 0 where
+  pub phase : IsOnItsWay (progress_of p.held.entries).phase p.again p.to p.held.spare
+  pub from : p.from ≡ (progress_of p.held.entries).owner
+  pub alive : (progress_of p.held.entries).dead ≡ false
+  pub owes : OwesNone p.held
+  pub packs : IsPackFor meaning (progress_of p.held.entries).served (record { bytes = p.bytes; certified = p.certified }) p.again.ask

@@ -1,0 +1,5 @@
+pub mod Answered
+pub mod Drawing
+pub mod Facts
+pub mod Slots
+pub mod Places

@@ -1,0 +1,77 @@
+-- Where a session's owner stands, and what the calls of a slot do.
+use Rattle.std.specs.Prelude.{◌≡◌, ◌≢◌, ◌==◌, [], ◌∷◌, ◌++◌, MatchOption, MatchResult, ℕ, cond, List, ⊤, Option, Result, Some, None, Ok, Err}
+use Rattle.session_core.specs.declared.request.Header.{Header}
+use Rattle.session_core.specs.declared.request.Channel.{Channel}
+use Rattle.session_core.specs.declared.entry.Entry.TheVariants.{Opened, Moved}
+use Rattle.session_core.specs.Legal.{progress_of, sealed}
+use Rattle.session_queues.specs.declared.items.MainItem.TheVariants.{Opening}
+use Rattle.session_queues.specs.declared.shared.SharedQueues.{SharedQueues}
+use Rattle.session_queues.specs.Passes.{Producer}
+use Rattle.session_queues.specs.Ends.{opened_ends, nothing_on, gathered}
+use Rattle.session_gate.specs.Facts.{Holds, Away, IsIn, IsSettled, OwesNone, IsBare, owner_of, HasNoted}
+use Rattle.session_gate.specs.declared.slot.State.{State}
+use Rattle.session_gate.specs.declared.slot.State.TheVariants.{Unopened, In, Out, Sealed}
+use Rattle.session_gate.specs.declared.slot.Take.{Take}
+use Rattle.session_gate.specs.declared.slot.Take.TheVariants as take
+
+module _ {E F : Type 0} where
+  -- it is a session of the name, settled, and owes nothing; the producers' lists are elsewhere
+  abbrev pub IsAtRest : ℕ → List SharedQueues → Holds E F → Type 0
+  IsAtRest hosts queues h = IsIn hosts queues h × IsSettled h × OwesNone h × IsBare h
+
+  -- the parcel ends with Sealed
+  abbrev pub IsSealedUp : ℕ → List SharedQueues → Away E F → Type 0
+  IsSealedUp hosts queues p = IsIn hosts queues p.held × ((progress_of p.held.entries).phase ≡ sealed p.again p.to) × OwesNone p.held × IsBare p.held
+
+  abbrev pub Stands : ℕ → List SharedQueues → State E F → Type 0
+  Stands hosts queues Unopened = ⊤
+  Stands hosts queues (In h) = IsAtRest hosts queues h
+  Stands hosts queues Out = ⊤
+  Stands hosts queues (Sealed p) = IsSealedUp hosts queues p
+
+  -- nobody stands there
+  abbrev pub IsFree : State E F → Type 0
+  IsFree Unopened = ⊤
+  IsFree (In h) = ⊥
+  IsFree Out = ⊤
+  IsFree (Sealed p) = ⊥
+
+  -- what a host that takes the session gets, and what is left
+  abbrev pub took : State E F → ℕ → Take E F × State E F
+  took Unopened host = (take.Unopened, Unopened)
+  took (In h) host = cond (owner_of h == host) (take.Taken h, Out) (take.Elsewhere (owner_of h), In h)
+  took Out host = (take.Out, Out)
+  took (Sealed p) host = (take.Sealed p.to, Sealed p)
+
+  -- of a lease that was taken this holds
+  abbrev pub OnTaken : (Holds E F → Type 0) → Take E F → Type 0
+  OnTaken P (take.Taken h) = P h
+  OnTaken P (take.Elsewhere owner) = ⊤
+  OnTaken P take.Unopened = ⊤
+  OnTaken P take.Out = ⊤
+  OnTaken P (take.Sealed to) = ⊤
+
+  -- what a host that collects the session gets, and what is left
+  abbrev pub Collects : State E F → ℕ → Option (Away E F) → State E F → Type 0
+  Collects Unopened host r s = (r ≡ None) × (s ≡ Unopened)
+  Collects (In h) host r s = (r ≡ None) × (s ≡ In h)
+  Collects Out host r s = (r ≡ None) × (s ≡ Out)
+  Collects (Sealed p) host r s = MatchOption r ((p.to ≢ host) × (s ≡ Sealed p))
+      (λ q. (p.to ≡ host) × (s ≡ Out) × HasNoted p.held q.held (Moved host) × (q ≡ record p { held = q.held }))
+
+  -- what a caller that holds a pass gets at the end, and what it gets back
+  abbrev pub Finishes : State E F → Producer → Result (Holds E F) (State E F × Producer) → Type 0
+  Finishes (In h) pass r = r ≡ Ok (record h { ends = gathered h.ends pass })
+  Finishes Unopened pass r = r ≡ Err (Unopened, pass)
+  Finishes Out pass r = r ≡ Err (Out, pass)
+  Finishes (Sealed p) pass r = r ≡ Err (Sealed p, pass)
+
+-- a session that was just opened
+pub record IsNew {E F : Type 0} (engine : E) (feed : F) (queues : SharedQueues) (number hosts host : ℕ) (request : Header) (channel : Channel) (h : Holds E F) : Type 0 where
+  pub engine_is : h.engine ≡ engine
+  pub feed_is : h.feed ≡ feed
+  pub entries_are : h.entries ≡ Opened host request channel ∷ []
+  pub ends_are : h.ends ≡ opened_ends queues (Opening host request channel)
+  pub out_is : h.out ≡ nothing_on queues
+  pub number_is : h.number ≡ number
+  pub hosts_are : h.hosts ≡ hosts

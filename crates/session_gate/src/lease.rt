@@ -1,0 +1,220 @@
+ghost use Rattle.std.specs.Prelude.{◌≡◌, ◌≢◌, ◌<◌, ◌≤◌, ◌+◌, [], ◌∷◌, ◌++◌, cond, List, IfOk, MatchOption, MatchResult, Ok};
+ghost use Rattle.session_core.specs.declared.entry.Entry.{Entry};
+ghost use Rattle.session_core.specs.Asks.{IsWork, IsMove, is_control};
+ghost use Rattle.session_core.specs.Engines.{Packs};
+ghost use Rattle.session_core.specs.Legal.{progress_of, IsLegal, IsReason, MayTry, CanGo};
+ghost use Rattle.session_queues.specs.Ends.{FoundNothing, TookRequest, admitted_main, admitted_control};
+ghost use Rattle.session_gate.specs.Facts.{OwesNone, Owes, IsSettled, IsWhole, HasSame, HasNoted, owner_of};
+ghost use Rattle.session_gate.specs.Slots.{IsServed};
+
+use crate::parcel::Parcel;
+use crate::resident::Resident;
+use crate::served::ServedAs;
+use nb_outside::Feed;
+use session_core::{Ask, Engine, Entry, Journal, MoveRefusal, Packed, Request};
+use std::alloc::{AllocError, Global};
+use std::marker::Model;
+use std::sync::Wait;
+
+/// A Resident that is out with its owner.
+pub struct Lease<E: Engine, F: Feed> {
+    pub(crate) resident: Resident<E, F>,
+}
+
+impl<E: Engine, F: Feed> Model for Lease<E, F> {
+    ghost use Rattle.session_gate.specs.Facts.{Holds, IsSettled};
+
+    ghost Value = { Holds E F };
+
+    ghost view = { λ l. l.resident };
+
+    ghost invariant = { λ l. IsSettled l.resident };
+}
+
+impl<E: Engine, F: Feed> Resident<E, F> {
+    /// The Resident, out with its owner.
+    pub fn work(self) -> Lease<E, F>
+        requires { IsSettled self }
+        ensures { result ≡ self }
+    {
+        Lease { resident: self }
+    }
+}
+
+impl<E: Engine, F: Feed> Lease<E, F> {
+    /// The host that owns the session.
+    pub fn host(&self) -> u32
+        ensures { result ≡ owner_of self.now }
+    {
+        self.resident.owner()
+    }
+
+    /// The number of its session.
+    pub fn number(&self) -> u32
+        ensures { result ≡ self.now.number }
+    {
+        self.resident.number()
+    }
+
+    /// The number of hosts.
+    pub fn hosts(&self) -> u32
+        ensures { result ≡ self.now.hosts }
+    {
+        self.resident.hosts()
+    }
+
+    /// The journal.
+    pub fn journal(&self) -> &Journal
+        ensures entries { result.now.entries ≡ self.now.entries }
+        ensures spare { result.now.spare ≡ self.now.spare }
+    {
+        &self.resident.journal
+    }
+
+    /// The engine.
+    pub fn engine(&self) -> &E
+        ensures { result.now ≡ self.now.engine }
+    {
+        &self.resident.engine
+    }
+
+    /// Makes room for so many more entries.
+    pub fn reserve(&mut self, more: u32) -> Result<(), AllocError>
+        ensures same { (self.new.engine ≡ self.old.engine) × (self.new.feed ≡ self.old.feed) × (self.new.entries ≡ self.old.entries) × HasSame self.old self.new }
+        ensures spare { IfOk result (λ _. more ≤ self.new.spare) }
+    {
+        self.resident.reserve(more)
+    }
+
+    /// The control queue's front, or else the main queue's, which the lease then owes. None where each of the two was found empty
+    /// at a step of this call. Takes no memory.
+    pub fn pop<R: Wait>(&mut self, rt: &R) -> Option<Request>
+        requires owes { OwesNone self.old }
+        requires spare { 3 ≤ self.old.spare }
+        ensures same { (self.new.engine ≡ self.old.engine) × (self.new.feed ≡ self.old.feed) × (self.new.entries ≡ self.old.entries) × (self.new.spare ≡ self.old.spare)
+            × (self.new.out ≡ self.old.out) × (self.new.number ≡ self.old.number) × (self.new.hosts ≡ self.old.hosts) }
+        ensures popped { MatchOption result ((self.new.ends ≡ self.old.ends) × FoundNothing self.old.ends) (λ request. TookRequest self.old.ends request self.new.ends × Owes self.new request) }
+    {
+        self.resident.pop(rt)
+    }
+
+    /// Answers the owed request, which is no move: it ran, the session died of it, or was dead.
+    pub fn serve(&mut self, alloc: Global, request: Request) -> ServedAs
+        requires owes { Owes self.old request }
+        requires work { IsWork request.ask }
+        requires spare { 1 ≤ self.old.spare }
+        ensures owes { OwesNone self.new }
+        ensures same { HasSame self.old self.new × (self.old.spare ≡ self.new.spare + 1) }
+        ensures entry { (entry : Entry) × (self.new.entries ≡ self.old.entries ++ entry ∷ []) × IsServed result (owner_of self.old) request (progress_of self.old.entries).dead entry }
+    {
+        self.resident.serve(alloc, request)
+    }
+
+    /// Pushes a request on its queue, where the lease is whole. It comes back for want of memory alone.
+    pub fn admit<R: Wait>(&mut self, rt: &R, request: Request) -> Result<(), Request>
+        requires whole { IsWhole self.old }
+        requires given { request.frontend < self.old.ends.main.given }
+        ensures { MatchResult result
+            (λ _. self.new ≡ record self.old { ends = cond (is_control request) (admitted_control self.old.ends request) (admitted_main self.old.ends request) })
+            (λ r. (r ≡ request) × (self.new ≡ self.old)) }
+    {
+        self.resident.admit(rt, request)
+    }
+
+    /// Notes that the owed request to move is refused, and why.
+    pub fn refuse(self, request: Request, reason: MoveRefusal) -> Lease<E, F>
+        requires owes { Owes self request }
+        requires spare { 1 ≤ self.spare }
+        requires reason { IsMove (λ to weights. IsReason E.meaning self.hosts (progress_of self.entries) to weights reason) request.ask }
+        ensures noted { HasNoted self result (Entry.Refused (owner_of self) request reason) }
+        ensures owes { OwesNone result }
+    {
+        let Lease { resident } = self;
+        let mut resident = resident;
+        let host = resident.owner();
+        resident.note(Entry::Refused {
+            host,
+            request,
+            reason,
+        });
+        Lease { resident }
+    }
+
+    /// Notes that the session stays for want of memory. No reason against the owed move holds, but perhaps the last.
+    pub fn resume(self, request: Request) -> Lease<E, F>
+        requires owes { Owes self request }
+        requires spare { 1 ≤ self.spare }
+        requires may { IsMove (MayTry E.meaning self.hosts (progress_of self.entries)) request.ask }
+        ensures noted { HasNoted self result (Entry.Resumed (owner_of self) request) }
+        ensures owes { OwesNone result }
+    {
+        let Lease { resident } = self;
+        let mut resident = resident;
+        let host = resident.owner();
+        resident.note(Entry::Resumed { host, request });
+        Lease { resident }
+    }
+
+    /// Seals the session for the host that the owed request asks for, with a pack of its engine.
+    pub fn depart(self, request: Request, again: Request, packed: Packed) -> Parcel<E, F>
+        requires owes { Owes self request }
+        requires spare { 3 ≤ self.spare }
+        requires again { again ≡ request }
+        requires packed { IsMove (λ to weights. CanGo E.meaning self.hosts (progress_of self.entries) to × Packs E.meaning (progress_of self.entries).served weights (Ok packed)) request.ask }
+        ensures noted { HasNoted self result.held (Entry.Sealed (owner_of self) request result.to) }
+        ensures to { IsMove (λ to weights. result.to ≡ to) request.ask }
+        ensures from { result.from ≡ owner_of self }
+        ensures kept { (result.bytes ≡ packed.bytes) × (result.certified ≡ packed.certified) × (result.again ≡ again) }
+    {
+        let Lease { resident } = self;
+        let mut resident = resident;
+        let host = resident.owner();
+        let hosts = resident.hosts();
+        let to = aim_of(&request.ask, hosts);
+        let Packed { bytes, certified } = packed;
+        resident.note(Entry::Sealed { host, request, to });
+        Parcel {
+            resident,
+            bytes,
+            certified,
+            again,
+            from: host,
+            to,
+        }
+    }
+
+    /// The journal alone. The engine is let go.
+    pub fn into_journal(self) -> Journal
+    where
+        E: Drop,
+        requires owes { OwesNone self }
+        ensures entries { result.entries ≡ self.entries }
+        ensures legal { IsLegal E.meaning self.hosts self.entries }
+    {
+        let Lease { resident } = self;
+        let Resident {
+            engine: _,
+            feed: _,
+            journal,
+            ends: _,
+            publisher: _,
+            number: _,
+            hosts: _,
+            dead: _,
+            count: _,
+        } = resident;
+        journal
+    }
+}
+
+/// The host that a move asks for, which is below the number of hosts.
+fn aim_of(ask: &Ask, hosts: u32) -> u32
+    requires { IsMove (λ to weights. to < hosts) ask.now }
+    ensures { IsMove (λ to weights. result ≡ to) ask.now }
+{
+    let _ = hosts;
+    match ask {
+        Ask::Migrate { to, .. } => *to as u32,
+        _ => unreachable!(),
+    }
+}

@@ -1,0 +1,195 @@
+ghost use Rattle.std.specs.Prelude.{◌≡◌, ◌≢◌, ◌<◌, ◌≤◌, ◌+◌, [], ◌∷◌, ◌++◌, true, false, None, cond, length, List, IfOk, MatchOption, MatchResult};
+ghost use Rattle.session_core.specs.declared.entry.Entry.{Entry};
+ghost use Rattle.session_core.specs.declared.entry.DiedCause.{DiedCause};
+ghost use Rattle.session_core.specs.Asks.{IsWork, is_control};
+ghost use Rattle.session_core.specs.Legal.{progress_of, after, MayCome};
+ghost use Rattle.session_core.specs.Stepping.{cause_of};
+ghost use Rattle.session_queues.specs.Passes.{IsPassOf, KeepsAll};
+ghost use Rattle.session_queues.specs.Ends.{FoundNothing, TookRequest, gathered, admitted_main, admitted_control};
+ghost use Rattle.session_gate.specs.Facts.{OwesNone, Owes, IsSettled, IsWhole, HasSame, HasNoted, owner_of};
+ghost use Rattle.session_gate.specs.Slots.{IsQuiet, IsStill, IsServed};
+
+use crate::served::ServedAs;
+use nb_outside::Feed;
+use session_core::{DiedCause, Done, Engine, Entry, Journal, Request, RunFault};
+use session_queues::{Ends, Pass, Publisher};
+use std::alloc::{AllocError, Global};
+use std::marker::Model;
+use std::sync::Wait;
+
+/// The one owner of a session: its engine, its feed, its journal and its ends of the queues. It can't be copied, and nothing
+/// lets it go.
+pub struct Resident<E: Engine, F: Feed> {
+    pub(crate) engine: E,
+    pub(crate) feed: F,
+    pub(crate) journal: Journal,
+    pub(crate) ends: Ends,
+    pub(crate) publisher: Publisher,
+    pub(crate) number: u32,
+    pub(crate) hosts: u32,
+    pub(crate) dead: bool,
+    /// The count of what was served, once the session is dead.
+    pub(crate) count: u32,
+}
+
+impl<E: Engine, F: Feed> Model for Resident<E, F> {
+    ghost use Rattle.session_gate.specs.Facts.{Holds, IsResident};
+
+    ghost Value = { Holds E F };
+
+    ghost view = { λ r. record { engine = r.engine; feed = r.feed; entries = r.journal.entries; spare = r.journal.spare; ends = r.ends; out = r.publisher; number = r.number; hosts = r.hosts } };
+
+    ghost invariant = { λ r. IsResident E.meaning (E.stands_for r.engine) (E.host_of r.engine) (F.seen r.feed) r.hosts r.dead r.count r.journal.entries r.ends r.publisher };
+}
+
+impl<E: Engine, F: Feed> Resident<E, F> {
+    /// The host that owns the session.
+    pub(crate) fn owner(&self) -> u32
+        requires { IsSettled self.now }
+        ensures { result ≡ owner_of self.now }
+    {
+        self.journal.owner().unwrap()
+    }
+
+    /// The number of its session.
+    pub fn number(&self) -> u32
+        ensures { result ≡ self.now.number }
+    {
+        self.number
+    }
+
+    /// The number of hosts.
+    pub(crate) fn hosts(&self) -> u32
+        ensures { result ≡ self.now.hosts }
+    {
+        self.hosts
+    }
+
+    /// Makes room for so many more entries.
+    pub(crate) fn reserve(&mut self, more: u32) -> Result<(), AllocError>
+        ensures same { (self.new.engine ≡ self.old.engine) × (self.new.feed ≡ self.old.feed) × (self.new.entries ≡ self.old.entries) × HasSame self.old self.new }
+        ensures spare { IfOk result (λ _. more ≤ self.new.spare) }
+    {
+        self.journal.reserve(more)
+    }
+
+    /// The front of the control queue, or else of the main queue, which is then owed.
+    pub(crate) fn pop<R: Wait>(&mut self, rt: &R) -> Option<Request>
+        requires { OwesNone self.old }
+        ensures same { (self.new.engine ≡ self.old.engine) × (self.new.feed ≡ self.old.feed) × (self.new.entries ≡ self.old.entries) × (self.new.spare ≡ self.old.spare)
+            × (self.new.out ≡ self.old.out) × (self.new.number ≡ self.old.number) × (self.new.hosts ≡ self.old.hosts) }
+        ensures popped { MatchOption result ((self.new.ends ≡ self.old.ends) × FoundNothing self.old.ends) (λ request. TookRequest self.old.ends request self.new.ends × Owes self.new request) }
+    {
+        self.ends.pop(rt)
+    }
+
+    /// Puts an entry at the journal's end that may come there and leaves what was served, whether the session is dead, and the
+    /// owner.
+    pub(crate) fn note(&mut self, entry: Entry)
+        requires spare { 1 ≤ self.old.spare }
+        requires may { MayCome E.meaning self.old.hosts (progress_of self.old.entries) entry }
+        requires quiet { IsQuiet (progress_of self.old.entries) entry }
+        requires owes { OwesNone (record self.old { entries = self.old.entries ++ entry ∷ [] }) }
+        ensures noted { HasNoted self.old self.new entry }
+        ensures owes { OwesNone self.new }
+    {
+        self.journal.push(entry);
+    }
+
+    /// Answers the owed request, which is no move.
+    pub(crate) fn serve(&mut self, alloc: Global, request: Request) -> ServedAs
+        requires owes { Owes self.old request }
+        requires work { IsWork request.ask }
+        requires spare { 1 ≤ self.old.spare }
+        requires settled { IsSettled self.old }
+        ensures owes { OwesNone self.new }
+        ensures settled { IsSettled self.new }
+        ensures same { HasSame self.old self.new × (self.old.spare ≡ self.new.spare + 1) }
+        ensures entry { (entry : Entry) × (self.new.entries ≡ self.old.entries ++ entry ∷ []) × IsServed result (owner_of self.old) request (progress_of self.old.entries).dead entry }
+    {
+        let host = self.owner();
+        if self.dead {
+            let count = self.count;
+            self.note(Entry::Dead {
+                host,
+                request,
+                count,
+            });
+            return ServedAs::Dead;
+        }
+        let count = self.engine.count();
+        let is_end = request.ask.is_end();
+        match self.engine.run(alloc, &request.ask, &mut self.feed) {
+            Ok(done) => {
+                let Done { reply, draws } = done;
+                self.journal.push(Entry::Ran {
+                    host,
+                    request,
+                    draws,
+                    reply,
+                });
+                let after = self.engine.count();
+                self.dead = is_end;
+                self.count = after;
+                ServedAs::Ran
+            }
+            Err(fault) => {
+                let cause = died_by(fault);
+                self.journal.push(Entry::Died {
+                    host,
+                    request,
+                    count,
+                    cause,
+                });
+                self.dead = true;
+                self.count = count;
+                ServedAs::Died
+            }
+        }
+    }
+
+    /// Notes that the session goes on with another engine, which stands for what was served, on the host of the entry.
+    pub(crate) fn adopt(&mut self, engine: E, entry: Entry)
+    where
+        E: Drop,
+        requires spare { 1 ≤ self.old.spare }
+        requires may { MayCome E.meaning self.old.hosts (progress_of self.old.entries) entry }
+        requires still { IsStill (progress_of self.old.entries) entry }
+        requires owes { OwesNone (record self.old { entries = self.old.entries ++ entry ∷ [] }) }
+        requires stands { E.stands_for engine (progress_of self.old.entries).served × (E.host_of engine ≡ (after (progress_of self.old.entries) entry).owner) }
+        ensures engine { self.new.engine ≡ engine }
+        ensures noted { (self.new.feed ≡ self.old.feed) × (self.new.entries ≡ self.old.entries ++ entry ∷ []) × (self.old.spare ≡ self.new.spare + 1) × HasSame self.old self.new }
+        ensures owes { OwesNone self.new }
+    {
+        self.engine = engine;
+        self.journal.push(entry);
+    }
+
+    /// Takes in what a producer's pass holds.
+    pub(crate) fn join(&mut self, pass: Pass)
+        requires { IsPassOf self.old.ends.queues pass }
+        ensures { self.new ≡ record self.old { ends = gathered self.old.ends pass } }
+    {
+        self.ends.join(pass);
+    }
+
+    /// Pushes a request on its queue.
+    pub(crate) fn admit<R: Wait>(&mut self, rt: &R, request: Request) -> Result<(), Request>
+        requires whole { IsWhole self.old }
+        requires given { request.frontend < self.old.ends.main.given }
+        ensures { MatchResult result
+            (λ _. self.new ≡ record self.old { ends = cond (is_control request) (admitted_control self.old.ends request) (admitted_main self.old.ends request) })
+            (λ r. (r ≡ request) × (self.new ≡ self.old)) }
+    {
+        self.ends.admit(rt, request)
+    }
+}
+
+fn died_by(fault: RunFault) -> DiedCause
+    ensures { result ≡ cause_of fault }
+{
+    match fault {
+        RunFault::OutOfMemory => DiedCause::OutOfMemory,
+        RunFault::TooMany { which, draws } => DiedCause::TooMany { which, draws },
+    }
+}

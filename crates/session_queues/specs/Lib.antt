@@ -1,0 +1,3 @@
+pub mod Items
+pub mod Passes
+pub mod Ends

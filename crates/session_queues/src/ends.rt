@@ -1,0 +1,106 @@
+ghost use Rattle.std.specs.Prelude.{◌≡◌, ◌≢◌, ◌<◌, [], cond, true, MatchOption, MatchResult};
+ghost use Rattle.session_core.specs.Asks.{is_control};
+ghost use Rattle.session_queues.specs.Passes.{IsPassOf, KeepsAll};
+ghost use Rattle.session_queues.specs.Ends.{FoundNothing, TookRequest, gathered, admitted_main, admitted_control};
+
+use crate::items::MainItem;
+use crate::pass::{Pass, push_main};
+use crate::shared::SharedQueues;
+use ruled_queue::Seat;
+use session_core::Request;
+use std::alloc::Global;
+use std::marker::Model;
+use std::sync::{Arc, Wait};
+
+/// The owner's ends of a session's queues: it pops requests of main and control.
+#[derive(Drop)]
+pub struct Ends {
+    pub(crate) shared: Arc<SharedQueues, Global>,
+    pub(crate) main: Seat<MainItem>,
+    pub(crate) control: Seat<Request>,
+}
+
+impl Model for Ends {
+    ghost use Rattle.std.specs.Prelude.{◌≡◌, true};
+    ghost use Rattle.crossbeam_queue.specs.SegTies.{IsSegPassOf};
+    ghost use Rattle.session_queues.specs.Ends.{Held};
+
+    ghost Value = { Held };
+
+    ghost view = { λ e. record { queues = e.shared.value; main = e.main.me.view.client; control = e.control.me.view.client } };
+
+    ghost invariant = { λ e. (IsSegPassOf e.shared.value.main e.main × (e.main.me.view.client.pops ≡ true))
+        × (IsSegPassOf e.shared.value.control e.control × (e.control.me.view.client.pops ≡ true))
+        × (e.control.me.view.client.given ≡ e.main.me.view.client.given) };
+}
+
+impl Ends {
+    /// Another share of the queues.
+    pub fn shared(&self) -> &SharedQueues
+        ensures { result.now ≡ self.now.queues }
+    {
+        &self.shared
+    }
+
+    /// Pops the front of the control queue, or else of the main queue. None where each of the two was found empty at a step of
+    /// this call. Takes no memory.
+    pub fn pop<R: Wait>(&mut self, rt: &R) -> Option<Request>
+        requires { self.old.main.popped ≢ [] }
+        ensures { MatchOption result ((self.new ≡ self.old) × FoundNothing self.old) (λ request. TookRequest self.old request self.new) }
+    {
+        if let Some(request) = ruled_queue::pop(rt, &self.shared.control, &mut self.control) {
+            return Some(request);
+        }
+        match ruled_queue::pop(rt, &self.shared.main, &mut self.main) {
+            None => None,
+            Some(MainItem::Asked(request)) => Some(request),
+            Some(MainItem::Opening { .. }) => unreachable!(),
+        }
+    }
+
+    /// Pushes a request on the queue that it belongs to, where all passes were joined. It comes back for want of memory alone.
+    pub fn admit<R: Wait>(&mut self, rt: &R, request: Request) -> Result<(), Request>
+        requires whole { KeepsAll self.old.main × KeepsAll self.old.control }
+        requires given { request.frontend < self.old.main.given }
+        ensures { MatchResult result (λ _. self.new ≡ cond (is_control request) (admitted_control self.old request) (admitted_main self.old request)) (λ r. (r ≡ request) × (self.new ≡ self.old)) }
+    {
+        if request.is_control() {
+            ruled_queue::push(rt, &self.shared.control, &mut self.control, request)
+        } else {
+            push_main(rt, &self.shared, &mut self.main, request)
+        }
+    }
+
+    /// Takes in what a producer's pass holds. Takes no memory.
+    pub fn join(&mut self, pass: Pass)
+        requires { IsPassOf self.old.queues pass }
+        ensures { self.new ≡ gathered self.old pass }
+    {
+        let Pass {
+            main,
+            control,
+            number: _,
+            given: _,
+        } = pass;
+        ruled_queue::join(&self.shared.main, &mut self.main, main);
+        ruled_queue::join(&self.shared.control, &mut self.control, control);
+    }
+
+    /// Two owners of one session never meet.
+    pub fn meets<R: Wait>(self, rt: &R, other: Ends)
+        requires { other.queues ≡ self.queues }
+        ensures { ⊥ }
+    {
+        let Ends {
+            shared,
+            main,
+            control: _,
+        } = self;
+        let Ends {
+            shared: _,
+            main: other,
+            control: _,
+        } = other;
+        ruled_queue::one_consumer(rt, &shared.main, main, other);
+    }
+}

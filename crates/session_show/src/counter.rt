@@ -1,0 +1,142 @@
+//! The least engine: a counter whose every ask adds one, which dies at 4, and which a restart sets back.
+
+ghost use Rattle.std.specs.Prelude.{◌≡◌, ◌+◌, ◌<◌, IfOk, [], ◌∷◌, None, false};
+ghost use Rattle.session_core.specs.declared.reply.Reply.TheVariants.{Executed};
+ghost use Rattle.session_show.specs.Counting.{added};
+
+use graph_model::{Certified, Graph, Plan, Tally, Weights};
+use nb_outside::{Feed, draws_add_up};
+use plain_data::{Items, Text};
+use plan_model::check_weights;
+use session_core::{Ask, Done, Engine, PackFault, Packed, Reply, RunFault};
+use std::alloc::{AllocError, Global};
+
+#[derive(Drop)]
+pub struct Counter {
+    pub total: u32,
+    pub host: u32,
+}
+
+fn added(total: u32, ask: &Ask) -> u32
+    requires { total < 4 }
+    ensures { result ≡ added total ask.now }
+{
+    match ask {
+        Ask::Shutdown { .. } => 0,
+        _ => total + 1,
+    }
+}
+
+fn executed(alloc: Global, count: u32) -> Result<Reply, AllocError>
+    ensures { IfOk result (λ reply. reply ≡ Executed count false [] None [] []) }
+{
+    Ok(Reply::Executed {
+        count,
+        silent: false,
+        printed: Text::new(alloc, "")?,
+        shown: None,
+        ename: Text::new(alloc, "")?,
+        evalue: Text::new(alloc, "")?,
+    })
+}
+
+impl Engine for Counter {
+    ghost use Rattle.std.specs.Prelude.{◌≡◌, ◌<◌, [], ◌∷◌};
+    ghost use Rattle.session_show.specs.Counting.{total, counting};
+
+    ghost meaning = { counting };
+
+    ghost stands_for = { λ e served. (e.total ≡ total served) × (total served < 4) };
+
+    ghost is_usable = { λ e. e.total < 4 };
+
+    ghost host_of = { λ e. e.host };
+
+    ghost is_image = { λ e bytes host. (bytes ≡ e.total ∷ []) × (e.host ≡ host) };
+
+    fn opened(_alloc: Global, host: u32) -> Self {
+        Counter { total: 0, host }
+    }
+
+    fn count(&self) -> u32 {
+        self.total
+    }
+
+    fn run<F: Feed>(&mut self, alloc: Global, ask: &Ask, feed: &mut F) -> Result<Done, RunFault> {
+        draws_add_up();
+        let drawn = feed.draw();
+        let Ok(draws) = Items::from_slice(alloc, &[drawn]) else {
+            return Err(RunFault::OutOfMemory);
+        };
+        let next = added(self.total, ask);
+        if next == 4 {
+            return Err(RunFault::TooMany {
+                which: Tally::Count,
+                draws,
+            });
+        }
+        match executed(alloc, next) {
+            Ok(reply) => {
+                self.total = next;
+                Ok(Done { reply, draws })
+            }
+            Err(_) => Err(RunFault::OutOfMemory),
+        }
+    }
+
+    fn pack(&self, alloc: Global, weights: &Weights) -> Result<Packed, PackFault> {
+        let graph = Graph {
+            cells: Items::new(alloc),
+            versions: Items::new(alloc),
+        };
+        if let Err(fault) = check_weights(&graph, weights) {
+            return Err(PackFault::BadWeights(fault));
+        }
+        // Memory runs out where it is asked to.
+        if weights.run_base == 7 {
+            return Err(PackFault::OutOfMemory);
+        }
+        let Ok(bytes) = Items::from_slice(alloc, &[self.total as u8]) else {
+            return Err(PackFault::OutOfMemory);
+        };
+        Ok(Packed {
+            bytes,
+            certified: nothing(alloc),
+        })
+    }
+
+    fn unpack(_alloc: Global, bytes: &[u8], host: u32) -> Result<(Self, u32), AllocError> {
+        let total = match bytes {
+            [total] => u32::from(*total),
+            _ => return Err(AllocError),
+        };
+        Ok((Counter { total, host }, total))
+    }
+
+    ghost use Rattle.std.proofs.Common.{◌∙◌, sym, subst, arith};
+    ghost use Rattle.graph_model.specs.Faults.{IsGraph};
+    ghost use Rattle.session_show.specs.Counting.{is_graph};
+
+    ghost runs = { λ e served h. h.1 };
+
+    ghost used = { λ e served h. Prim.omega (arith, h.0, h.1) };
+
+    ghost one_graph = { λ served g h is also. is ∙ sym also };
+
+    ghost graphs = { λ served g is. subst IsGraph (sym is) is_graph };
+
+    ghost passes_none = { λ served ask draws which passes runs. Prim.omega (arith, passes.1, runs) };
+}
+
+fn nothing(alloc: Global) -> Certified
+    ensures { result ≡ record { plan = record { copied = []; rerun = [] }; cost = 0; arcs = [] } }
+{
+    Certified {
+        plan: Plan {
+            copied: Items::new(alloc),
+            rerun: Items::new(alloc),
+        },
+        cost: 0,
+        arcs: Items::new(alloc),
+    }
+}

@@ -1,0 +1,4 @@
+d = {1: 1, 2: 2}
+for k in d:
+    print(k)
+    if k == 2: del d[1]

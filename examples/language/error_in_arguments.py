@@ -1,0 +1,3 @@
+def f(a, b): print("never")
+print("first")
+f(print("second"), missing)

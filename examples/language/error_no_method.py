@@ -1,0 +1,4 @@
+a = []
+a.append(1)
+print(a)
+a.push(print("never"))

@@ -1,0 +1,4 @@
+# A name without a value.
+x = 1
+print(x)
+print(y)

@@ -1,0 +1,2 @@
+print("a" in "abc")
+1 in "abc"
