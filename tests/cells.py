@@ -4,13 +4,12 @@
   tests/cells.py CODE ..     runs the codes as cells of one session, and says what each shows, its steps, and the meter after it
   tests/cells.py --check     holds the sessions, steps and meters of tests/cases to these rules, and ends with `N agree, M differ`
 
-It stands on the rules of docs/LANGUAGE.md alone, and on none of the program's code. Codes are read by Python's own parser, which
-agrees on the subset; a cell that is refused (its reply is a SyntaxError) is passed over. A draw gives a word from `random`.
-Python 3, standard library.
+It stands on the rules of docs/LANGUAGE.md alone, and on none of the program's code. Names, statements, expressions and calls are
+here; what is done with values is in tests/values.py. Codes are read by Python's own parser, which agrees on the subset; a cell that is
+refused (its reply is a SyntaxError) is passed over. A draw gives a word from `random`. Python 3, standard library.
 """
 import ast
 import json
-import operator
 import os
 import random
 import re
@@ -18,108 +17,14 @@ import sys
 import threading
 import warnings
 
+sys.dont_write_bytecode = True
+from values import BUILTINS, METHODS, Builtin, DictOf, Function, Handle, ListOf, Operations, Raised
+from values import cut, is_number, kind, quoted, size, type_error, weight
+
 CASES = f"{os.path.dirname(os.path.realpath(__file__))}/cases"
-STEPS, UNITS, LEVELS = 1_000_000, 16_777_216, 800
-LEAST, MOST = -(2**127), 2**127 - 1
 SPACES = " \t\n\v\f\r"
+# A local that has no value.
 EMPTY = object()
-
-
-class Raised(Exception):
-    def __init__(self, name, text):
-        super().__init__(f"{name}: {text}")
-        self.name, self.text = name, text
-
-
-class ListOf:
-    def __init__(self, items):
-        self.items = items
-
-
-class DictOf:
-    def __init__(self):
-        # Python's own dict keeps the place and the spelling of a key that is there, and True is 1 to it.
-        self.pairs = {}
-
-
-class Function:
-    def __init__(self, node, source):
-        self.name, self.body, self.source = node.name, node.body, source
-        self.parameters = [it.arg for it in node.args.args]
-        self.locals = locals_of(node)
-
-
-class Handle:
-    def __init__(self, name):
-        self.name, self.uses = name, 0
-
-
-class Builtin:
-    def __init__(self, name):
-        self.name = name
-
-
-BUILTINS = {it: Builtin(it) for it in "print len str repr int range draw handle tell".split()}
-KINDS = {type(None): "NoneType", bool: "bool", int: "int", str: "str", ListOf: "list", DictOf: "dict", Function: "function", Handle: "handle"}
-KINDS[Builtin] = "builtin_function_or_method"
-SIGNS = {ast.Add: "+", ast.Sub: "-", ast.Mult: "*", ast.FloorDiv: "//", ast.Mod: "%"}
-CALCULATED = {ast.Add: operator.add, ast.Sub: operator.sub, ast.Mult: operator.mul, ast.FloorDiv: operator.floordiv, ast.Mod: operator.mod}
-ORDERS = {ast.Lt: "<", ast.LtE: "<=", ast.Gt: ">", ast.GtE: ">="}
-METHODS = {ListOf: "append insert pop extend clear", DictOf: "get pop clear", str: "join split startswith endswith"}
-
-
-def kind(value):
-    return KINDS[type(value)]
-
-
-def is_number(value):
-    return type(value) in (bool, int)
-
-
-def size(text):
-    return len(text.encode("utf-8", "surrogatepass"))
-
-
-def cut(text, most):
-    """Its longest beginning of whole characters within so many bytes, as replies say what is long."""
-    return text.encode()[:most].decode("utf-8", "ignore")
-
-
-def weight(value):
-    return 1 + (size(value) if type(value) is str else 0)
-
-
-def locals_of(node):
-    names, globals_ = [it.arg for it in node.args.args], set()
-    for it in ast.walk(node):
-        if isinstance(it, ast.Global):
-            globals_ |= set(it.names)
-        elif isinstance(it, ast.Name) and not isinstance(it.ctx, ast.Load):
-            names.append(it.id)
-    return {it for it in names if it not in globals_}
-
-
-def quoted(text):
-    quote = '"' if "'" in text and '"' not in text else "'"
-    short = {"\\": "\\\\", quote: "\\" + quote, "\n": "\\n", "\r": "\\r", "\t": "\\t"}
-    return quote + "".join(short.get(c) or (f"\\x{ord(c):02x}" if ord(c) < 32 or ord(c) == 127 else c) for c in text) + quote
-
-
-def plain(value):
-    """What a value shows that isn't looked into."""
-    if type(value) is str:
-        return quoted(value)
-    if type(value) is Function:
-        return f"<function {value.name}>"
-    if type(value) is Handle:
-        return f"<handle {quoted(value.name)}>"
-    if type(value) is Builtin:
-        return f"<class '{value.name}'>" if value.name in ("str", "int", "range") else f"<built-in function {value.name}>"
-    return repr(value)
-
-
-def type_error(text):
-    return Raised("TypeError", text)
 
 
 def elifs_of(tree, code):
@@ -153,40 +58,10 @@ class Flow:
         self.how, self.value = how, value
 
 
-class Cell:
+class Cell(Operations):
     def __init__(self, session, code):
-        self.session, self.code = session, code
-        self.steps, self.printed, self.frame = 0, [], None
-
-    # ---- steps, levels, meter
-
-    def step(self, count=1):
-        if self.steps + count > STEPS:
-            self.steps = STEPS
-            raise Raised("StepLimitError", "1000000 steps")
-        self.steps += count
-
-    def at(self, level):
-        if level > LEVELS:
-            raise Raised("RecursionError", "maximum recursion depth exceeded")
-
-    def charge(self, units):
-        if self.session.meter + units > UNITS:
-            raise Raised("MemoryError", "meter spent")
-        self.session.meter += units
-
-    def text(self, text):
-        self.charge(size(text))
-        return text
-
-    def text_of_size(self, units, make):
-        self.charge(units)
-        return make()
-
-    def list_of(self, items):
-        self.charge(1 + sum(map(weight, items)))
-        self.step(len(items))
-        return ListOf(items)
+        super().__init__(session)
+        self.code, self.printed, self.frame = code, [], None
 
     # ---- names
 
@@ -292,13 +167,6 @@ class Cell:
         if type(op) is ast.Add and type(left) is ListOf and type(right) is ListOf:
             return self.extend(left, right)
         return self.operate(type(op), left, right)
-
-    def extend(self, left, right):
-        items = list(right.items)
-        self.charge(sum(map(weight, items)))
-        self.step(len(items))
-        left.items += items
-        return left
 
     def do_If(self, s, level):
         while True:
@@ -486,148 +354,6 @@ class Cell:
         callee = self.evaluate(e.func, level + 1)
         return self.call(callee, [self.evaluate(it, level + 1) for it in e.args], level)
 
-    # ---- operators
-
-    def truth(self, value):
-        if type(value) is ListOf:
-            return bool(value.items)
-        if type(value) is DictOf:
-            return bool(value.pairs)
-        return True if type(value) in (Function, Handle, Builtin) else bool(value)
-
-    def number(self, n):
-        if not LEAST <= n <= MOST:
-            raise Raised("OverflowError", "number past 128 bits")
-        return int(n)
-
-    def operate(self, op, left, right):
-        if is_number(left) and is_number(right):
-            if op in (ast.FloorDiv, ast.Mod) and right == 0:
-                raise Raised("ZeroDivisionError", "division by zero")
-            return self.number(CALCULATED[op](left, right))
-        if op is ast.Add and type(left) is type(right) is str:
-            return self.text(left + right)
-        if op is ast.Add and type(left) is type(right) is ListOf:
-            return self.list_of(left.items + right.items)
-        if op is ast.Mult and (is_number(left) or is_number(right)):
-            held, times = (right, left) if is_number(left) else (left, right)
-            times = max(0, int(times))
-            if type(held) is str:
-                return self.text_of_size(size(held) * times, lambda: held * times if held else "")
-            if type(held) is ListOf:
-                count = len(held.items) * times
-                self.charge(1 + sum(map(weight, held.items)) * times)
-                self.step(count)
-                return ListOf(held.items * times if count else [])
-        raise type_error(f"unsupported operand type(s) for {SIGNS[op]}: '{kind(left)}' and '{kind(right)}'")
-
-    def compare(self, op, left, right, level):
-        if op is ast.Eq:
-            return self.equal(left, right, level)
-        if op is ast.NotEq:
-            return not self.equal(left, right, level)
-        if op is ast.In:
-            return self.found(left, right, level)
-        if op is ast.NotIn:
-            return not self.found(left, right, level)
-        return self.ordered(op, left, right, level)
-
-    def pair(self, left, right, level):
-        """Whether two elements are equal, at their level."""
-        self.at(level)
-        self.step()
-        is_object = type(left) not in (type(None), bool, int, str, Builtin)
-        return is_object and left is right or self.equal(left, right, level)
-
-    def equal(self, left, right, level):
-        if is_number(left) and is_number(right) or type(left) is type(right) is str:
-            return left == right
-        if type(left) is not type(right):
-            return False
-        if type(left) is ListOf:
-            return len(left.items) == len(right.items) and all(self.pair(v, w, level + 1) for v, w in zip(left.items, right.items))
-        if type(left) is DictOf:
-            if len(left.pairs) != len(right.pairs):
-                return False
-            return all(key in right.pairs and self.pair(value, right.pairs[key], level + 1) for key, value in left.pairs.items())
-        return left is right
-
-    def ordered(self, op, left, right, level):
-        if type(left) is type(right) is ListOf:
-            at = 0
-            while at < len(left.items) and at < len(right.items):
-                v, w = left.items[at], right.items[at]
-                if not self.pair(v, w, level + 1):
-                    return self.ordered(op, v, w, level + 1)
-                at += 1
-            left, right = len(left.items), len(right.items)
-        if not (is_number(left) and is_number(right) or type(left) is type(right) is str):
-            raise type_error(f"'{ORDERS[op]}' not supported between instances of '{kind(left)}' and '{kind(right)}'")
-        return {ast.Lt: left < right, ast.LtE: left <= right, ast.Gt: left > right, ast.GtE: left >= right}[op]
-
-    def found(self, value, container, level):
-        if type(container) is str:
-            if type(value) is not str:
-                raise type_error(f"'in <string>' requires string as left operand, not {kind(value)}")
-            return value in container
-        if type(container) is ListOf:
-            return any(self.pair(value, it, level + 1) for it in container.items)
-        if type(container) is DictOf:
-            return self.key(value) in container.pairs
-        raise type_error(f"argument of type '{kind(container)}' is not iterable")
-
-    # ---- items
-
-    def key(self, value):
-        if type(value) not in (type(None), bool, int, str):
-            raise type_error(f"unhashable type: '{kind(value)}'")
-        return value
-
-    def place(self, count, at, error):
-        if not is_number(at):
-            raise type_error("indices must be integers")
-        at = int(at) + (count if at < 0 else 0)
-        if not 0 <= at < count:
-            raise Raised("IndexError", error)
-        return at
-
-    def item(self, container, at):
-        if type(container) is str:
-            return self.text(container[self.place(len(container), at, "string index out of range")])
-        if type(container) is ListOf:
-            return container.items[self.place(len(container.items), at, "list index out of range")]
-        if type(container) is DictOf:
-            return self.under(container, at)
-        raise type_error(f"'{kind(container)}' object is not subscriptable")
-
-    def under(self, container, key):
-        if self.key(key) not in container.pairs:
-            raise Raised("KeyError", plain(key))
-        return container.pairs[key]
-
-    def put(self, container, key, value):
-        self.charge((0 if key in container.pairs else weight(key)) + weight(value))
-        container.pairs[key] = value
-
-    def store(self, container, at, value):
-        if type(container) is ListOf:
-            at = self.place(len(container.items), at, "list assignment index out of range")
-            self.charge(weight(value))
-            container.items[at] = value
-        elif type(container) is DictOf:
-            self.put(container, self.key(at), value)
-        else:
-            raise type_error(f"'{kind(container)}' object does not support item assignment")
-
-    def delete(self, container, at):
-        if type(container) is ListOf:
-            del container.items[self.place(len(container.items), at, "list assignment index out of range")]
-        elif type(container) is DictOf:
-            self.under(container, at)
-            del container.pairs[at]
-        else:
-            raise type_error(f"'{kind(container)}' object does not support item deletion")
-
     # ---- calls
 
     def call(self, callee, args, level):
@@ -692,74 +418,6 @@ class Cell:
             raise type_error("wrong argument for tell()")
         value.uses += 1
         return value.uses
-
-    def method(self, on, name, args):
-        most = {"get": (1, 2), "clear": (0, 0), "insert": (2, 2), "pop": (0, 1) if type(on) is ListOf else (1, 1)}.get(name, (1, 1))
-        if not most[0] <= len(args) <= most[1]:
-            raise type_error(f"wrong number of arguments for {name}()")
-        wrong = type_error(f"wrong argument for {name}()")
-        if name == "append":
-            self.charge(weight(args[0]))
-            on.items.append(args[0])
-        elif name == "insert":
-            if not is_number(args[0]):
-                raise wrong
-            self.charge(weight(args[1]))
-            on.items.insert(max(min(int(args[0]), len(on.items)), -len(on.items)), args[1])
-        elif name == "extend":
-            if type(args[0]) is not ListOf:
-                raise wrong
-            self.extend(on, args[0])
-        elif name == "clear":
-            (on.items if type(on) is ListOf else on.pairs).clear()
-        elif name == "get":
-            return on.pairs.get(self.key(args[0]), args[1] if len(args) == 2 else None)
-        elif name == "pop" and type(on) is DictOf:
-            self.under(on, args[0])
-            return on.pairs.pop(args[0])
-        elif name == "pop":
-            at = args[0] if args else -1
-            if not is_number(at):
-                raise wrong
-            if not on.items:
-                raise Raised("IndexError", "pop from empty list")
-            return on.items.pop(self.place(len(on.items), at, "pop index out of range"))
-        elif name == "join":
-            if type(args[0]) is not ListOf or not all(type(it) is str for it in args[0].items):
-                raise wrong
-            return self.text(on.join(args[0].items))
-        else:
-            if type(args[0]) is not str:
-                raise wrong
-            if name == "split":
-                if not args[0]:
-                    raise Raised("ValueError", "empty separator")
-                return self.list_of(on.split(args[0]))
-            return on.startswith(args[0]) if name == "startswith" else on.endswith(args[0])
-        return None
-
-    # ---- showing
-
-    def written(self, value, level):
-        if type(value) is not str:
-            return self.show(value, level)
-        self.at(level)
-        self.step()
-        return value
-
-    def show(self, value, level, path=()):
-        self.at(level)
-        self.step()
-        if type(value) not in (ListOf, DictOf):
-            return plain(value)
-        is_list = type(value) is ListOf
-        if any(it is value for it in path):
-            return "[...]" if is_list else "{...}"
-        path += (value,)
-        if is_list:
-            return f"[{', '.join([self.show(it, level + 1, path) for it in value.items])}]"
-        pairs = [self.show(key, level + 1, path) + ": " + self.show(it, level + 1, path) for key, it in value.pairs.items()]
-        return f"{{{', '.join(pairs)}}}"
 
 
 # ---- the tables

@@ -1,11 +1,14 @@
 """What the journal of a session over the least engine says, by a second writing of the rules of docs/JOURNAL.md, which shares nothing
-with the program. The engine counts what it was asked, a shutdown sets it back to 0, and at 4 it dies; `session_show` has it.
+with the program. The engine counts what it was asked, a shutdown sets it back to 0, at 4 it dies, and at 3 host 2 has no memory for
+it; `session_show` has it.
 """
 
 HOSTS = 3
 MOST_WEIGHT = 1_000_000
 NO_MEMORY = 7
 FULL = 4
+# A host, and a count for which it has no memory.
+SMALL = (2, 3)
 
 
 class Session:
@@ -29,8 +32,9 @@ class Session:
         elif weight == NO_MEMORY:
             self.told.append("resumed")
         else:
-            self.told += ["sealed", "moved", "adopted"]
-            self.owner = host
+            fits = (host, self.count) != SMALL
+            self.told += ["sealed", "moved", "adopted" if fits else "resumed"]
+            self.owner = host if fits else self.owner
 
     def work(self, word):
         after = 0 if word in ("restart", "end") else self.count + 1

@@ -55,19 +55,19 @@ next_is items held body at n is cut =
 length_said : (body x : List ℕ) → IsBody body → length_of (frame body ++ x) ≡ length body
 length_said body x h = from_be_bytes-to_be_bytes_4 (length body) (omega (arith, h.1))
 
-frame_length : (body x : List ℕ) → length (frame body ++ x) ≡ 4 + (length body + length x)
+pub frame_length : (body x : List ℕ) → length (frame body ++ x) ≡ 4 + (length body + length x)
 frame_length body x = let l = length-append body x in omega (arith, l)
 
 bad_case : (n k : ℕ) → n ≡ k → (0 < k) × (k ≤ most_bytes) → (n ≡ 0) ⊎ (most_bytes < n) → ⊥
 bad_case n k is h (inl none) = omega (arith, is, h.0, none)
 bad_case n k is h (inr more) = omega (arith, is, h.1, more)
 
-no_rest : (body x : List ℕ) → IsBody body → IsRest (frame body ++ x) → ⊥
+pub no_rest : (body x : List ℕ) → IsBody body → IsRest (frame body ++ x) → ⊥
 no_rest body x h (inl (inl few)) = omega (arith, few, frame_length body x)
 no_rest body x h (inl (inr begun)) = omega (arith, begun.2, frame_length body x, length_said body x h)
 no_rest body x h (inr (n, bad)) = bad_case n (length body) (bad.1 ∙ length_said body x h) h bad.2
 
-same_front : (b c x y : List ℕ) → IsBody b → IsBody c → frame b ++ x ≡ frame c ++ y → (b ≡ c) × (x ≡ y)
+pub same_front : (b c x y : List ℕ) → IsBody b → IsBody c → frame b ++ x ≡ frame c ++ y → (b ≡ c) × (x ≡ y)
 same_front b c x y h k e =
     let count : length b ≡ length c = sym (length_said b x h) ∙ ap length_of e ∙ length_said c y k in
     let tails : b ++ x ≡ c ++ y = ap (drop 4) e in (

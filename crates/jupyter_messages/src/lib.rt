@@ -14,6 +14,3 @@ pub use fault::MessageFault;
 pub use message::{Message, MessageKind};
 pub use read::read_message;
 pub use session_core::{Ask, Channel, Header};
-
-#[cfg(test)]
-mod tests;

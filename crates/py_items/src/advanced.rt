@@ -3,9 +3,8 @@ ghost use Rattle.py_machine.specs.Runs.{Still};
 ghost use Rattle.py_meaning.specs.Acts.{run};
 ghost use Rattle.py_meaning.specs.Iterating as spec;
 
-use plain_data::SharedText;
 use py_heap::Object;
-use py_machine::{Fault, Iteration, Machine, changed_size};
+use py_machine::{Fault, Iteration, Machine, TextRest, changed_size};
 use py_value::Value;
 use std::alloc::{AllocError, Global};
 
@@ -54,19 +53,13 @@ fn next_key(
     }
 }
 
-fn next_character(
-    alloc: Global,
-    text: SharedText,
-    next: usize,
-) -> Result<Option<(Value, Iteration)>, AllocError>
-    ensures { IfOk result (λ after. after ≡ spec.next_character text next) }
+fn next_character(alloc: Global, rest: TextRest) -> Result<Option<(Value, Iteration)>, AllocError>
+    ensures { IfOk result (λ after. after ≡ spec.next_character rest) }
 {
-    if next >= text.len_chars() {
-        return Ok(None);
-    }
-    let character = SharedText::from_str(alloc, text.char_at(next))?;
-    let next = next + 1;
-    Ok(Some((Value::Text(character), Iteration::Characters { text, next })))
+    Ok(match rest.cut_first(alloc)? {
+        Some((character, rest)) => Some((Value::Text(character), Iteration::Characters(rest))),
+        None => None,
+    })
 }
 
 /// Whether a number comes before the stop, upwards or downwards.
@@ -120,7 +113,7 @@ pub fn advance(
     match iteration {
         Iteration::Items { at, next } => next_item(machine, at, next),
         Iteration::Keys { at, next, size } => next_key(alloc, machine, at, next, size),
-        Iteration::Characters { text, next } => Ok(next_character(alloc, text, next)?),
+        Iteration::Characters(rest) => Ok(next_character(alloc, rest)?),
         Iteration::Range { next, stop, step } => Ok(next_number(&next, &stop, &step)),
     }
 }

@@ -5,7 +5,7 @@ ghost use Rattle.py_meaning.specs.Iterating as spec;
 
 use py_heap::Object;
 use py_machine::{
-    Fault, Iteration, Machine, ValueKind, not_iterable, wrong_argument, wrong_number,
+    Fault, Iteration, Machine, TextRest, ValueKind, not_iterable, wrong_argument, wrong_number,
     zero_range_step,
 };
 use py_objects::kind_of;
@@ -45,7 +45,7 @@ pub fn iterate(alloc: Global, machine: &Machine, value: &Value) -> Result<Iterat
     match value {
         Value::Text(text) => {
             let text = text.share()?;
-            Ok(Iteration::Characters { text, next: 0 })
+            Ok(Iteration::Characters(TextRest::new(text)))
         }
         Value::Ref(at) => object_iterated(alloc, machine, *at),
         Value::Nothing | Value::Bool(_) | Value::Number(_) | Value::Builtin(_) => {

@@ -35,7 +35,7 @@ use Rattle.py_meaning.specs.Shown.{written}
 use Rattle.py_meaning.specs.Meaning.{frame_of, returned, is_none, after_turn, most_turns, Inner, goes_on, block, items_from, items, display, operands, sum, sign, negation, conditional, any_of, disjunction, all_of, conjunction, with_right, related, if_related, relations, comparison, pairs_from, dict_display, index, if_there, slice, method, words, line, print, str_of, str, str_called, repr, repr_called, builtin_called, entered, function_called, object_called, ref_called, called, call, expression, assign, assign_item, assigned, as_expression, augment, augment_item, augment_at, delete_item, deleted, show, return, arms, turns, repeat, part_items_from, source_called, call_source, source_of, turn, rounds, for_each, statement, level, show_last, last, top_from, cell}
 use Rattle.py_laws.specs.Same.{equal, refs}
 use Rattle.py_laws.proofs.Zipped.{zip_length, Zips, no_more, one_more, zips}
-use Rattle.py_laws.proofs.Rules.{IfThere, BindsAt, Opens}
+use Rattle.py_laws.proofs.Rules.{IfThere, IfEvals, EvalsRight, Looks, BindsAt, Opens}
 use Rattle.py_laws.proofs.Respecting.{Setting, Paired, FlowsMatch, to_next, breaks, continues, returns, IterationsMatch, Respects, Any, Equal, next, pure_respects, fail_respects, choose_respects}
 use Rattle.py_laws.proofs.LeastActs.{Values, Slots, object_kinds, step_respects, charge_respects, look_respects, enter_respects, leave_respects, add_respects, object_found, write_respects}
 use Rattle.py_laws.proofs.Showing.{shown_respects, written_respects}
@@ -49,9 +49,12 @@ use Rattle.py_laws.proofs.Simple.{Flows, goes, literal_respects, not_called_resp
 module _ (c : Setting) where
   -- ---- one level above another
 
-  module _ (inner : Inner) (evals : (e : Expr) → Gives c (inner.eval e) (inner.eval e)) (execs : (s : Stmt) → c.rules.runs s → Flows c (inner.exec s) (inner.exec s))
-      (parts : (e : Expr) → Gives c (inner.part e) (inner.part e))
+  module _ (inner : Inner) (evals : (e : Expr) → c.rules.evals e → Gives c (inner.eval e) (inner.eval e)) (execs : (s : Stmt) → c.rules.runs s → Flows c (inner.exec s) (inner.exec s))
+      (parts : (e : Expr) → c.rules.evals e → Gives c (inner.part e) (inner.part e))
       (calls : (v w : Value) (vs ws : List Value) → Values c v w → AllZip (Values c) vs ws → Gives c (inner.calls v vs) (inner.calls w ws)) where
+    abbrev Evals : List Expr → Type 0
+    Evals es = AllByRecursion c.rules.evals es
+
     writes : (v w : Value) → Values c v w → Respects c Equal (written inner.left v) (written inner.left w)
     writes v w h = written_respects c inner.left v w h
 
@@ -65,77 +68,77 @@ module _ (c : Setting) where
     block_respects [] r = goes c flow.Next flow.Next to_next
     block_respects (s ∷ more) r = next c (execs s r.0) λ e f h. on_respects e f (block inner more) h (block_respects more r.1)
 
-    items_from_respects : (vs ws : List Value) (es : List Expr) → AllZip (Values c) vs ws → Respects c (AllZip (Values c)) (items_from inner vs es) (items_from inner ws es)
-    items_from_respects vs ws [] h = pure_respects c (AllZip (Values c)) vs ws h
-    items_from_respects vs ws (e ∷ es) h =
-        next c (evals e) λ v w k. items_from_respects (vs ++ v ∷ []) (ws ++ w ∷ []) es (AllZip-push (Values c) vs ws v w h k)
+    items_from_respects : (vs ws : List Value) (es : List Expr) → Evals es → AllZip (Values c) vs ws → Respects c (AllZip (Values c)) (items_from inner vs es) (items_from inner ws es)
+    items_from_respects vs ws [] r h = pure_respects c (AllZip (Values c)) vs ws h
+    items_from_respects vs ws (e ∷ es) r h =
+        next c (evals e r.0) λ v w k. items_from_respects (vs ++ v ∷ []) (ws ++ w ∷ []) es r.1 (AllZip-push (Values c) vs ws v w h k)
 
-    items_respect : (es : List Expr) → Respects c (AllZip (Values c)) (items inner es) (items inner es)
+    items_respect : (es : List Expr) → Evals es → Respects c (AllZip (Values c)) (items inner es) (items inner es)
     unfolding items
-    items_respect es = items_from_respects [] [] es tt
+    items_respect es r = items_from_respects [] [] es r tt
 
-    display_respects : (es : List Expr) → Gives c (display inner es) (display inner es)
+    display_respects : (es : List Expr) → Evals es → Gives c (display inner es) (display inner es)
     unfolding display
-    display_respects es =
+    display_respects es r =
         next c (step_respects c) λ _ _ _.
-        next c (items_respect es) λ vs ws h.
+        next c (items_respect es r) λ vs ws h.
         next c (charge_respects c (list_units vs) (list_units ws) (same_units c vs ws h)) λ _ _ _.
         made_respects c vs ws h
 
-    operand_respects : (operand : Operand) (x y : Value) → Values c x y
+    operand_respects : (operand : Operand) (x y : Value) → c.rules.evals (out-Operand operand).value → Values c x y
         → Gives c (step >> inner.eval (out-Operand operand).value >>= operated (out-Operand operand).op x) (step >> inner.eval (out-Operand operand).value >>= operated (out-Operand operand).op y)
-    operand_respects operand x y h =
-        next c (next c (step_respects c) λ _ _ _. evals (out-Operand operand).value) λ v w k. operated_respects c (out-Operand operand).op x y v w h k
+    operand_respects operand x y r h =
+        next c (next c (step_respects c) λ _ _ _. evals (out-Operand operand).value r) λ v w k. operated_respects c (out-Operand operand).op x y v w h k
 
-    operands_respect : (x y : Value) (rest : List Operand) → Values c x y → Gives c (operands inner x rest) (operands inner y rest)
-    operands_respect x y [] h = pure_respects c (Values c) x y h
-    operands_respect x y (operand ∷ rest) h = next c (operand_respects operand x y h) λ v w k. operands_respect v w rest k
+    operands_respect : (x y : Value) (rest : List Operand) → AllByRecursion (λ o. c.rules.evals (out-Operand o).value) rest → Values c x y → Gives c (operands inner x rest) (operands inner y rest)
+    operands_respect x y [] r h = pure_respects c (Values c) x y h
+    operands_respect x y (operand ∷ rest) r h = next c (operand_respects operand x y r.0 h) λ v w k. operands_respect v w rest r.1 k
 
-    sum_respects : (first : Expr) (rest : List Operand) → Gives c (sum inner first rest) (sum inner first rest)
+    sum_respects : (first : Expr) (rest : List Operand) → c.rules.evals first → AllByRecursion (λ o. c.rules.evals (out-Operand o).value) rest → Gives c (sum inner first rest) (sum inner first rest)
     unfolding sum
-    sum_respects first rest = next c (evals first) λ x y h. operands_respect x y rest h
+    sum_respects first rest r q = next c (evals first r) λ x y h. operands_respect x y rest q h
 
-    sign_respects : (minus : Bool) (e : Expr) → Gives c (sign inner minus e) (sign inner minus e)
+    sign_respects : (minus : Bool) (e : Expr) → c.rules.evals e → Gives c (sign inner minus e) (sign inner minus e)
     unfolding sign
-    sign_respects minus e = next c (next c (step_respects c) λ _ _ _. evals e) λ v w h. signed_respects c minus v w h
+    sign_respects minus e r = next c (next c (step_respects c) λ _ _ _. evals e r) λ v w h. signed_respects c minus v w h
 
-    negation_respects : (e : Expr) → Gives c (negation inner e) (negation inner e)
+    negation_respects : (e : Expr) → c.rules.evals e → Gives c (negation inner e) (negation inner e)
     unfolding negation
-    negation_respects e =
+    negation_respects e r =
         next c (step_respects c) λ _ _ _.
-        next c (evals e) λ v w h.
+        next c (evals e r) λ v w h.
         next c (truth_respects c v w h) λ b d f.
         subst (λ x. Gives c (pure (value.Bool (not b))) (pure (value.Bool (not x)))) f (plain_gives c (value.Bool (not b)) refl)
 
-    conditional_respects : (test first second : Expr) → Gives c (conditional inner test first second) (conditional inner test first second)
+    conditional_respects : (test first second : Expr) → c.rules.evals test × c.rules.evals first × c.rules.evals second → Gives c (conditional inner test first second) (conditional inner test first second)
     unfolding conditional
-    conditional_respects test first second =
+    conditional_respects test first second r =
         next c (step_respects c) λ _ _ _.
-        next c (evals test) λ v w h.
+        next c (evals test r.0) λ v w h.
         next c (truth_respects c v w h) λ b d e.
-        choose_respects c (Values c) b d _ _ _ _ e (evals first) (evals second)
+        choose_respects c (Values c) b d _ _ _ _ e (evals first r.1) (evals second r.2)
 
-    any_respects : (e : Expr) (es : List Expr) → Gives c (any_of inner e es) (any_of inner e es)
-    any_respects e [] = evals e
-    any_respects e (d ∷ es) =
-        next c (evals e) λ v w h.
+    any_respects : (e : Expr) (es : List Expr) → Evals (e ∷ es) → Gives c (any_of inner e es) (any_of inner e es)
+    any_respects e [] r = evals e r.0
+    any_respects e (d ∷ es) r =
+        next c (evals e r.0) λ v w h.
         next c (truth_respects c v w h) λ b b' f.
-        choose_respects c (Values c) b b' _ _ _ _ f (pure_respects c (Values c) v w h) (next c (step_respects c) λ _ _ _. any_respects d es)
+        choose_respects c (Values c) b b' _ _ _ _ f (pure_respects c (Values c) v w h) (next c (step_respects c) λ _ _ _. any_respects d es r.1)
 
-    all_respect : (e : Expr) (es : List Expr) → Gives c (all_of inner e es) (all_of inner e es)
-    all_respect e [] = evals e
-    all_respect e (d ∷ es) =
-        next c (evals e) λ v w h.
+    all_respect : (e : Expr) (es : List Expr) → Evals (e ∷ es) → Gives c (all_of inner e es) (all_of inner e es)
+    all_respect e [] r = evals e r.0
+    all_respect e (d ∷ es) r =
+        next c (evals e r.0) λ v w h.
         next c (truth_respects c v w h) λ b b' f.
-        choose_respects c (Values c) b b' _ _ _ _ f (next c (step_respects c) λ _ _ _. all_respect d es) (pure_respects c (Values c) v w h)
+        choose_respects c (Values c) b b' _ _ _ _ f (next c (step_respects c) λ _ _ _. all_respect d es r.1) (pure_respects c (Values c) v w h)
 
-    disjunction_respects : (es : List Expr) → Gives c (disjunction inner es) (disjunction inner es)
-    disjunction_respects [] = plain_gives c (value.Bool false) refl
-    disjunction_respects (e ∷ es) = any_respects e es
+    disjunction_respects : (es : List Expr) → Evals es → Gives c (disjunction inner es) (disjunction inner es)
+    disjunction_respects [] r = plain_gives c (value.Bool false) refl
+    disjunction_respects (e ∷ es) r = any_respects e es r
 
-    conjunction_respects : (es : List Expr) → Gives c (conjunction inner es) (conjunction inner es)
-    conjunction_respects [] = plain_gives c (value.Bool true) refl
-    conjunction_respects (e ∷ es) = all_respect e es
+    conjunction_respects : (es : List Expr) → Evals es → Gives c (conjunction inner es) (conjunction inner es)
+    conjunction_respects [] r = plain_gives c (value.Bool true) refl
+    conjunction_respects (e ∷ es) r = all_respect e es r
 
     -- ---- comparisons
 
@@ -160,46 +163,46 @@ module _ (c : Setting) where
     same_none _ _ (equal v n) = refl
     same_none _ _ (refs a b p) = refl
 
-    with_right_respects : (v w : Value) (o : Op) (e : Expr) → Values c v w → Respects c Goes (with_right inner v o e) (with_right inner w o e)
+    with_right_respects : (v w : Value) (o : Op) (e : Expr) → c.rules.evals e → Values c v w → Respects c Goes (with_right inner v o e) (with_right inner w o e)
     unfolding with_right
-    with_right_respects v w o e h =
-        next c (evals e) λ x y k.
+    with_right_respects v w o e r h =
+        next c (evals e r) λ x y k.
         next c (compared_respects c inner.left o v w x y h k) λ b d f.
         pure_respects c Goes _ _ (cond_goes b d x y f k)
 
-    related_respects : (v w : Value) (r : Relation-F Expr Relation Operand Pair) → Values c v w → Respects c Goes (related inner v r) (related inner w r)
-    related_respects v w (Relation-F.With o e) h = with_right_respects v w o e h
-    related_respects v w Relation-F.IsNone h = pure_respects c Goes _ _ (cond_goes _ _ v w (same_none v w h) h)
-    related_respects v w Relation-F.IsNotNone h = pure_respects c Goes _ _ (cond_stops _ _ value.Nothing value.Nothing (same_none v w h) (equal value.Nothing refl))
+    related_respects : (v w : Value) (r : Relation-F Expr Relation Operand Pair) → EvalsRight c.rules.evals r → Values c v w → Respects c Goes (related inner v r) (related inner w r)
+    related_respects v w (Relation-F.With o e) q h = with_right_respects v w o e q h
+    related_respects v w Relation-F.IsNone q h = pure_respects c Goes _ _ (cond_goes _ _ v w (same_none v w h) h)
+    related_respects v w Relation-F.IsNotNone q h = pure_respects c Goes _ _ (cond_stops _ _ value.Nothing value.Nothing (same_none v w h) (equal value.Nothing refl))
 
     goes_with : (o u : Option Value) (p : Value → Act Value) → Goes o u → ((v w : Value) → Values c v w → Gives c (p v) (p w)) → Gives c (if_related inner o p) (if_related inner u p)
     goes_with _ _ p nothing k = plain_gives c (value.Bool false) refl
     goes_with _ _ p (some v w h) k = k v w h
 
-    relations_respect : (rs : List Relation) (v w : Value) → Values c v w → Gives c (relations inner v rs) (relations inner w rs)
-    relations_respect [] v w h = plain_gives c (value.Bool true) refl
-    relations_respect (r ∷ rs) v w h =
-        next c (next c (step_respects c) λ _ _ _. related_respects v w (out-Relation r) h) λ o u k.
-        goes_with o u (λ held. relations inner held rs) k (λ x y m. relations_respect rs x y m)
+    relations_respect : (rs : List Relation) (v w : Value) → AllByRecursion (λ r. EvalsRight c.rules.evals (out-Relation r)) rs → Values c v w → Gives c (relations inner v rs) (relations inner w rs)
+    relations_respect [] v w q h = plain_gives c (value.Bool true) refl
+    relations_respect (r ∷ rs) v w q h =
+        next c (next c (step_respects c) λ _ _ _. related_respects v w (out-Relation r) q.0 h) λ o u k.
+        goes_with o u (λ held. relations inner held rs) k (λ x y m. relations_respect rs x y q.1 m)
 
-    comparison_respects : (first : Expr) (rest : List Relation) → Gives c (comparison inner first rest) (comparison inner first rest)
+    comparison_respects : (first : Expr) (rest : List Relation) → c.rules.evals first → AllByRecursion (λ r. EvalsRight c.rules.evals (out-Relation r)) rest → Gives c (comparison inner first rest) (comparison inner first rest)
     unfolding comparison
-    comparison_respects first rest = next c (evals first) λ v w h. relations_respect rest v w h
+    comparison_respects first rest r q = next c (evals first r) λ v w h. relations_respect rest v w q h
 
     -- ---- dicts
 
-    pairs_from_respects : (vs ws : List (Value × Value)) (ps : List Pair) → Evaluated c vs ws → Respects c (Evaluated c) (pairs_from inner vs ps) (pairs_from inner ws ps)
-    pairs_from_respects vs ws [] h = pure_respects c (Evaluated c) vs ws h
-    pairs_from_respects vs ws (p ∷ ps) h =
-        next c (evals (out-Pair p).key) λ x y k.
-        next c (evals (out-Pair p).value) λ v w m.
-        pairs_from_respects (vs ++ (x, v) ∷ []) (ws ++ (y, w) ∷ []) ps (AllZip-push (λ x y. Values c x.0 y.0 × Values c x.1 y.1) vs ws (x, v) (y, w) h (k, m))
+    pairs_from_respects : (vs ws : List (Value × Value)) (ps : List Pair) → AllByRecursion (λ p. c.rules.evals (out-Pair p).key × c.rules.evals (out-Pair p).value) ps → Evaluated c vs ws → Respects c (Evaluated c) (pairs_from inner vs ps) (pairs_from inner ws ps)
+    pairs_from_respects vs ws [] r h = pure_respects c (Evaluated c) vs ws h
+    pairs_from_respects vs ws (p ∷ ps) r h =
+        next c (evals (out-Pair p).key r.0.0) λ x y k.
+        next c (evals (out-Pair p).value r.0.1) λ v w m.
+        pairs_from_respects (vs ++ (x, v) ∷ []) (ws ++ (y, w) ∷ []) ps r.1 (AllZip-push (λ x y. Values c x.0 y.0 × Values c x.1 y.1) vs ws (x, v) (y, w) h (k, m))
 
-    dict_display_respects : (ps : List Pair) → Gives c (dict_display inner ps) (dict_display inner ps)
+    dict_display_respects : (ps : List Pair) → AllByRecursion (λ p. c.rules.evals (out-Pair p).key × c.rules.evals (out-Pair p).value) ps → Gives c (dict_display inner ps) (dict_display inner ps)
     unfolding dict_display
-    dict_display_respects ps =
+    dict_display_respects ps r =
         next c (step_respects c) λ _ _ _.
-        next c (pairs_from_respects [] [] ps tt) λ vs ws h.
+        next c (pairs_from_respects [] [] ps r tt) λ vs ws h.
         next c (keys_from_respects c [] [] vs ws tt h) λ xs ys k.
         next c (charge_respects c 1 1 refl) λ _ _ _.
         next c (add_respects c (object.Dict []) (object.Dict []) tt c.rules.dict_fit) λ a b p.
@@ -207,34 +210,34 @@ module _ (c : Setting) where
 
     -- ---- items, methods and calls
 
-    index_respects : (e at : Expr) → Gives c (index inner e at) (index inner e at)
+    index_respects : (e at : Expr) → c.rules.evals e × c.rules.evals at → Gives c (index inner e at) (index inner e at)
     unfolding index
-    index_respects e at =
+    index_respects e at r =
         next c (step_respects c) λ _ _ _.
-        next c (evals e) λ v w h.
-        next c (evals at) λ x y k.
+        next c (evals e r.0) λ v w h.
+        next c (evals at r.1) λ x y k.
         indexed_respects c v w x y h k
 
-    if_there_respects : (e : Option Expr) → Respects c (Held c) (if_there inner e) (if_there inner e)
-    if_there_respects None = pure_respects c (Held c) None None tt
-    if_there_respects (Some e) = next c (evals e) λ v w h. pure_respects c (Held c) (Some v) (Some w) h
+    if_there_respects : (e : Option Expr) → IfEvals c.rules.evals e → Respects c (Held c) (if_there inner e) (if_there inner e)
+    if_there_respects None r = pure_respects c (Held c) None None tt
+    if_there_respects (Some e) r = next c (evals e r) λ v w h. pure_respects c (Held c) (Some v) (Some w) h
 
-    slice_respects : (e : Expr) (from to : Option Expr) → Gives c (slice inner e from to) (slice inner e from to)
+    slice_respects : (e : Expr) (from to : Option Expr) → c.rules.evals e × IfEvals c.rules.evals from × IfEvals c.rules.evals to → Gives c (slice inner e from to) (slice inner e from to)
     unfolding slice
-    slice_respects e from to =
+    slice_respects e from to r =
         next c (step_respects c) λ _ _ _.
-        next c (evals e) λ v w h.
-        next c (if_there_respects from) λ o u k.
-        next c (if_there_respects to) λ o' u' m.
+        next c (evals e r.0) λ v w h.
+        next c (if_there_respects from r.1) λ o u k.
+        next c (if_there_respects to r.2) λ o' u' m.
         sliced_respects c v w o u o' u' h k m
 
-    method_respects : (on : Expr) (name : Name) (args : List Expr) → Gives c (method inner on name args) (method inner on name args)
+    method_respects : (on : Expr) (name : Name) (args : List Expr) → c.rules.evals on × Evals args → Gives c (method inner on name args) (method inner on name args)
     unfolding method
-    method_respects on name args =
+    method_respects on name args r =
         next c (step_respects c) λ _ _ _.
-        next c (evals on) λ v w h.
+        next c (evals on r.0) λ v w h.
         next c (method_of_respects c v w name h) λ m n k.
-        next c (items_respect args) λ vs ws l.
+        next c (items_respect args r.1) λ vs ws l.
         method_called_respects c m n vs ws k l
 
     same_text_act : (text other : List ℕ) → text ≡ other → Respects c Equal (pure text) (pure other)
@@ -342,114 +345,118 @@ module _ (c : Setting) where
     called_respects _ _ vs ws (equal v n) h = plain_called v vs ws n h
     called_respects _ _ vs ws (refs a b p) h = ref_called_respects a b vs ws p h
 
-    call_respects : (callee : Expr) (args : List Expr) → Gives c (call inner callee args) (call inner callee args)
+    call_respects : (callee : Expr) (args : List Expr) → c.rules.evals callee × Evals args → Gives c (call inner callee args) (call inner callee args)
     unfolding call
-    call_respects callee args =
+    call_respects callee args r =
         next c (step_respects c) λ _ _ _.
-        next c (evals callee) λ v w h.
-        next c (items_respect args) λ vs ws k.
+        next c (evals callee r.0) λ v w h.
+        next c (items_respect args r.1) λ vs ws k.
         called_respects v w vs ws h k
 
-    expression_respects : (e : Expr-F Expr Relation Operand Pair) → Gives c (expression inner e) (expression inner e)
-    expression_respects (Expr-F.Name name) = next c (step_respects c) λ _ _ _. look_respects c name
-    expression_respects (Expr-F.Literal constant) = literal_respects c constant
-    expression_respects (Expr-F.ListOf es) = display_respects es
-    expression_respects (Expr-F.Conditional test first second) = conditional_respects test first second
-    expression_respects (Expr-F.Or es) = disjunction_respects es
-    expression_respects (Expr-F.And es) = conjunction_respects es
-    expression_respects (Expr-F.Not e) = negation_respects e
-    expression_respects (Expr-F.Compare first rest) = comparison_respects first rest
-    expression_respects (Expr-F.Sum first rest) = sum_respects first rest
-    expression_respects (Expr-F.Product first rest) = sum_respects first rest
-    expression_respects (Expr-F.Sign minus e) = sign_respects minus e
-    expression_respects (Expr-F.Method on name args) = method_respects on name args
-    expression_respects (Expr-F.Call callee args) = call_respects callee args
-    expression_respects (Expr-F.DictOf pairs) = dict_display_respects pairs
-    expression_respects (Expr-F.Index e at) = index_respects e at
-    expression_respects (Expr-F.Slice e from to) = slice_respects e from to
+    expression_respects : (e : Expr-F Expr Relation Operand Pair) → Looks c.rules.known c.rules.evals e → Gives c (expression inner e) (expression inner e)
+    expression_respects (Expr-F.Name name) r = next c (step_respects c) λ _ _ _. look_respects c name r
+    expression_respects (Expr-F.Literal constant) r = literal_respects c constant
+    expression_respects (Expr-F.ListOf es) r = display_respects es r
+    expression_respects (Expr-F.Conditional test first second) r = conditional_respects test first second r
+    expression_respects (Expr-F.Or es) r = disjunction_respects es r
+    expression_respects (Expr-F.And es) r = conjunction_respects es r
+    expression_respects (Expr-F.Not e) r = negation_respects e r
+    expression_respects (Expr-F.Compare first rest) r = comparison_respects first rest r.0 r.1
+    expression_respects (Expr-F.Sum first rest) r = sum_respects first rest r.0 r.1
+    expression_respects (Expr-F.Product first rest) r = sum_respects first rest r.0 r.1
+    expression_respects (Expr-F.Sign minus e) r = sign_respects minus e r
+    expression_respects (Expr-F.Method on name args) r = method_respects on name args r
+    expression_respects (Expr-F.Call callee args) r = call_respects callee args r
+    expression_respects (Expr-F.DictOf pairs) r = dict_display_respects pairs r
+    expression_respects (Expr-F.Index e at) r = index_respects e at r
+    expression_respects (Expr-F.Slice e from to) r = slice_respects e from to r
 
     -- ---- statements
 
-    assign_respects : (name : Name) (e : Expr) → c.rules.may name → Flows c (assign inner name e) (assign inner name e)
+    -- a name that may have a value, and that may be bound
+    abbrev Binds : Name → Type 0
+    Binds name = c.rules.may name × c.rules.known name
+
+    assign_respects : (name : Name) (e : Expr) → Binds name → c.rules.evals e → Flows c (assign inner name e) (assign inner name e)
     unfolding assign
-    assign_respects name e may =
+    assign_respects name e may r =
         next c (step_respects c) λ _ _ _.
-        next c (evals e) λ v w h.
+        next c (evals e r) λ v w h.
         next c (store_respects c name v w may h) λ _ _ _.
         goes c flow.Next flow.Next to_next
 
-    assign_item_respects : (on at e : Expr) → Flows c (assign_item inner on at e) (assign_item inner on at e)
+    assign_item_respects : (on at e : Expr) → c.rules.evals on × c.rules.evals at → c.rules.evals e → Flows c (assign_item inner on at e) (assign_item inner on at e)
     unfolding assign_item
-    assign_item_respects on at e =
+    assign_item_respects on at e q l =
         next c (step_respects c) λ _ _ _.
-        next c (evals e) λ v w h.
-        next c (evals on) λ r s k.
-        next c (evals at) λ x y m.
+        next c (evals e l) λ v w h.
+        next c (evals on q.0) λ r s k.
+        next c (evals at q.1) λ x y m.
         next c (item_stored_respects c r s x y v w k m h) λ _ _ _.
         goes c flow.Next flow.Next to_next
 
-    assigned_respects : (place : Target) (e : Expr) → BindsAt c.rules.may place → Flows c (assigned inner place e) (assigned inner place e)
-    assigned_respects (target.Name name) e may = assign_respects name e may
-    assigned_respects (target.Item on at) e may = assign_item_respects on at e
+    assigned_respects : (place : Target) (e : Expr) → BindsAt Binds c.rules.evals place → c.rules.evals e → Flows c (assigned inner place e) (assigned inner place e)
+    assigned_respects (target.Name name) e may r = assign_respects name e may r
+    assigned_respects (target.Item on at) e may r = assign_item_respects on at e may r
 
     as_expression_respects : Respects c Any (as_expression inner) (as_expression inner)
     unfolding as_expression
     as_expression_respects = choose_respects c Any (inner.left == 0) (inner.left == 0) _ _ _ _ refl (fail_respects c Any recursion_error recursion_error refl) (step_respects c)
 
-    augment_respects : (name : Name) (o : Op) (e : Expr) → c.rules.may name → Flows c (augment inner name o e) (augment inner name o e)
+    augment_respects : (name : Name) (o : Op) (e : Expr) → Binds name → c.rules.evals e → Flows c (augment inner name o e) (augment inner name o e)
     unfolding augment
-    augment_respects name o e may =
+    augment_respects name o e may q =
         next c (step_respects c) λ _ _ _.
         next c as_expression_respects λ _ _ _.
-        next c (look_respects c name) λ x y h.
-        next c (evals e) λ v w k.
+        next c (look_respects c name may.1) λ x y h.
+        next c (evals e q) λ v w k.
         next c (augmented_respects c o x y v w h k) λ r s m.
         next c (store_respects c name r s may m) λ _ _ _.
         goes c flow.Next flow.Next to_next
 
-    augment_item_respects : (on at : Expr) (o : Op) (e : Expr) → Flows c (augment_item inner on at o e) (augment_item inner on at o e)
+    augment_item_respects : (on at : Expr) (o : Op) (e : Expr) → c.rules.evals on × c.rules.evals at → c.rules.evals e → Flows c (augment_item inner on at o e) (augment_item inner on at o e)
     unfolding augment_item
-    augment_item_respects on at o e =
+    augment_item_respects on at o e t z =
         next c (step_respects c) λ _ _ _.
         next c as_expression_respects λ _ _ _.
-        next c (parts on) λ r s h.
-        next c (parts at) λ x y k.
+        next c (parts on t.0) λ r s h.
+        next c (parts at t.1) λ x y k.
         next c (indexed_respects c r s x y h k) λ i j m.
-        next c (evals e) λ v w l.
+        next c (evals e z) λ v w l.
         next c (augmented_respects c o i j v w m l) λ new other q.
         next c (item_stored_respects c r s x y new other h k q) λ _ _ _.
         goes c flow.Next flow.Next to_next
 
-    augment_at_respects : (place : Target) (o : Op) (e : Expr) → BindsAt c.rules.may place → Flows c (augment_at inner place o e) (augment_at inner place o e)
-    augment_at_respects (target.Name name) o e may = augment_respects name o e may
-    augment_at_respects (target.Item on at) o e may = augment_item_respects on at o e
+    augment_at_respects : (place : Target) (o : Op) (e : Expr) → BindsAt Binds c.rules.evals place → c.rules.evals e → Flows c (augment_at inner place o e) (augment_at inner place o e)
+    augment_at_respects (target.Name name) o e may r = augment_respects name o e may r
+    augment_at_respects (target.Item on at) o e may r = augment_item_respects on at o e may r
 
-    delete_item_respects : (on at : Expr) → Flows c (delete_item inner on at) (delete_item inner on at)
+    delete_item_respects : (on at : Expr) → c.rules.evals on × c.rules.evals at → Flows c (delete_item inner on at) (delete_item inner on at)
     unfolding delete_item
-    delete_item_respects on at =
+    delete_item_respects on at q =
         next c (step_respects c) λ _ _ _.
-        next c (evals on) λ r s h.
-        next c (evals at) λ x y k.
+        next c (evals on q.0) λ r s h.
+        next c (evals at q.1) λ x y k.
         next c (item_deleted_respects c r s x y h k) λ _ _ _.
         goes c flow.Next flow.Next to_next
 
-    deleted_respects : (target : Target) → Flows c (deleted inner target) (deleted inner target)
-    deleted_respects (target.Name name) = delete_respects c name
-    deleted_respects (target.Item on at) = delete_item_respects on at
+    deleted_respects : (place : Target) → BindsAt c.rules.known c.rules.evals place → Flows c (deleted inner place) (deleted inner place)
+    deleted_respects (target.Name name) known = delete_respects c name known
+    deleted_respects (target.Item on at) r = delete_item_respects on at r
 
-    show_respects : (e : Expr) → Flows c (show inner e) (show inner e)
-    show_respects e = next c (next c (step_respects c) λ _ _ _. evals e) λ _ _ _. goes c flow.Next flow.Next to_next
+    show_respects : (e : Expr) → c.rules.evals e → Flows c (show inner e) (show inner e)
+    show_respects e r = next c (next c (step_respects c) λ _ _ _. evals e r) λ _ _ _. goes c flow.Next flow.Next to_next
 
-    return_respects : (e : Option Expr) → Flows c (return inner e) (return inner e)
-    return_respects None = next c (step_respects c) λ _ _ _. goes c (flow.Return value.Nothing) (flow.Return value.Nothing) (returns value.Nothing value.Nothing (equal value.Nothing refl))
-    return_respects (Some e) = next c (next c (step_respects c) λ _ _ _. evals e) λ v w h. goes c (flow.Return v) (flow.Return w) (returns v w h)
+    return_respects : (e : Option Expr) → IfEvals c.rules.evals e → Flows c (return inner e) (return inner e)
+    return_respects None r = next c (step_respects c) λ _ _ _. goes c (flow.Return value.Nothing) (flow.Return value.Nothing) (returns value.Nothing value.Nothing (equal value.Nothing refl))
+    return_respects (Some e) r = next c (next c (step_respects c) λ _ _ _. evals e r) λ v w h. goes c (flow.Return v) (flow.Return w) (returns v w h)
 
-    arms_respect : (tests : List Arm) (other : List Stmt) → AllByRecursion (λ arm. AllByRecursion c.rules.runs (out-Arm arm).body) tests → AllByRecursion c.rules.runs other → Flows c (arms inner tests other) (arms inner tests other)
+    arms_respect : (tests : List Arm) (other : List Stmt) → AllByRecursion (λ arm. c.rules.evals (out-Arm arm).test × AllByRecursion c.rules.runs (out-Arm arm).body) tests → AllByRecursion c.rules.runs other → Flows c (arms inner tests other) (arms inner tests other)
     arms_respect [] other r q = block_respects other q
     arms_respect (arm ∷ more) other r q =
-        next c (evals (out-Arm arm).test) λ v w h.
+        next c (evals (out-Arm arm).test r.0.0) λ v w h.
         next c (truth_respects c v w h) λ b d e.
-        choose_respects c (FlowsMatch (Paired c)) b d _ _ _ _ e (block_respects (out-Arm arm).body r.0) (arms_respect more other r.1 q)
+        choose_respects c (FlowsMatch (Paired c)) b d _ _ _ _ e (block_respects (out-Arm arm).body r.0.1) (arms_respect more other r.1 q)
 
     after_turn_respects : (e f : Flow) (p q : Act Flow) → FlowsMatch (Paired c) e f → Flows c p q → Flows c (after_turn e p) (after_turn f q)
     after_turn_respects _ _ p q to_next k = k
@@ -457,24 +464,24 @@ module _ (c : Setting) where
     after_turn_respects _ _ p q breaks k = goes c flow.Next flow.Next to_next
     after_turn_respects _ _ p q (returns v w h) k = goes c (flow.Return v) (flow.Return w) (returns v w h)
 
-    turns_respect : (n : ℕ) (test : Expr) (body : List Stmt) → AllByRecursion c.rules.runs body → Flows c (turns inner n test body) (turns inner n test body)
+    turns_respect : (n : ℕ) (test : Expr) (body : List Stmt) → c.rules.evals test → AllByRecursion c.rules.runs body → Flows c (turns inner n test body) (turns inner n test body)
     unfolding turns
-    turns_respect zero test body r = fail_respects c (FlowsMatch (Paired c)) step_limit_error step_limit_error refl
-    turns_respect (suc n) test body r =
-        next c (evals test) λ v w h.
+    turns_respect zero test body q r = fail_respects c (FlowsMatch (Paired c)) step_limit_error step_limit_error refl
+    turns_respect (suc n) test body q r =
+        next c (evals test q) λ v w h.
         next c (truth_respects c v w h) λ b d e.
         choose_respects c (FlowsMatch (Paired c)) b d _ _ _ _ e
-        (next c (block_respects body r) λ x y k. after_turn_respects x y _ _ k (turns_respect n test body r)) (goes c flow.Next flow.Next to_next)
+        (next c (block_respects body r) λ x y k. after_turn_respects x y _ _ k (turns_respect n test body q r)) (goes c flow.Next flow.Next to_next)
 
-    repeat_respects : (test : Expr) (body : List Stmt) → AllByRecursion c.rules.runs body → Flows c (repeat inner test body) (repeat inner test body)
+    repeat_respects : (test : Expr) (body : List Stmt) → c.rules.evals test → AllByRecursion c.rules.runs body → Flows c (repeat inner test body) (repeat inner test body)
     unfolding repeat
-    repeat_respects test body r = next c (step_respects c) λ _ _ _. turns_respect most_turns test body r
+    repeat_respects test body q r = next c (step_respects c) λ _ _ _. turns_respect most_turns test body q r
 
     -- ---- `for`
 
-    part_items_respect : (vs ws : List Value) (es : List Expr) → AllZip (Values c) vs ws → Respects c (AllZip (Values c)) (part_items_from inner vs es) (part_items_from inner ws es)
-    part_items_respect vs ws [] h = pure_respects c (AllZip (Values c)) vs ws h
-    part_items_respect vs ws (e ∷ es) h = next c (parts e) λ v w k. part_items_respect (vs ++ v ∷ []) (ws ++ w ∷ []) es (AllZip-push (Values c) vs ws v w h k)
+    part_items_respect : (vs ws : List Value) (es : List Expr) → Evals es → AllZip (Values c) vs ws → Respects c (AllZip (Values c)) (part_items_from inner vs es) (part_items_from inner ws es)
+    part_items_respect vs ws [] r h = pure_respects c (AllZip (Values c)) vs ws h
+    part_items_respect vs ws (e ∷ es) r h = next c (parts e r.0) λ v w k. part_items_respect (vs ++ v ∷ []) (ws ++ w ∷ []) es r.1 (AllZip-push (Values c) vs ws v w h k)
 
     source_made : (v w : Value) (vs ws : List Value) → Values c v w → AllZip (Values c) vs ws → Iterates c (inner.calls v vs >>= iterated) (inner.calls w ws >>= iterated)
     source_made v w vs ws h k = next c (calls v w vs ws h k) λ x y m. iterated_respects c x y m
@@ -487,63 +494,63 @@ module _ (c : Setting) where
     source_called_respects _ _ vs ws (equal v n) h = plain_source v vs ws n h
     source_called_respects _ _ vs ws (refs a b p) h = source_made (value.Ref a) (value.Ref b) vs ws (refs a b p) h
 
-    call_source_respects : (callee : Expr) (args : List Expr) → Iterates c (call_source inner callee args) (call_source inner callee args)
+    call_source_respects : (callee : Expr) (args : List Expr) → c.rules.evals callee × Evals args → Iterates c (call_source inner callee args) (call_source inner callee args)
     unfolding call_source
-    call_source_respects callee args =
+    call_source_respects callee args r =
         next c as_expression_respects λ _ _ _.
-        next c (parts callee) λ v w h.
-        next c (part_items_respect [] [] args tt) λ vs ws k.
+        next c (parts callee r.0) λ v w h.
+        next c (part_items_respect [] [] args r.1 tt) λ vs ws k.
         source_called_respects v w vs ws h k
 
-    source_evaluated : (e : Expr) → Iterates c (inner.eval e >>= iterated) (inner.eval e >>= iterated)
-    source_evaluated e = next c (evals e) λ v w h. iterated_respects c v w h
+    source_evaluated : (e : Expr) → c.rules.evals e → Iterates c (inner.eval e >>= iterated) (inner.eval e >>= iterated)
+    source_evaluated e r = next c (evals e r) λ v w h. iterated_respects c v w h
 
-    source_respects : (e : Expr) (opened : Expr-F Expr Relation Operand Pair) → Iterates c (source_of inner e opened) (source_of inner e opened)
-    source_respects e (Expr-F.Call callee args) = call_source_respects callee args
-    source_respects e _ = source_evaluated e
+    source_respects : (e : Expr) (opened : Expr-F Expr Relation Operand Pair) → c.rules.evals e → Looks c.rules.known c.rules.evals opened → Iterates c (source_of inner e opened) (source_of inner e opened)
+    source_respects e (Expr-F.Call callee args) r q = call_source_respects callee args q
+    source_respects e _ r q = source_evaluated e r
 
-    turn_respects : (name : Name) (o u : Next) (p q : Iteration → Act Flow) → c.rules.may name → Nexts c o u → ((r s : Iteration) → IterationsMatch (Paired c) r s → Flows c (p r) (q s))
+    turn_respects : (name : Name) (o u : Next) (p q : Iteration → Act Flow) → Binds name → Nexts c o u → ((r s : Iteration) → IterationsMatch (Paired c) r s → Flows c (p r) (q s))
         → Flows c (turn inner name o p) (turn inner name u q)
     turn_respects name (Some x) (Some y) p q may h k = next c (next c (step_respects c) λ _ _ _. store_respects c name x.0 y.0 may h.0) λ _ _ _. k x.1 y.1 h.1
     turn_respects name None None p q may h k = goes c flow.Next flow.Next to_next
     turn_respects name (Some x) None p q may h k = absurd h
     turn_respects name None (Some y) p q may h k = absurd h
 
-    rounds_respect : (n : ℕ) (name : Name) (body : List Stmt) (r s : Iteration) → c.rules.may name → AllByRecursion c.rules.runs body → IterationsMatch (Paired c) r s → Flows c (rounds inner n name body r) (rounds inner n name body s)
+    rounds_respect : (n : ℕ) (name : Name) (body : List Stmt) (r s : Iteration) → Binds name → AllByRecursion c.rules.runs body → IterationsMatch (Paired c) r s → Flows c (rounds inner n name body r) (rounds inner n name body s)
     unfolding rounds
     rounds_respect zero name body r s may all h = fail_respects c (FlowsMatch (Paired c)) step_limit_error step_limit_error refl
     rounds_respect (suc n) name body r s may all h =
         next c (advance_respects c r s h) λ o u k.
         turn_respects name o u _ _ may k λ r' s' m. next c (block_respects body all) λ x y l. after_turn_respects x y _ _ l (rounds_respect n name body r' s' may all m)
 
-    for_respects : (name : Name) (e : Expr) (body : List Stmt) → c.rules.may name × AllByRecursion c.rules.runs body → Flows c (for_each inner name e body) (for_each inner name e body)
+    for_respects : (name : Name) (e : Expr) (body : List Stmt) → Binds name × c.rules.evals e × AllByRecursion c.rules.runs body → Flows c (for_each inner name e body) (for_each inner name e body)
     unfolding for_each
-    for_respects name e body all = next c (next c (step_respects c) λ _ _ _. source_respects e (out-Expr e)) λ r s h. rounds_respect most_turns name body r s all.0 all.1 h
+    for_respects name e body all = next c (next c (step_respects c) λ _ _ _. source_respects e (out-Expr e) all.1 (c.rules.looks e all.1)) λ r s h. rounds_respect most_turns name body r s all.0 all.2 h
 
     one_step : (e : Flow) → FlowsMatch (Paired c) e e → Flows c (step >> pure e) (step >> pure e)
     one_step e h = next c (step_respects c) λ _ _ _. goes c e e h
 
-    statement_respects : (s : Stmt-F Stmt Arm Def) → Opens c.rules.may c.rules.fit c.rules.runs s → Flows c (statement inner s) (statement inner s)
+    statement_respects : (s : Stmt-F Stmt Arm Def) → Opens Binds c.rules.known c.rules.fit c.rules.evals c.rules.runs s → Flows c (statement inner s) (statement inner s)
     statement_respects Stmt-F.Pass r = one_step flow.Next to_next
     statement_respects Stmt-F.Break r = one_step flow.Break breaks
     statement_respects Stmt-F.Continue r = one_step flow.Continue continues
-    statement_respects (Stmt-F.Return e) r = return_respects e
+    statement_respects (Stmt-F.Return e) r = return_respects e r
     statement_respects (Stmt-F.Global names) r = one_step flow.Next to_next
-    statement_respects (Stmt-F.Delete place) r = deleted_respects place
-    statement_respects (Stmt-F.Assign place e) r = assigned_respects place e r
-    statement_respects (Stmt-F.Augment place o e) r = augment_at_respects place o e r
-    statement_respects (Stmt-F.Expression e) r = show_respects e
+    statement_respects (Stmt-F.Delete place) r = deleted_respects place r
+    statement_respects (Stmt-F.Assign place e) r = assigned_respects place e r.0 r.1
+    statement_respects (Stmt-F.Augment place o e) r = augment_at_respects place o e r.0 r.1
+    statement_respects (Stmt-F.Expression e) r = show_respects e r
     statement_respects (Stmt-F.If tests other) r = next c (step_respects c) λ _ _ _. arms_respect tests other r.0 r.1
-    statement_respects (Stmt-F.While test body) r = repeat_respects test body r
+    statement_respects (Stmt-F.While test body) r = repeat_respects test body r.0 r.1
     statement_respects (Stmt-F.For name source body) r = for_respects name source body r
     statement_respects (Stmt-F.Function def) r = define_respects c def r
 
   -- ---- the levels
 
   record LevelRespects (n : ℕ) : Type 0 where
-    evals : (e : Expr) → Gives c ((level n).eval e) ((level n).eval e)
+    evals : (e : Expr) → c.rules.evals e → Gives c ((level n).eval e) ((level n).eval e)
     execs : (s : Stmt) → c.rules.runs s → Flows c ((level n).exec s) ((level n).exec s)
-    parts : (e : Expr) → Gives c ((level n).part e) ((level n).part e)
+    parts : (e : Expr) → c.rules.evals e → Gives c ((level n).part e) ((level n).part e)
     calls : (v w : Value) (vs ws : List Value) → Values c v w → AllZip (Values c) vs ws → Gives c ((level n).calls v vs) ((level n).calls w ws)
 
   no_level : Gives c (fail recursion_error) (fail recursion_error)
@@ -552,15 +559,15 @@ module _ (c : Setting) where
   level_respects : (n : ℕ) → LevelRespects n
   unfolding level
   level_respects zero = record {
-    evals = λ e. no_level;
+    evals = λ e r. no_level;
     execs = λ s r. fail_respects c (FlowsMatch (Paired c)) recursion_error recursion_error refl;
-    parts = λ e. no_level;
+    parts = λ e r. no_level;
     calls = λ v w vs ws h k. no_level;
   }
   level_respects (suc n) =
       let below = level_respects n in
       record {
-        evals = λ e. expression_respects (level n) below.evals below.execs below.parts below.calls (out-Expr e);
+        evals = λ e r. expression_respects (level n) below.evals below.execs below.parts below.calls (out-Expr e) (c.rules.looks e r);
         execs = λ s r. statement_respects (level n) below.evals below.execs below.parts below.calls (out-Stmt s) (c.rules.opens s r);
         parts = below.evals;
         calls = called_respects (level n) below.evals below.execs below.parts below.calls;
@@ -571,22 +578,22 @@ module _ (c : Setting) where
   abbrev Results : Act (Option (List ℕ)) → Act (Option (List ℕ)) → Type 0
   Results = Respects c Equal
 
-  show_last_respects : (e : Expr) → Results (show_last e) (show_last e)
-  show_last_respects e =
+  show_last_respects : (e : Expr) → c.rules.evals e → Results (show_last e) (show_last e)
+  show_last_respects e r =
       let below = level_respects 799 in
-      next c (next c (step_respects c) λ _ _ _. below.evals e) λ v w h. result_respects c v w h
+      next c (next c (step_respects c) λ _ _ _. below.evals e r) λ v w h. result_respects c v w h
 
   exec_last : (s : Stmt) → c.rules.runs s → Results ((level 800).exec s >> pure None) ((level 800).exec s >> pure None)
   exec_last s r =
       let below = level_respects 800 in
       next c (below.execs s r) λ _ _ _. pure_respects c Equal None None refl
 
-  last_respects : (s : Stmt) (opened : Stmt-F Stmt Arm Def) → c.rules.runs s → Results (last s opened) (last s opened)
-  last_respects s (Stmt-F.Expression e) r = show_last_respects e
-  last_respects s _ r = exec_last s r
+  last_respects : (s : Stmt) (opened : Stmt-F Stmt Arm Def) → c.rules.runs s → Opens (λ name. c.rules.may name × c.rules.known name) c.rules.known c.rules.fit c.rules.evals c.rules.runs opened → Results (last s opened) (last s opened)
+  last_respects s (Stmt-F.Expression e) r q = show_last_respects e q
+  last_respects s _ r q = exec_last s r
 
   top_from_respects : (s : Stmt) (more : List Stmt) → AllByRecursion c.rules.runs (s ∷ more) → Results (top_from s more) (top_from s more)
-  top_from_respects s [] r = last_respects s (out-Stmt s) r.0
+  top_from_respects s [] r = last_respects s (out-Stmt s) r.0 (c.rules.opens s r.0)
   top_from_respects s (t ∷ more) r =
       let below = level_respects 800 in
       next c (below.execs s r.0) λ _ _ _. top_from_respects t more r.1

@@ -87,6 +87,7 @@ module _ (named : Name → Type 0) (body : List Stmt) (draws : List Drawn) (s t 
         right_size = omega arith;
       };
       may = λ x v e. tt;
+      known = λ x w. tt;
       fit = λ a o e. tt;
     }
 

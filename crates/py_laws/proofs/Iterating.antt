@@ -1,7 +1,6 @@
 -- What a `for` goes over respects alikeness: its start, and what comes next.
 use Rattle.std.proofs.Common.{◌≡◌, ℕ, ℤ, ◌+◌, ◌==◌, Bool, true, false, cond, List, [], length, Option, Some, None, refl, ap, subst}
 use Rattle.std.specs.Prelude.{pos, codes, slice_get}
-use Rattle.std.specs.Str.{chars}
 use Rattle.py_value.specs.declared.key.Key.{Key}
 use Rattle.py_value.specs.declared.value.Value.{Value}
 use Rattle.py_value.specs.declared.value.Value.TheVariants as value
@@ -11,9 +10,10 @@ use Rattle.py_heap.specs.References.{value_refs}
 use Rattle.py_machine.specs.declared.iteration.Iteration.{Iteration}
 use Rattle.py_machine.specs.declared.iteration.Iteration.TheVariants as iteration
 use Rattle.py_machine.specs.Changes.{object_kind}
+use Rattle.py_machine.specs.Rests.{first_cut}
 use Rattle.py_machine.specs.Errors.{not_iterable, wrong_number, wrong_argument, zero_range_step, changed_size}
 use Rattle.py_meaning.specs.Acts.{Act, pure, fail}
-use Rattle.py_meaning.specs.Iterating.{object_iterated, not_iterated, iterated, ranged, range_of, Next, with_rest, next_item, key_in, next_key, character_in, next_character, is_before, following, next_number, advance}
+use Rattle.py_meaning.specs.Iterating.{object_iterated, not_iterated, iterated, ranged, range_of, Next, with_rest, next_item, key_in, next_key, first_in, next_character, is_before, following, next_number, advance}
 use Rattle.py_laws.specs.Same.{equal, refs, PairsMatch, BothOrNone}
 use Rattle.py_laws.proofs.Zipped.{zip_length, zip_get, Zips, no_more, one_more}
 use Rattle.py_laws.proofs.Respecting.{Setting, Paired, IterationsMatch, over_items, over_keys, over_characters, over_range, Respects, next, pure_respects, fail_respects, choose_respects}
@@ -47,7 +47,7 @@ module _ (c : Setting) where
 
   plain_iterated : (v : Value) → value_refs v ≡ [] → Iterates (iterated v) (iterated v)
   unfolding iterated
-  plain_iterated (value.Text text) none = pure_respects c Over (iteration.Characters text 0) (iteration.Characters text 0) (over_characters text 0)
+  plain_iterated (value.Text text) none = pure_respects c Over (iteration.Characters text) (iteration.Characters text) (over_characters text)
   plain_iterated (value.Ref at) none = cc
   plain_iterated v none = not_iterated_respects v v (equal v none)
 
@@ -112,12 +112,12 @@ module _ (c : Setting) where
       (fail_respects c Nexts changed_size changed_size refl)
   next_key_respects a b n size o u p _ = no_next
 
-  character_match : (o : Option ℕ) → BothOrNone (Values c) (character_in o) (character_in o)
-  character_match (Some x) = equal _ refl
-  character_match None = tt
+  first_match : (o : Option (List ℕ × List ℕ)) → Nexts (first_in o) (first_in o)
+  first_match (Some cut) = (equal (value.Text cut.0) refl, over_characters cut.1)
+  first_match None = tt
 
-  next_character_match : (text : List ℕ) (n : ℕ) → Nexts (next_character text n) (next_character text n)
-  next_character_match text n = with_rest_match _ _ _ _ (character_match (slice_get (chars text) n)) (over_characters text (n + 1))
+  next_character_match : (text : List ℕ) → Nexts (next_character text) (next_character text)
+  next_character_match text = first_match (first_cut text)
 
   number_comes : (b : Bool) (n : ℤ) (rest : Iteration) → Over rest rest → Nexts (cond b (Some (value.Number n, rest)) None) (cond b (Some (value.Number n, rest)) None)
   number_comes true n rest h = (equal (value.Number n) refl, h)
@@ -131,5 +131,5 @@ module _ (c : Setting) where
   unfolding advance
   advance_respects _ _ (over_items a b n p) = next c (object_at_respects c a b p) λ o u h. next_item_respects a b n o u p (kinds c o u h)
   advance_respects _ _ (over_keys a b n size p) = next c (object_at_respects c a b p) λ o u h. next_key_respects a b n size o u p (kinds c o u h)
-  advance_respects _ _ (over_characters text n) = pure_respects c Nexts _ _ (next_character_match text n)
+  advance_respects _ _ (over_characters text) = pure_respects c Nexts _ _ (next_character_match text)
   advance_respects _ _ (over_range n stop by) = pure_respects c Nexts _ _ (next_number_match n stop by)

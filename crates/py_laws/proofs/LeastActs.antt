@@ -37,7 +37,7 @@ use Rattle.py_laws.proofs.Members.{same_name, name_itself, name_cases, name_befo
 use Rattle.py_laws.proofs.Places.{Named, bound, unbound, bound_other, unbound_other, get_kept, get_new, set_same, set_other}
 use Rattle.py_laws.proofs.Zipped.{zip_length, zip_append, zip_insert, zip_set, zip_remove, put_match, drop_match}
 use Rattle.py_laws.proofs.Rules.{IfThere}
-use Rattle.py_laws.proofs.Respecting.{Setting, Paired, SlotsMatch, empty, held, FramesMatch, ChangesMatch, push, extends, insert, setting, remove, put, drop, clear, use_, MarksMatch, MayHold, AreFit, Alike, Ends, Stays, Respects, Any, Equal, cond_ends, next, pure_respects}
+use Rattle.py_laws.proofs.Respecting.{Setting, Paired, SlotsMatch, empty, held, FramesMatch, ChangesMatch, push, extends, insert, setting, remove, put, drop, clear, use_, MarksMatch, MayHold, AreFit, AreKnown, Alike, Ends, Stays, Respects, Any, Equal, cond_ends, next, pure_respects}
 
 module _ (c : Setting) where
   abbrev pub Values : Value → Value → Type 0
@@ -61,7 +61,7 @@ module _ (c : Setting) where
   unfolding runs.step
   step_respects = record {
     ends = λ draws m n h stay. cond_ends c Any _ _ _ _ _ _ (ap (λ x. nat_lt x 1000000) h.counts.steps)
-        (plain _ _ (record { counts = record { steps = ap (λ x. x + 1) h.counts.steps; printed = h.counts.printed; meter = h.counts.meter; drawn = h.counts.drawn }; marks = h.marks; frame = h.frame; names = h.names; heaps = h.heaps; may = h.may; fit = h.fit }))
+        (plain _ _ (record { counts = record { steps = ap (λ x. x + 1) h.counts.steps; printed = h.counts.printed; meter = h.counts.meter; drawn = h.counts.drawn }; marks = h.marks; frame = h.frame; names = h.names; heaps = h.heaps; may = h.may; known = h.known; fit = h.fit }))
         (record { alike = h; result = refl });
   }
 
@@ -69,7 +69,7 @@ module _ (c : Setting) where
   unfolding runs.charge
   charge_respects k l e = record {
     ends = λ draws m n h stay. cond_ends c Any _ _ _ _ _ _ (ap₂ (λ x y. nat_le (x + y) 16777216) h.counts.meter e)
-        (plain _ _ (record { counts = record { steps = h.counts.steps; printed = h.counts.printed; meter = ap₂ (λ x y. x + y) h.counts.meter e; drawn = h.counts.drawn }; marks = h.marks; frame = h.frame; names = h.names; heaps = h.heaps; may = h.may; fit = h.fit }))
+        (plain _ _ (record { counts = record { steps = h.counts.steps; printed = h.counts.printed; meter = ap₂ (λ x y. x + y) h.counts.meter e; drawn = h.counts.drawn }; marks = h.marks; frame = h.frame; names = h.names; heaps = h.heaps; may = h.may; known = h.known; fit = h.fit }))
         (record { alike = h; result = refl });
   }
 
@@ -83,14 +83,25 @@ module _ (c : Setting) where
       names = h.names;
       heaps = h.heaps;
       may = h.may;
+      known = h.known;
       fit = h.fit;
     });
   }
 
   -- ---- names
 
-  looked_alike : (x : Name) (m n : Machine) → Alike c m n → Alike c (marked (event.Look x) m) (marked (event.Look x) n)
-  looked_alike x m n h = record {
+  -- a look that is noted, or not
+  noted_known : (b : Bool) (x y : Name) (k : Marks) → c.rules.known x → AreKnown c k → IsIn (cond b k.looked (with_member k.looked x)) y ⊎ IsIn k.bound y → c.rules.known y
+  noted_known true x y k r h w = h y w
+  noted_known false x y k r h (inl i) = elim (name_before k.looked x y i) [ inl e ↦ subst c.rules.known (sym e) r | inr old ↦ h y (inl old) ]
+  noted_known false x y k r h (inr i) = h y (inr i)
+
+  bound_known : (x y : Name) (k : Marks) → c.rules.known x → AreKnown c k → IsIn k.looked y ⊎ IsIn (with_member k.bound x) y → c.rules.known y
+  bound_known x y k r h (inl i) = h y (inl i)
+  bound_known x y k r h (inr i) = elim (name_before k.bound x y i) [ inl e ↦ subst c.rules.known (sym e) r | inr old ↦ h y (inr old) ]
+
+  looked_alike : (x : Name) (m n : Machine) → c.rules.known x → Alike c m n → Alike c (marked (event.Look x) m) (marked (event.Look x) n)
+  looked_alike x m n r h = record {
     counts = record { steps = h.counts.steps; printed = h.counts.printed; meter = h.counts.meter; drawn = h.counts.drawn };
     marks = record {
       looked = ap₂ (λ s t. cond (has_member s x) t (with_member t x)) h.marks.bound h.marks.looked;
@@ -103,6 +114,7 @@ module _ (c : Setting) where
     names = h.names;
     heaps = h.heaps;
     may = h.may;
+    known = λ y w. noted_known (has_member m.marks.bound x) x y m.marks r h.known w;
     fit = h.fit;
   }
 
@@ -148,29 +160,29 @@ module _ (c : Setting) where
   slots_match x (Some f) None h = absurd h
   slots_match x None (Some g) h = absurd h
 
-  looked_ends : (x : Name) (o u : Option Slot) (m n : Machine) → Alike c m n → Locals o u → Stays c (looked x o m).1 → Ends c Values (looked x o m) (looked x u n)
-  looked_ends x (Some _) (Some _) m n h (held v w k) stay = record { alike = h; result = k }
-  looked_ends x (Some _) (Some _) m n h empty stay = record { alike = h; result = refl }
-  looked_ends x None None m n h k stay =
-      found_ends x _ _ _ _ (looked_alike x m n h) (may_look x m n h (subst (Stays c) (found_same x (finite.get m.state.globals x) (marked (event.Look x) m)) stay))
-  looked_ends x (Some o) None m n h k stay = absurd k
-  looked_ends x None (Some u) m n h k stay = absurd k
+  looked_ends : (x : Name) (o u : Option Slot) (m n : Machine) → c.rules.known x → Alike c m n → Locals o u → Stays c (looked x o m).1 → Ends c Values (looked x o m) (looked x u n)
+  looked_ends x (Some _) (Some _) m n r h (held v w k) stay = record { alike = h; result = k }
+  looked_ends x (Some _) (Some _) m n r h empty stay = record { alike = h; result = refl }
+  looked_ends x None None m n r h k stay =
+      found_ends x _ _ _ _ (looked_alike x m n r h) (may_look x m n h (subst (Stays c) (found_same x (finite.get m.state.globals x) (marked (event.Look x) m)) stay))
+  looked_ends x (Some o) None m n r h k stay = absurd k
+  looked_ends x None (Some u) m n r h k stay = absurd k
 
-  pub look_respects : (x : Name) → Respects c Values (look x) (look x)
+  pub look_respects : (x : Name) → c.rules.known x → Respects c Values (look x) (look x)
   unfolding runs.look
-  look_respects x = record { ends = λ draws m n h stay. looked_ends x _ _ m n h (slots_match x m.frame n.frame h.frame) stay }
+  look_respects x r = record { ends = λ draws m n h stay. looked_ends x _ _ m n r h (slots_match x m.frame n.frame h.frame) stay }
 
-  sought_ends : (x : Name) (o u : Option Slot) (m n : Machine) → Alike c m n → Locals o u → Stays c (sought x o m).1 → Ends c Any (sought x o m) (sought x u n)
-  sought_ends x (Some _) (Some _) m n h (held v w k) stay = plain m n h
-  sought_ends x (Some _) (Some _) m n h empty stay = record { alike = h; result = refl }
-  sought_ends x None None m n h k stay =
-      met_ends x _ _ _ _ (looked_alike x m n h) (may_look x m n h (subst (Stays c) (met_same x (finite.get m.state.globals x) (marked (event.Look x) m)) stay))
-  sought_ends x (Some o) None m n h k stay = absurd k
-  sought_ends x None (Some u) m n h k stay = absurd k
+  sought_ends : (x : Name) (o u : Option Slot) (m n : Machine) → c.rules.known x → Alike c m n → Locals o u → Stays c (sought x o m).1 → Ends c Any (sought x o m) (sought x u n)
+  sought_ends x (Some _) (Some _) m n r h (held v w k) stay = plain m n h
+  sought_ends x (Some _) (Some _) m n r h empty stay = record { alike = h; result = refl }
+  sought_ends x None None m n r h k stay =
+      met_ends x _ _ _ _ (looked_alike x m n r h) (may_look x m n h (subst (Stays c) (met_same x (finite.get m.state.globals x) (marked (event.Look x) m)) stay))
+  sought_ends x (Some o) None m n r h k stay = absurd k
+  sought_ends x None (Some u) m n r h k stay = absurd k
 
-  pub seek_respects : (x : Name) → Respects c Any (seek x) (seek x)
+  pub seek_respects : (x : Name) → c.rules.known x → Respects c Any (seek x) (seek x)
   unfolding runs.seek
-  seek_respects x = record { ends = λ draws m n h stay. sought_ends x _ _ m n h (slots_match x m.frame n.frame h.frame) stay }
+  seek_respects x r = record { ends = λ draws m n h stay. sought_ends x _ _ m n r h (slots_match x m.frame n.frame h.frame) stay }
 
   -- ---- names bound and unbound
 
@@ -206,6 +218,7 @@ module _ (c : Setting) where
     names = h.names;
     heaps = h.heaps;
     may = h.may;
+    known = h.known;
     fit = h.fit;
   }
 
@@ -226,7 +239,7 @@ module _ (c : Setting) where
     | inr other ↦ h x w (sym (unbound_other g name x other) ∙ e)
   ]
 
-  bound_alike : (x : Name) (v w : Value) (o u : Option Slot) (m n : Machine) → Values v w → c.rules.may x → Alike c m n → Locals o u → Alike c (runs.bound x v o m) (runs.bound x w u n)
+  bound_alike : (x : Name) (v w : Value) (o u : Option Slot) (m n : Machine) → Values v w → c.rules.may x × c.rules.known x → Alike c m n → Locals o u → Alike c (runs.bound x v o m) (runs.bound x w u n)
   bound_alike x v w (Some o) (Some u) m n k r h s = framed_alike m n _ _ h (with_slots_match x (Held v) (Held w) m.frame n.frame (held v w k) h.frame)
   bound_alike x v w None None m n k r h s = record {
     counts = record { steps = h.counts.steps; printed = h.counts.printed; meter = h.counts.meter; drawn = h.counts.drawn };
@@ -240,19 +253,20 @@ module _ (c : Setting) where
       ]
     ];
     heaps = h.heaps;
-    may = λ y d e. bound_may m.state.globals x y v d r h.may e;
+    may = λ y d e. bound_may m.state.globals x y v d r.0 h.may e;
+    known = λ y w. bound_known x y m.marks r.1 h.known w;
     fit = h.fit;
   }
   bound_alike x v w (Some o) None m n k r h s = absurd s
   bound_alike x v w None (Some u) m n k r h s = absurd s
 
-  pub bind_respects : (name : Name) (v w : Value) → Values v w → c.rules.may name → Respects c Any (bind name v) (bind name w)
+  pub bind_respects : (name : Name) (v w : Value) → Values v w → c.rules.may name × c.rules.known name → Respects c Any (bind name v) (bind name w)
   unfolding runs.bind
   bind_respects name v w k r = record { ends = λ draws m n h stay. plain _ _ (bound_alike name v w _ _ m n k r h (slots_match name m.frame n.frame h.frame)) }
 
-  unbound_alike : (x : Name) (o u : Option Slot) (m n : Machine) → Alike c m n → Locals o u → Alike c (runs.unbound x o m) (runs.unbound x u n)
-  unbound_alike x (Some o) (Some u) m n h s = framed_alike m n _ _ h (with_slots_match x Empty Empty m.frame n.frame empty h.frame)
-  unbound_alike x None None m n h s = record {
+  unbound_alike : (x : Name) (o u : Option Slot) (m n : Machine) → c.rules.known x → Alike c m n → Locals o u → Alike c (runs.unbound x o m) (runs.unbound x u n)
+  unbound_alike x (Some o) (Some u) m n r h s = framed_alike m n _ _ h (with_slots_match x Empty Empty m.frame n.frame empty h.frame)
+  unbound_alike x None None m n r h s = record {
     counts = record { steps = h.counts.steps; printed = h.counts.printed; meter = h.counts.meter; drawn = h.counts.drawn };
     marks = bound_marks x m.marks n.marks h.marks;
     frame = h.frame;
@@ -265,14 +279,15 @@ module _ (c : Setting) where
     ];
     heaps = h.heaps;
     may = λ y d e. unbound_may m.state.globals x y d h.may e;
+    known = λ y w. bound_known x y m.marks r h.known w;
     fit = h.fit;
   }
-  unbound_alike x (Some o) None m n h s = absurd s
-  unbound_alike x None (Some u) m n h s = absurd s
+  unbound_alike x (Some o) None m n r h s = absurd s
+  unbound_alike x None (Some u) m n r h s = absurd s
 
-  pub unbind_respects : (name : Name) → Respects c Any (unbind name) (unbind name)
+  pub unbind_respects : (name : Name) → c.rules.known name → Respects c Any (unbind name) (unbind name)
   unfolding runs.unbind
-  unbind_respects name = record { ends = λ draws m n h stay. plain _ _ (unbound_alike name _ _ m n h (slots_match name m.frame n.frame h.frame)) }
+  unbind_respects name r = record { ends = λ draws m n h stay. plain _ _ (unbound_alike name _ _ m n r h (slots_match name m.frame n.frame h.frame)) }
 
   same_slot : (o u : Option Slot) → Locals o u → is_some o ≡ is_some u
   same_slot (Some o) (Some u) h = refl
@@ -352,6 +367,7 @@ module _ (c : Setting) where
             names = h.names;
             heaps = record { objects = added_slots m n o u h k; added = h.heaps.added + 1; left_size = omega (arith, x, h.heaps.left_size); right_size = omega (arith, y, h.heaps.right_size) };
             may = h.may;
+            known = h.known;
             fit = added_fit m.state.heap o fit h.fit;
           };
           result = inr (h.heaps.added, omega (arith, x, z, h.heaps.left_size), h.heaps.left_size, h.heaps.right_size);
@@ -456,6 +472,7 @@ module _ (c : Setting) where
       right_size = length-set n.state.heap b u ∙ h.heaps.right_size;
     };
     may = h.may;
+    known = h.known;
     fit = set_fit m.state.heap a o f h.fit;
   }
   replaced_alike a b (Some o) None m n h p l l' k f = absurd k
@@ -483,6 +500,7 @@ module _ (c : Setting) where
     names = h.names;
     heaps = h.heaps;
     may = h.may;
+    known = h.known;
     fit = h.fit;
   }
 

@@ -27,3 +27,4 @@ pub mod Within
 pub mod Reporting
 pub mod Closing
 pub mod Validity
+pub mod Knowing

@@ -35,7 +35,7 @@ use Rattle.py_laws.proofs.Sparing.{Spared, spared}
 use Rattle.py_laws.proofs.Rules.{Rules}
 
 -- the names and pairs of the two states, how many objects each state has, the most objects that the runs may add, and what the first
--- run may bind, add and execute
+-- run may look up, bind, add, evaluate and execute
 pub record Setting : Type 1 where
   pub named : Name → Type 0
   pub base : ℕ → ℕ → Type 0
@@ -82,7 +82,7 @@ pub data ChangesMatch (ps : ℕ → ℕ → Type 0) : Change → Change → Type
 pub data IterationsMatch (ps : ℕ → ℕ → Type 0) : Iteration → Iteration → Type 0 where
   over_items : (a b next : ℕ) → ps a b → IterationsMatch ps (iteration.Items a next) (iteration.Items b next)
   over_keys : (a b next size : ℕ) → ps a b → IterationsMatch ps (iteration.Keys a next size) (iteration.Keys b next size)
-  over_characters : (text : List ℕ) (next : ℕ) → IterationsMatch ps (iteration.Characters text next) (iteration.Characters text next)
+  over_characters : (text : List ℕ) → IterationsMatch ps (iteration.Characters text) (iteration.Characters text)
   over_range : (next : Option ℤ) (stop by : ℤ) → IterationsMatch ps (iteration.Range next stop by) (iteration.Range next stop by)
 
 -- a method of a list or a dict matches by pairs
@@ -123,6 +123,10 @@ MayHold c names = (x : Name) (v : Value) → finite.get names x ≡ Some v → c
 abbrev pub AreFit : Setting → List Object → Type 0
 AreFit c heap = (a : ℕ) (o : Object) → slice_get heap a ≡ Some o → c.rules.fit o
 
+-- and each name that was looked up, bound or deleted may be
+abbrev pub AreKnown : Setting → Marks → Type 0
+AreKnown c k = (x : Name) → IsIn k.looked x ⊎ IsIn k.bound x → c.rules.known x
+
 pub record Alike (c : Setting) (m n : Machine) : Type 0 where
   pub counts : SameCounts m n
   pub marks : MarksMatch (Paired c) m.marks n.marks
@@ -130,6 +134,7 @@ pub record Alike (c : Setting) (m n : Machine) : Type 0 where
   pub names : NamesMatch c m.marks m.state n.state
   pub heaps : HeapsMatch c m.state.heap n.state.heap
   pub may : MayHold c m.state.globals
+  pub known : AreKnown c m.marks
   pub fit : AreFit c m.state.heap
 
 -- equal ends, or results that match

@@ -217,7 +217,7 @@ module _ (c : Setting) where
   same_text_units _ _ (equal v n) = refl
   same_text_units _ _ (refs a b p) = refl
 
-  pub store_respects : (name : Name) (v w : Value) → c.rules.may name → Values c v w → Respects c Any (store name v) (store name w)
+  pub store_respects : (name : Name) (v w : Value) → c.rules.may name × c.rules.known name → Values c v w → Respects c Any (store name v) (store name w)
   unfolding store
   store_respects name v w may h =
       next c (is_local_respects c name) λ b d e.
@@ -265,13 +265,13 @@ module _ (c : Setting) where
 
   -- ---- deletions and definitions
 
-  pub delete_respects : (name : Name) → Flows (delete name) (delete name)
+  pub delete_respects : (name : Name) → c.rules.known name → Flows (delete name) (delete name)
   unfolding delete
-  delete_respects name =
-      next c (next c (next c (step_respects c) λ _ _ _. seek_respects c name) λ _ _ _. unbind_respects c name) λ _ _ _.
+  delete_respects name known =
+      next c (next c (next c (step_respects c) λ _ _ _. seek_respects c name known) λ _ _ _. unbind_respects c name known) λ _ _ _.
       goes flow.Next flow.Next to_next
 
-  pub define_respects : (def : Def) → c.rules.may def.name × c.rules.fit (object.Function def) → Flows (define def) (define def)
+  pub define_respects : (def : Def) → (c.rules.may def.name × c.rules.known def.name) × c.rules.fit (object.Function def) → Flows (define def) (define def)
   unfolding define
   define_respects def may =
       next c (step_respects c) λ _ _ _.

@@ -6,7 +6,7 @@ use Rattle.std.proofs.lemmas.Option.{slice_get-get_or, slice_get_within, get_or_
 use Rattle.std.proofs.lemmas.List.Elements.{All-head, All-tail}
 use Rattle.nb_outside.specs.declared.feed.Drawn.{Drawn}
 use Rattle.py_names.specs.Names.{is_variable}
-use Rattle.py_tree.specs.declared.expressions.Expr.{Expr}
+use Rattle.py_tree.specs.declared.expressions.Expr.{Expr, out-Expr}
 use Rattle.py_tree.specs.declared.expressions.Target.{Target}
 use Rattle.py_tree.specs.declared.expressions.Target.TheVariants as target
 use Rattle.py_tree.specs.declared.statements.Arm.{Arm, out-Arm}
@@ -20,7 +20,7 @@ use Rattle.py_heap.specs.declared.heap.Object.{Object}
 use Rattle.py_heap.specs.declared.heap.Object.TheVariants as object
 use Rattle.py_heap.specs.declared.state.State.{State}
 use Rattle.py_heap.specs.Dicts.{Pairs, HasNoKeyTwice}
-use Rattle.py_heap.specs.Valid.{IsValidObjectBy, IsValidBy}
+use Rattle.py_heap.specs.Valid.{IsValidObject, IsValid}
 use Rattle.py_heap.proofs.Pairs.{with_pair_distinct, without_key_distinct}
 use Rattle.py_machine.specs.declared.frame.Change.{Change}
 use Rattle.py_machine.specs.declared.frame.Change.TheVariants as change
@@ -32,13 +32,13 @@ use Rattle.py_meaning.proofs.Growing.{Rises, rises}
 use Rattle.py_laws.specs.Same.{Every}
 use Rattle.py_laws.specs.Allowed.{MayBindAt, IsAllowedHere, ArmAny, DefAny, IsAllowed, AreAllowed}
 use Rattle.py_laws.proofs.Sameness.{Itself, same_by_itself}
-use Rattle.py_laws.proofs.Rules.{Rules, IfThere, BindsAt, Opens}
+use Rattle.py_laws.proofs.Rules.{Rules, IfThere, BindsAt, Opens, NameAny, ExprAny, any_if, any_looks, any_deleted}
 use Rattle.py_laws.proofs.Respecting.{Setting, Alike, Ends, Equal}
 use Rattle.py_laws.proofs.Constructs.{cell_respects}
 use Rattle.py_laws.proofs.Framing as framing
 use Rattle.py_laws.proofs.Closing.{closed_after}
 
-each : {A : Type 0} (P : A → Type 0) (xs : List A) → All P xs → AllByRecursion P xs
+pub each : {A : Type 0} (P : A → Type 0) (xs : List A) → All P xs → AllByRecursion P xs
 each P [] h = tt
 each P (x ∷ xs) h = (All-head P x xs h, each P xs (All-tail P x xs h))
 
@@ -46,21 +46,21 @@ nothing_twice : HasNoKeyTwice []
 unfolding IsDistinct
 nothing_twice = tt
 
-module _ (test : Def → Bool) where
+module _ (IsOfKind : Def → Type 0) where
   abbrev May : Name → Type 0
   May name = IsTrue (is_variable name)
 
   abbrev Fit : Object → Type 0
-  Fit = IsValidObjectBy test
+  Fit = IsValidObject IsOfKind
 
   abbrev Runs : Stmt → Type 0
-  Runs = every-Stmt (IsAllowedHere test) ArmAny DefAny
+  Runs = every-Stmt (IsAllowedHere IsOfKind) ArmAny DefAny
 
   abbrev RunsArm : Arm → Type 0
-  RunsArm = every-Arm (IsAllowedHere test) ArmAny DefAny
+  RunsArm = every-Arm (IsAllowedHere IsOfKind) ArmAny DefAny
 
   abbrev RunsDef : Def → Type 0
-  RunsDef = every-Def (IsAllowedHere test) ArmAny DefAny
+  RunsDef = every-Def (IsAllowedHere IsOfKind) ArmAny DefAny
 
   -- ---- what is inside a statement
 
@@ -79,40 +79,50 @@ module _ (test : Def → Bool) where
 
   arm_runs : (arm : Arm) → RunsArm arm → AllByRecursion Runs (out-Arm arm).body
   arm_runs arm h =
-      let w = every_held-Arm (IsAllowedHere test) ArmAny DefAny arm h in
+      let w = every_held-Arm (IsAllowedHere IsOfKind) ArmAny DefAny arm h in
       subst (λ (x : Arm-F Stmt Arm Def). AllByRecursion Runs x.body) w.1 (runs_each w.0.body)
 
-  arms_run : (xs : List ArmThatRuns) → AllByRecursion (λ arm. AllByRecursion Runs (out-Arm arm).body) (map (λ e. e.0) xs)
+  arms_run : (xs : List ArmThatRuns) → AllByRecursion (λ arm. ExprAny (out-Arm arm).test × AllByRecursion Runs (out-Arm arm).body) (map (λ e. e.0) xs)
   arms_run [] = tt
-  arms_run (x ∷ xs) = (arm_runs x.0 x.1, arms_run xs)
+  arms_run (x ∷ xs) = ((tt, arm_runs x.0 x.1), arms_run xs)
 
   abbrev plain : Stmt-F ThatRuns ArmThatRuns DefThatRuns → Stmt-F Stmt Arm Def
   plain = map-Stmt ThatRuns ArmThatRuns DefThatRuns Stmt Arm Def (λ e. e.0) (λ e. e.0) (λ e. e.0)
 
-  binds : (place : Target) → MayBindAt place → BindsAt May place
-  binds (target.Name name) h = h
-  binds (target.Item on at) h = tt
+  -- a name that may have a value; any name may be looked up and deleted
+  abbrev Binds : Name → Type 0
+  Binds name = May name × NameAny name
 
-  opens : (y : Stmt-F ThatRuns ArmThatRuns DefThatRuns) → IsAllowedHere test (plain y) → Opens May Fit Runs (plain y)
-  opens (Stmt-F.Assign place e) h = binds place h
-  opens (Stmt-F.Augment place o e) h = binds place h
+  binds : (place : Target) → MayBindAt place → BindsAt Binds ExprAny place
+  binds (target.Name name) h = (h, tt)
+  binds (target.Item on at) h = (tt, tt)
+
+  abbrev OpensHere : Stmt-F Stmt Arm Def → Type 0
+  OpensHere = Opens Binds NameAny Fit ExprAny Runs
+
+  opens : (y : Stmt-F ThatRuns ArmThatRuns DefThatRuns) → IsAllowedHere IsOfKind (plain y) → OpensHere (plain y)
+  opens (Stmt-F.Return e) h = any_if e
+  opens (Stmt-F.Delete place) h = any_deleted place
+  opens (Stmt-F.Assign place e) h = (binds place h, tt)
+  opens (Stmt-F.Augment place o e) h = (binds place h, tt)
+  opens (Stmt-F.Expression e) h = tt
   opens (Stmt-F.If arms other) h = (arms_run arms, runs_each other)
-  opens (Stmt-F.While condition body) h = runs_each body
-  opens (Stmt-F.For name source body) h = (h, runs_each body)
-  opens (Stmt-F.Function def) h = (h.0, h.1)
+  opens (Stmt-F.While condition body) h = (tt, runs_each body)
+  opens (Stmt-F.For name source body) h = ((h, tt), tt, runs_each body)
+  opens (Stmt-F.Function def) h = ((h.0, tt), h.1)
   opens _ h = tt
 
-  opened : (s : Stmt) → Runs s → Opens May Fit Runs (out-Stmt s)
+  opened : (s : Stmt) → Runs s → OpensHere (out-Stmt s)
   opened s h =
-      let w = every_held-Stmt (IsAllowedHere test) ArmAny DefAny s h in
-      let here : IsAllowedHere test (out-Stmt s) = every_here-Stmt (IsAllowedHere test) ArmAny DefAny s h in
-      subst (λ x. IsAllowedHere test x → Opens May Fit Runs x) w.1 (opens w.0) here
+      let w = every_held-Stmt (IsAllowedHere IsOfKind) ArmAny DefAny s h in
+      let here : IsAllowedHere IsOfKind (out-Stmt s) = every_here-Stmt (IsAllowedHere IsOfKind) ArmAny DefAny s h in
+      subst (λ x. IsAllowedHere IsOfKind x → OpensHere x) w.1 (opens w.0) here
 
   -- as of an assignment to a name that may be bound
-  assignment_allowed : (name : Name) (e : Expr) → May name → IsAllowed test (s.Assign (target.Name name) e)
+  assignment_allowed : (name : Name) (e : Expr) → May name → IsAllowed IsOfKind (s.Assign (target.Name name) e)
   assignment_allowed name e h =
-      subst (IsAllowed test) (s.rolls-Assign (target.Name name) e)
-      (every_made-Stmt (IsAllowedHere test) ArmAny DefAny (Stmt-F.Assign (target.Name name) e) (Stmt-F.Assign (target.Name name) e) refl h)
+      subst (IsAllowed IsOfKind) (s.rolls-Assign (target.Name name) e)
+      (every_made-Stmt (IsAllowedHere IsOfKind) ArmAny DefAny (Stmt-F.Assign (target.Name name) e) (Stmt-F.Assign (target.Name name) e) refl h)
 
   -- ---- objects
 
@@ -147,21 +157,24 @@ module _ (test : Def → Bool) where
 
   -- ---- the runs
 
-  module _ (bodies : (def : Def) → IsTrue (test def) → AreAllowed test def.body) where
+  module _ (bodies : (def : Def) → IsOfKind def → AreAllowed IsOfKind def.body) where
     abbrev rules : Rules
     rules = record {
       may = May;
+      known = NameAny;
       fit = Fit;
+      evals = ExprAny;
       runs = Runs;
       list_fit = λ items. tt;
       dict_fit = nothing_twice;
       handle_fit = λ name uses. tt;
       change_fit = stays_fit;
+      looks = λ e h. any_looks (out-Expr e);
       opens = opened;
       bodies = λ def h. each Runs def.body (bodies def h);
     }
 
-    module _ (body : List Stmt) (draws : List Drawn) (s : State) (allowed : AreAllowed test body) (v : IsValidBy test s) where
+    module _ (body : List Stmt) (draws : List Drawn) (s : State) (allowed : AreAllowed IsOfKind body) (v : IsValid IsOfKind s) where
       abbrev lawless : Setting
       lawless = framing.setting Every body draws s s refl (λ name l. tt) (Itself s v.closed) (same_by_itself s v.closed Every)
 
@@ -181,6 +194,7 @@ module _ (test : Def → Bool) where
             names = b.names;
             heaps = record { objects = b.heaps.objects; added = b.heaps.added; left_size = b.heaps.left_size; right_size = b.heaps.right_size };
             may = v.names;
+            known = λ x w. tt;
             fit = heap_fit;
           }
 
@@ -188,7 +202,7 @@ module _ (test : Def → Bool) where
       ended = (cell_respects ruled body (each Runs body allowed)).ends draws (start s) (start s) begins
           (record { looks = λ name l. tt; size = omega (arith, framing.grows Every body draws s s refl (λ name l. tt)) })
 
-      pub valid_after : IsValidBy test (end_state body s draws)
+      pub valid_after : IsValid IsOfKind (end_state body s draws)
       valid_after =
           let r : Rises (start s) (outcome body s draws).1 = rises (cell body) draws (start s) in
           record {

@@ -1,4 +1,4 @@
--- Statements that bind only names that a program may bind, and define only functions that pass a test.
+-- Statements that bind only names that a program may bind, and define only functions of a kind.
 use Rattle.std.specs.Prelude.{Bool, IsTrue, List, All}
 use Rattle.py_names.specs.Names.{is_variable}
 use Rattle.py_tree.specs.declared.expressions.Target.{Target}
@@ -14,13 +14,13 @@ abbrev pub MayBindAt : Target → Type 0
 MayBindAt (target.Name name) = IsTrue (is_variable name)
 MayBindAt (target.Item on at) = Unit {0}
 
--- a statement by itself: the name that it binds is one that a program may bind, and the function that it defines passes the test
-abbrev pub IsAllowedHere : (Def → Bool) → Stmt-F Stmt Arm Def → Type 0
-IsAllowedHere test (Stmt-F.Assign place e) = MayBindAt place
-IsAllowedHere test (Stmt-F.Augment place op e) = MayBindAt place
-IsAllowedHere test (Stmt-F.For name source body) = IsTrue (is_variable name)
-IsAllowedHere test (Stmt-F.Function def) = IsTrue (is_variable def.name) × IsTrue (test def)
-IsAllowedHere test _ = Unit {0}
+-- a statement by itself: the name that it binds is one that a program may bind, and the function that it defines is of the kind
+abbrev pub IsAllowedHere : (Def → Type 0) → Stmt-F Stmt Arm Def → Type 0
+IsAllowedHere IsOfKind (Stmt-F.Assign place e) = MayBindAt place
+IsAllowedHere IsOfKind (Stmt-F.Augment place op e) = MayBindAt place
+IsAllowedHere IsOfKind (Stmt-F.For name source body) = IsTrue (is_variable name)
+IsAllowedHere IsOfKind (Stmt-F.Function def) = IsTrue (is_variable def.name) × IsOfKind def
+IsAllowedHere IsOfKind _ = Unit {0}
 
 abbrev pub ArmAny : Arm-F Stmt Arm Def → Type 0
 ArmAny arm = Unit {0}
@@ -29,8 +29,12 @@ abbrev pub DefAny : Def-F Stmt Arm Def → Type 0
 DefAny def = Unit {0}
 
 -- it and each statement inside it, at any depth, those of functions too
-abbrev pub IsAllowed : (Def → Bool) → Stmt → Type 0
-IsAllowed test = every-Stmt (IsAllowedHere test) ArmAny DefAny
+abbrev pub IsAllowed : (Def → Type 0) → Stmt → Type 0
+IsAllowed IsOfKind = every-Stmt (IsAllowedHere IsOfKind) ArmAny DefAny
 
-abbrev pub AreAllowed : (Def → Bool) → List Stmt → Type 0
-AreAllowed test body = All (IsAllowed test) body
+abbrev pub AreAllowed : (Def → Type 0) → List Stmt → Type 0
+AreAllowed IsOfKind body = All (IsAllowed IsOfKind) body
+
+-- the same, where the kind is told by a test
+abbrev pub AreAllowedBy : (Def → Bool) → List Stmt → Type 0
+AreAllowedBy test = AreAllowed (λ def. IsTrue (test def))

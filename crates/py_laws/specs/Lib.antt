@@ -1,3 +1,4 @@
 pub mod Same
 pub mod Framed
 pub mod Allowed
+pub mod Mentioned

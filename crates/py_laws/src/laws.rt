@@ -1,4 +1,4 @@
-ghost use Rattle.std.specs.Prelude.{◌≡◌, ◌↔◌, ◌++◌, ℕ, Bool, true, Contains, IsTrue, List};
+ghost use Rattle.std.specs.Prelude.{◌≡◌, ◌↔◌, ◌⊎◌, ◌++◌, ℕ, Bool, true, Contains, IsTrue, List};
 ghost use Rattle.nb_outside.specs.declared.feed.Drawn.{Drawn};
 ghost use Rattle.py_tree.specs.declared.statements.Def.{Def};
 ghost use Rattle.py_tree.specs.declared.statements.Stmt.{Stmt};
@@ -11,7 +11,8 @@ ghost use Rattle.py_machine.specs.Runs.{Name};
 ghost use Rattle.py_meaning.specs.Cells.{outcome, traced, end_state, Asks};
 ghost use Rattle.py_laws.specs.Same.{Same, SameStates, SameWithin, IsListOf};
 ghost use Rattle.py_laws.specs.Framed.{Framed, FramedWithin, Agree, Renamed};
-ghost use Rattle.py_laws.specs.Allowed.{AreAllowed};
+ghost use Rattle.py_laws.specs.Allowed.{AreAllowedBy};
+ghost use Rattle.py_laws.specs.Mentioned.{names_in, AllPass, FunctionsPass};
 
 /// What a cell does depends on the names that it looks up, and on its draws, alone. From two states that are the same over
 /// these names, with equal meters and under the same draws, it does the same. In neither does it change a name that it doesn't
@@ -67,8 +68,18 @@ pub fn cells_keep_states_closed()
 /// statements bind is one that a program may bind, and each function that they define has such a name and passes the test, and
 /// where the body of each function that passes the test is such too.
 pub fn cells_keep_states_valid()
-    ensures { (test : Def → Bool) (body : List Stmt) (draws : List Drawn) (s : State) → AreAllowed test body
-        → ((def : Def) → IsTrue (test def) → AreAllowed test def.body) → IsValidBy test s → IsValidBy test (end_state body s draws) }
+    ensures { (test : Def → Bool) (body : List Stmt) (draws : List Drawn) (s : State) → AreAllowedBy test body
+        → ((def : Def) → IsTrue (test def) → AreAllowedBy test def.body) → IsValidBy test s → IsValidBy test (end_state body s draws) }
+{}
+
+/// A cell looks up, binds and deletes only names that stand in its statements or in the functions of its state: if these all pass
+/// a test, so do those. At its end the names in the functions of the state pass it too.
+pub fn cells_use_names_that_stand_in_trees()
+    ensures names { (test : Name → Bool) (body : List Stmt) (draws : List Drawn) (s : State) → IsClosed s → AllPass test (names_in body)
+        → FunctionsPass test s → (name : Name)
+        → IsIn (outcome body s draws).1.marks.looked name ⊎ IsIn (outcome body s draws).1.marks.bound name → IsTrue (test name) }
+    ensures functions { (test : Name → Bool) (body : List Stmt) (draws : List Drawn) (s : State) → IsClosed s
+        → AllPass test (names_in body) → FunctionsPass test s → FunctionsPass test (end_state body s draws) }
 {}
 
 /// What a machine has marked of a cell is the report of the cell's trace: the names looked up before they were bound or

@@ -10,6 +10,7 @@ mod laws;
 pub use laws::{
     a_state_is_the_same_as_itself, cells_depend_on_what_they_look_up, cells_keep_states_closed,
     cells_keep_states_valid, cells_pair_what_names_reach, cells_run_alike_in_same_states,
-    marks_report_the_trace, more_draws_change_nothing, sameness_goes_both_ways, sameness_goes_on,
-    sameness_is_of_what_is_reached, sameness_joins, what_names_reach_is_a_list,
+    cells_use_names_that_stand_in_trees, marks_report_the_trace, more_draws_change_nothing,
+    sameness_goes_both_ways, sameness_goes_on, sameness_is_of_what_is_reached, sameness_joins,
+    what_names_reach_is_a_list,
 };

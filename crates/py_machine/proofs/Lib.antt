@@ -1,3 +1,4 @@
 pub mod Sets
 pub mod Numbered
 pub mod Drawing
+pub mod Resting

@@ -4,3 +4,4 @@ pub mod Methods
 pub mod Marked
 pub mod Changes
 pub mod Runs
+pub mod Rests

@@ -1,4 +1,4 @@
-use plain_data::SharedText;
+use crate::text_rest::TextRest;
 
 /// What a `for` goes over, from where it has come to.
 #[derive(Drop)]
@@ -14,11 +14,8 @@ pub enum Iteration {
         next: usize,
         size: usize,
     },
-    /// The characters of a text, from a place on.
-    Characters {
-        text: SharedText,
-        next: usize,
-    },
+    /// The characters of what is left of a text.
+    Characters(TextRest),
     /// The numbers from `next` on by `step`, before `stop`. There is no next one past 128 bits.
     Range {
         next: Option<i128>,

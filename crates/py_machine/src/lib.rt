@@ -17,6 +17,7 @@ mod method;
 mod numbers;
 #[cfg(test)]
 mod tests;
+mod text_rest;
 mod type_errors;
 
 pub use builtins::builtin_named;
@@ -39,6 +40,7 @@ pub use method::{
     list_method_name, list_method_named, text_method_name, text_method_named,
 };
 pub use numbers::NumberSet;
+pub use text_rest::TextRest;
 pub use type_errors::{
     bad_operand, division_error, no_attribute, not_callable, not_in_text, not_ordered,
     not_searched, unhashable, unsupported_operands, wrong_argument, wrong_number,

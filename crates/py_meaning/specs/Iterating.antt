@@ -1,6 +1,5 @@
 -- What a `for` goes over, and what comes next. (Python reference: the `for` statement, ranges.)
-use Rattle.std.specs.Prelude.{ℕ, ◌+◌, ◌==◌, ℤ, pos, ◌+ℤ◌, Bool, true, false, cond, codes, List, [], ◌∷◌, length, slice_get, encode_utf8, int_lt, Option, Some, None}
-use Rattle.std.specs.Str.{chars}
+use Rattle.std.specs.Prelude.{ℕ, ◌+◌, ◌==◌, ℤ, pos, ◌+ℤ◌, Bool, true, false, cond, codes, List, [], ◌∷◌, length, slice_get, int_lt, Option, Some, None}
 use Rattle.py_value.specs.declared.key.Key.{Key}
 use Rattle.py_value.specs.declared.value.Value.{Value}
 use Rattle.py_value.specs.declared.value.Value.TheVariants as value
@@ -11,6 +10,7 @@ use Rattle.py_heap.specs.declared.heap.Object.TheVariants as object
 use Rattle.py_machine.specs.declared.iteration.Iteration.{Iteration}
 use Rattle.py_machine.specs.declared.iteration.Iteration.TheVariants as iteration
 use Rattle.py_machine.specs.Changes.{object_kind}
+use Rattle.py_machine.specs.Rests.{first_cut}
 use Rattle.py_machine.specs.Errors.{not_iterable, wrong_number, wrong_argument, zero_range_step, changed_size}
 use Rattle.py_meaning.specs.Acts.{Act, ◌>>=◌, pure, fail, object_at, kind_of, choose}
 use Rattle.py_meaning.specs.Numbers.{fits, as_number}
@@ -27,7 +27,7 @@ not_iterated held = kind_of held >>= (λ kind. fail (not_iterable kind))
 
 -- a list by its items, a dict by its keys, a text by its characters
 unfoldable pub iterated : Value → Act Iteration
-iterated (value.Text text) = pure (iteration.Characters text 0)
+iterated (value.Text text) = pure (iteration.Characters text)
 iterated (value.Ref at) = object_at at >>= object_iterated at
 iterated held = not_iterated held
 
@@ -66,12 +66,13 @@ next_key at next size (Some (object.Dict pairs)) =
     choose (length pairs == size) (pure (with_rest (key_in (slice_get pairs next)) (iteration.Keys at (next + 1) size))) (fail changed_size)
 next_key at next size other = pure None
 
-abbrev pub character_in : Option ℕ → Option Value
-character_in (Some c) = Some (value.Text (encode_utf8 c))
-character_in None = None
+abbrev pub first_in : Option (List ℕ × List ℕ) → Next
+first_in (Some cut) = Some (value.Text cut.0, iteration.Characters cut.1)
+first_in None = None
 
-abbrev pub next_character : List ℕ → ℕ → Next
-next_character text next = with_rest (character_in (slice_get (chars text) next)) (iteration.Characters text (next + 1))
+-- the first character of what is left of the text
+abbrev pub next_character : List ℕ → Next
+next_character text = first_in (first_cut text)
 
 -- the number comes before the stop, upwards or downwards
 abbrev pub is_before : ℤ → ℤ → ℤ → Bool
@@ -88,5 +89,5 @@ next_number (Some n) stop by = cond (is_before n stop by) (Some (value.Number n,
 unfoldable pub advance : Iteration → Act Next
 advance (iteration.Items at next) = object_at at >>= next_item at next
 advance (iteration.Keys at next size) = object_at at >>= next_key at next size
-advance (iteration.Characters text next) = pure (next_character text next)
+advance (iteration.Characters text) = pure (next_character text)
 advance (iteration.Range next stop by) = pure (next_number next stop by)

@@ -13,6 +13,6 @@ mod shown;
 
 pub use limited::Limited;
 pub use printed::{
-    charge_shown, print_line, repr_of, repr_value, result_text, str_value, write_to, written_of,
+    charge_shown, print_line, repr_of, repr_value, result_text, str_value, written_of,
 };
 pub use shown::{put_repr, put_written};

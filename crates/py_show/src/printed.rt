@@ -42,20 +42,6 @@ pub fn repr_of(
     Ok(out)
 }
 
-/// What `print` writes of a value (its `str`), put after an output.
-pub fn write_to(
-    alloc: Global,
-    left: u32,
-    machine: &mut Machine,
-    value: &Value,
-    out: &mut Limited,
-) -> Result<(), Fault>
-    ensures shows { PutsOn (run (meaning.written left value.now)) machine.old out.old result out.new machine.new }
-    ensures drawn { machine.new.drawn ≡ machine.old.drawn }
-{
-    put_written(alloc, left, &machine.state, &mut machine.steps, value, out)
-}
-
 /// What `print` writes of a value (its `str`), with `left` levels left.
 pub fn written_of(
     alloc: Global,

@@ -1,17 +1,25 @@
-//! What a node takes in of a stream doesn't depend on how its bytes were cut. Each law is the contract of a function that
-//! does nothing.
+//! Of every stream a node takes in one thing, however its bytes were cut. Each law is the contract of a function that does
+//! nothing.
 
-ghost use Rattle.std.specs.Prelude.{◌≡◌, ℕ, List, ◌++◌, ◌∷◌, []};
+ghost use Rattle.std.specs.Prelude.{◌≡◌, ◌<◌, ℕ, List, ◌++◌, ◌∷◌, []};
+ghost use Rattle.std.specs.List.{All};
 ghost use Rattle.jupyter_messages.specs.Reading.{message_in};
 ghost use Rattle.reply_frames.specs.Intake.{Node, IsIntake, with_frames, with_message};
 
-use jupyter_frames::laws::a_stream_has_one_cutting;
+use jupyter_frames::laws::{a_stream_has_one_cutting, every_stream_has_a_cutting};
 
 /// However a stream was cut into pieces, one thing is taken in of it.
 pub fn a_stream_has_one_intake()
     ensures { (hosts : ℕ) (bytes : List ℕ) (node other : Node) → IsIntake hosts bytes node → IsIntake hosts bytes other → node ≡ other }
 {
     a_stream_has_one_cutting();
+}
+
+/// Of every stream something is taken in, whatever its bytes.
+pub fn every_stream_has_an_intake()
+    ensures { (hosts : ℕ) (bytes : List ℕ) → All (λ b. b < 256) bytes → (node : Node) × IsIntake hosts bytes node }
+{
+    every_stream_has_a_cutting();
 }
 
 /// A frame may be taken in as soon as it is whole: what is taken in of frames and one more is that of the one, after the

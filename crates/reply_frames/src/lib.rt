@@ -19,6 +19,3 @@ mod replies;
 pub use journal::frames_of;
 pub use node::{About, NodeError, NodeErrorKind, node_error_frame};
 pub use outbox::Outbox;
-
-#[cfg(test)]
-mod tests;

@@ -11,7 +11,7 @@ use Rattle.graph_model.specs.declared.graph.Graph.{Graph}
 use Rattle.graph_model.specs.Graphs.{VersionAt}
 use Rattle.graph_model.specs.Faults.{IsNextWith, HasBadNames, HasBadWriter, IsTwoActive, HasBadRead, Never, IsGraph}
 use Rattle.graph_model.proofs.Lookups.{same_version}
-use Rattle.run_graph.specs.Parts.{HasValue, HasNone}
+use Rattle.linked_parts.specs.Parts.{HasValue, HasNone}
 use Rattle.run_graph.specs.Histories.{Run, Binds, HoldsAfter, Rewrites, IsHistory}
 use Rattle.run_graph.specs.Soundness.{IsRun, HasNames, AreTheParts}
 use Rattle.run_graph.proofs.Lists.{is_bound}

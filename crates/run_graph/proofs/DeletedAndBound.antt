@@ -20,7 +20,7 @@ use Rattle.graph_model.specs.declared.graph.Version.{Version}
 use Rattle.graph_model.specs.declared.graph.Graph.{Graph}
 use Rattle.graph_model.specs.Graphs.{CellAt, VersionAt}
 use Rattle.graph_model.proofs.Lookups.{version_within}
-use Rattle.run_graph.specs.Parts.{HasValue, HasNone, IsPart}
+use Rattle.linked_parts.specs.Parts.{HasValue, HasNone, IsPart}
 use Rattle.run_graph.specs.Histories.{Run, Binds, IsKept, IsDeleted, IsLeft, IsAVersion, IsWeighed, HoldsAfter, Rewrites, IsReplacedFirst, IsRead, IsMissed, IsRecord, IsHistory}
 use Rattle.run_graph.specs.Examples.{X, Y, Print, version, cell_of}
 use Rattle.run_graph.specs.Examples as example

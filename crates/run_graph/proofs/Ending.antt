@@ -5,7 +5,7 @@ use Rattle.py_laws.proofs.Partners.{one_in}
 use Rattle.graph_model.specs.declared.graph.Version.{Version}
 use Rattle.graph_model.specs.declared.graph.Graph.{Graph}
 use Rattle.graph_model.specs.Graphs.{IsActive}
-use Rattle.run_graph.specs.Parts.{HasNone}
+use Rattle.linked_parts.specs.Parts.{HasNone}
 use Rattle.run_graph.specs.Histories.{Run, HoldsAfter, IsHistory}
 use Rattle.run_graph.specs.Soundness.{IsRun, AreTheParts}
 use Rattle.run_graph.specs.Fitting.{Fits, TellsParts}

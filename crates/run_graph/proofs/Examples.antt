@@ -16,7 +16,7 @@ use Rattle.py_laws.proofs.Places.{bound_other}
 use Rattle.graph_model.specs.declared.graph.Version.{Version}
 use Rattle.graph_model.specs.declared.graph.Graph.{Graph}
 use Rattle.graph_model.specs.Graphs.{VersionAt}
-use Rattle.run_graph.specs.Parts.{HasValue, Reaches, Linked, itself, shared, back, on, IsPart}
+use Rattle.linked_parts.specs.Parts.{HasValue, Reaches, Linked, itself, shared, back, on, IsPart}
 use Rattle.run_graph.specs.Examples.{X, Y, Print, set_of}
 use Rattle.run_graph.proofs.Lists.{cons_cases}
 

@@ -8,7 +8,7 @@ use Rattle.py_heap.specs.Reaching.{Reach}
 use Rattle.py_machine.specs.Runs.{Name}
 use Rattle.py_laws.proofs.Partners.{one_in}
 use Rattle.py_laws.proofs.Reached.{reached_live}
-use Rattle.run_graph.specs.Parts.{Reaches}
+use Rattle.linked_parts.specs.Parts.{Reaches}
 use Rattle.run_graph.proofs.Reached.{reach_forth, reach_back}
 
 -- S is the state at the start, E that at the end, and Inside has the names looked up and those bound

@@ -12,11 +12,12 @@ use Rattle.graph_model.specs.declared.graph.Graph.{Graph}
 use Rattle.graph_model.specs.Graphs.{CellAt, VersionAt, IsActive}
 use Rattle.graph_model.specs.Faults.{TextBelow, Ascends, least_name, IsNextWith, HasBadNames, CellsAreBad, StandsOutOfOrder, HasBadWriter, IsTwoActive, RecordIsBad, HasBadRead, Never, IsGraph}
 use Rattle.graph_model.proofs.Lookups.{same_version, version_within}
-use Rattle.run_graph.specs.Parts.{HasValue, HasNone, IsPart}
+use Rattle.linked_parts.specs.Parts.{HasValue, HasNone, IsPart}
+use Rattle.linked_parts.proofs.Lists.{below_on, never_below_itself}
 use Rattle.run_graph.specs.Histories.{Run, Binds, IsKept, IsLeft}
 use Rattle.run_graph.specs.Growing.{Meets, IsNext}
 use Rattle.run_graph.specs.Fitting.{Fits, TellsParts, IsStep}
-use Rattle.run_graph.proofs.Lists.{alone, is_bound, below_on, never_below_itself, same_least}
+use Rattle.run_graph.proofs.Lists.{alone, is_bound, same_least}
 use Rattle.run_graph.proofs.Reached.{has_value, not_both}
 use Rattle.py_laws.specs.Same.{Same}
 use Rattle.py_laws.proofs.Reached.{reach_more}
@@ -377,7 +378,7 @@ module _ (r : Run) (c : ℕ) (g k : Graph) (next : IsNext r c g k) (good : IsGra
     | inr l ↦ absurd (good.writers v (y, at, inl (inr (inr (some, inl l)))))
   ]
 
-  -- a version by what replaced one stands behind it
+  -- a version by what replaced one stands after it
   behind : (v w : ℕ) (y z : Version) → VersionAt g v y → VersionAt g w z → y.replaced ≢ 0 → z.writer ≡ y.replaced → v < w
   behind v w y z at bt some e =
       let less = later_replaced v y at some in

@@ -14,7 +14,7 @@ use Rattle.graph_model.specs.declared.graph.Graph.{Graph}
 use Rattle.graph_model.specs.Graphs.{CellAt, VersionAt}
 use Rattle.graph_model.specs.Faults.{TextBelow, Ascends, ComesBefore, least_name}
 use Rattle.graph_model.proofs.Lookups.{version_within}
-use Rattle.run_graph.specs.Parts.{HasValue, IsPart}
+use Rattle.linked_parts.specs.Parts.{HasValue, IsPart}
 use Rattle.run_graph.specs.Histories.{Run, IsKept, IsWritten, IsDeleted, IsLeft, IsAVersion, IsWeighed, HoldsAfter, Rewrites, IsReplacedFirst, IsRead, IsMissed, IsUnwritten, IsRecordWith, IsRecord, IsHistory}
 use Rattle.run_graph.specs.Soundness.{IsRun}
 use Rattle.run_graph.proofs.Reached.{has_value}
@@ -22,7 +22,7 @@ use Rattle.run_graph.proofs.Weighing.{weighed_alike}
 use Rattle.run_graph.proofs.Checking.{named_bound}
 use Rattle.run_graph.specs.Growing.{first_cells, Meets, IsAged, IsNew, IsNext}
 
--- ---- lists behind one another
+-- ---- lists after one another
 
 module _ {X : Type 0} where
   pub get_cases : (xs ys : List X) (i : ℕ) (x : X) → slice_get (xs ++ ys) i ≡ Some x → (slice_get xs i ≡ Some x) ⊎ ((j : ℕ) × (i ≡ length xs + j) × (slice_get ys j ≡ Some x))

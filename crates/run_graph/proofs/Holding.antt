@@ -12,10 +12,11 @@ use Rattle.graph_model.specs.declared.graph.Graph.{Graph}
 use Rattle.graph_model.specs.Graphs.{VersionAt}
 use Rattle.graph_model.specs.Faults.{TextBelow, Ascends, ComesBefore, least_name}
 use Rattle.graph_model.proofs.Lookups.{version_within}
-use Rattle.run_graph.specs.Parts.{HasValue, HasNone, IsPart}
+use Rattle.linked_parts.specs.Parts.{HasValue, HasNone, IsPart}
+use Rattle.linked_parts.proofs.Lists.{below_on, never_below_itself}
 use Rattle.run_graph.specs.Histories.{Run, Binds, IsKept, IsWritten, IsDeleted, IsLeft, HoldsAfter, Rewrites, IsHistory}
 use Rattle.run_graph.specs.Soundness.{IsRun, AreTheParts}
-use Rattle.run_graph.proofs.Lists.{is_bound, below_on, never_below_itself, same_least}
+use Rattle.run_graph.proofs.Lists.{is_bound, same_least}
 use Rattle.run_graph.proofs.Reached.{has_value, not_both}
 use Rattle.run_graph.proofs.Kept.{in_part_value, same_part, part_again, value_before, spares_of, kept_not_written}
 

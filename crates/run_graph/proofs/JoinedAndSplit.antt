@@ -19,13 +19,14 @@ use Rattle.graph_model.specs.declared.graph.Version.{Version}
 use Rattle.graph_model.specs.declared.graph.Graph.{Graph}
 use Rattle.graph_model.specs.Graphs.{CellAt, VersionAt}
 use Rattle.graph_model.specs.Faults.{ComesBefore}
-use Rattle.run_graph.specs.Parts.{HasValue, HasNone, HasHandle, Reaches, shared, IsPart}
+use Rattle.linked_parts.specs.Parts.{HasValue, HasNone, Reaches, shared, IsPart}
+use Rattle.linked_parts.proofs.Names.{reaches_value, linked_values}
+use Rattle.run_graph.specs.Parts.{HasHandle}
 use Rattle.run_graph.specs.Histories.{Run, IsKept, IsDeleted, IsLeft, IsAVersion, IsWeighed, IsReplacedFirst, IsRead, IsRecord, IsHistory}
 use Rattle.run_graph.specs.Examples.{X, Y, version, cell_of}
 use Rattle.run_graph.specs.Examples as example
 use Rattle.run_graph.proofs.Lists.{cons_cases}
-use Rattle.run_graph.proofs.Reached.{reaches_value, not_both}
-use Rattle.run_graph.proofs.Kept.{linked_values}
+use Rattle.run_graph.proofs.Reached.{not_both}
 use Rattle.run_graph.proofs.Examples.{to_set, of_one, of_none, x_not_y, insert_value, empty_value, one_part, each}
 
 abbrev s1 : State

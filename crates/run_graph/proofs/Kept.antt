@@ -6,18 +6,13 @@ use Rattle.py_heap.specs.declared.state.State.{State}
 use Rattle.py_heap.specs.Reaching.{Reach}
 use Rattle.py_machine.specs.Runs.{Name}
 use Rattle.py_laws.proofs.Reached.{reach_more, reached_live}
-use Rattle.run_graph.specs.Parts.{HasValue, Linked, itself, shared, back, on, IsPart, Apart}
+use Rattle.linked_parts.specs.Parts.{HasValue, shared, IsPart, Apart}
+use Rattle.linked_parts.proofs.Names.{linked_values}
 use Rattle.run_graph.specs.Histories.{Run, IsKept, IsWritten}
 use Rattle.run_graph.specs.Soundness.{IsRun, Spares}
-use Rattle.run_graph.proofs.Reached.{reach_from_one, reaches_value, reach_forth, reach_back}
+use Rattle.run_graph.proofs.Reached.{reach_from_one, reach_forth, reach_back}
 
--- ---- a name that is linked has a value
-
-pub linked_values : (s : State) (x y : Name) → Linked s x y → HasValue s x × HasValue s y
-linked_values s _ _ (itself x v) = (v, v)
-linked_values s _ _ (shared x y at p q) = (reaches_value s x at p, reaches_value s y at q)
-linked_values s _ _ (back x y l) = let w = linked_values s x y l in (w.1, w.0)
-linked_values s _ _ (on x y z l m) = ((linked_values s x y l).0, (linked_values s y z m).1)
+-- ---- a name in a part has a value
 
 pub in_part_value : (s : State) (names : List Name) → IsPart s names → (x : Name) → Contains names x → HasValue s x
 in_part_value s names p x c = (linked_values s x x ((p.linked x x c).0 c)).0

@@ -3,13 +3,13 @@ use Rattle.std.proofs.Common.{◌≡◌, ℕ, zero, suc, ◌<◌, ◌≤◌, Boo
 use Rattle.std.specs.Prelude.{Contains}
 use Rattle.std.specs.declared.cmp.Ordering.{Ordering}
 use Rattle.std.specs.List.{flat_map}
-use Rattle.std.specs.Cmp.Lexicographic.{nat_list_cmp_total}
 use Rattle.std.proofs.lemmas.List.Elements.{Contains-append_left, Contains-append_right, Contains-append_cases}
 use Rattle.py_machine.specs.Marked.{SetOf, has_member, IsIn}
 use Rattle.py_machine.specs.Runs.{Name}
 use Rattle.py_laws.proofs.Members.{name_cases}
 use Rattle.py_laws.proofs.Partners.{none_in, one_in, first_in, later_in}
 use Rattle.graph_model.specs.Faults.{TextBelow, Ascends, least_name}
+use Rattle.linked_parts.proofs.Lists.{below_on, never_below_itself, least_in, least_there}
 use Rattle.run_graph.specs.Histories.{Run, Binds}
 
 -- ---- what a list has
@@ -62,27 +62,6 @@ pub is_bound : (r : Run) (c : ℕ) (x : Name) → Binds r c x ⊎ (¬ Binds r c 
 is_bound r c x = by_member (r.marks (suc c)).bound x (has_member (r.marks (suc c)).bound x) refl
 
 -- ---- the order of names
-
-pub below_on : (x y z : Name) → TextBelow x y → TextBelow y z → TextBelow x z
-below_on x y z h k = nat_list_cmp_total.trans x y z h k
-
-pub never_below_itself : (x : Name) → ¬ TextBelow x x
-never_below_itself x h = let e = nat_list_cmp_total.antisymm x x in grind (arith, h, e)
-
-pub least_in : (xs : List Name) (x : Name) → Ascends TextBelow xs → Contains xs x → (least_name xs ≡ x) ⊎ TextBelow (least_name xs) x
-least_in [] x a h = absurd (none_in x h)
-least_in (y ∷ []) x a h = inl (one_in y x h)
-least_in (y ∷ z ∷ more) x a h = elim (cons_cases y (z ∷ more) x h) [
-  | inl e ↦ inl e
-  | inr k ↦ elim (least_in (z ∷ more) x a.1 k) [
-    | inl e ↦ inr (subst (λ w. TextBelow y w) e a.0)
-    | inr b ↦ inr (below_on y z x a.0 b)
-  ]
-]
-
-pub least_there : (xs : List Name) (x : Name) → Contains xs x → Contains xs (least_name xs)
-least_there [] x h = absurd (none_in x h)
-least_there (y ∷ ys) x h = first_in y ys
 
 pub same_least : (xs ys : List Name) → Ascends TextBelow xs → Ascends TextBelow ys → (x : Name) → Contains xs x
     → ((z : Name) → Contains xs z → Contains ys z) → ((z : Name) → Contains ys z → Contains xs z) → least_name xs ≡ least_name ys

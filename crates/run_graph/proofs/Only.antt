@@ -11,9 +11,10 @@ use Rattle.graph_model.specs.declared.graph.Graph.{Graph}
 use Rattle.graph_model.specs.Graphs.{VersionAt}
 use Rattle.graph_model.specs.Faults.{TextBelow, Ascends, ComesBefore, least_name}
 use Rattle.graph_model.proofs.Walking.{first_unique}
+use Rattle.linked_parts.proofs.Lists.{below_on, never_below_itself}
 use Rattle.run_graph.specs.Parts.{HasHandle}
 use Rattle.run_graph.specs.Histories.{Run, IsAVersion, Rewrites, IsRead, IsRecord, IsHistory}
-use Rattle.run_graph.proofs.Lists.{cons_cases, below_on, never_below_itself}
+use Rattle.run_graph.proofs.Lists.{cons_cases}
 use Rattle.run_graph.proofs.Weighing.{same_truth}
 use Rattle.run_graph.proofs.Kept.{in_part_value, same_part, kept_not_written}
 use Rattle.run_graph.proofs.Growing.{in_of_get, get_of_in}

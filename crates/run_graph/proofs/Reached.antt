@@ -1,4 +1,4 @@
--- What names reach: each from one of them, nothing from a name without a value, and in another state.
+-- What names reach: each from one of them, and in another state.
 use Rattle.std.proofs.Common.{◌≡◌, ℕ, List, [], ◌∷◌, Option, Some, None, refl, sym, ◌∙◌, ◌⊎◌, inl, inr, subst}
 use Rattle.std.specs.Prelude.{Contains, slice_get}
 use Rattle.std.specs.FinMap as finite
@@ -9,9 +9,9 @@ use Rattle.py_heap.specs.References.{value_refs, object_refs}
 use Rattle.py_heap.specs.Reaching.{held_refs, Reach}
 use Rattle.py_heap.specs.Reaching as reaching
 use Rattle.py_machine.specs.Runs.{Name}
-use Rattle.py_laws.proofs.Partners.{none_in, one_in, first_in}
+use Rattle.py_laws.proofs.Partners.{one_in, first_in}
 use Rattle.py_laws.proofs.Reached.{reach_more}
-use Rattle.run_graph.specs.Parts.{HasValue, HasNone, Reaches}
+use Rattle.linked_parts.specs.Parts.{HasValue, HasNone, Reaches}
 
 -- ---- from one
 
@@ -24,15 +24,7 @@ reach_from_one s names n (reaching.held from at r c) =
 pub reach_by_one : (s : State) (names : List Name) (x : Name) (at : ℕ) → Contains names x → Reaches s x at → Reach s names at
 reach_by_one s names x at c r = reach_more s (x ∷ []) names (λ y h. subst (λ z. Contains names z) (one_in x y h) c) at r
 
--- ---- a name with no value reaches nothing, and one that reaches has a value
-
-pub no_refs : (o : Option Value) → o ≡ None → (at : ℕ) → ¬ Contains (held_refs value_refs o) at
-no_refs None e at h = none_in at h
-no_refs (Some v) e at h = none-some v (sym e)
-
-pub none_reaches : (s : State) (x : Name) → HasNone s x → (at : ℕ) → ¬ Reaches s x at
-none_reaches s x e n (reaching.named y at c r) = no_refs (finite.get s.globals y) (subst (λ z. HasNone s z) (one_in x y c) e) at r
-none_reaches s x e n (reaching.held from at r c) = none_reaches s x e from r
+-- ---- a name has a value or none
 
 value_cases : (o : Option Value) → ((held : Value) × (o ≡ Some held)) ⊎ (o ≡ None)
 value_cases (Some v) = inl (v, refl)
@@ -40,9 +32,6 @@ value_cases None = inr refl
 
 pub has_value : (s : State) (x : Name) → HasValue s x ⊎ HasNone s x
 has_value s x = value_cases (finite.get s.globals x)
-
-pub reaches_value : (s : State) (x : Name) (at : ℕ) → Reaches s x at → HasValue s x
-reaches_value s x at r = elim (has_value s x) [ inl v ↦ v | inr none ↦ absurd (none_reaches s x none at r) ]
 
 pub not_both : (s : State) (x : Name) → HasValue s x → ¬ HasNone s x
 not_both s x v none = none-some v.0 (sym none ∙ v.1)

@@ -29,11 +29,12 @@ use Rattle.graph_model.specs.declared.graph.Graph.{Graph}
 use Rattle.graph_model.specs.Graphs.{VersionAt}
 use Rattle.graph_model.specs.Faults.{Ascends}
 use Rattle.graph_model.proofs.Lookups.{same_version}
-use Rattle.run_graph.specs.Parts.{HasValue, HasNone, Reaches, Linked, itself, shared, back, on, IsPart, Apart}
+use Rattle.linked_parts.specs.Parts.{HasValue, HasNone, Reaches, Linked, itself, shared, back, on, IsPart, Apart}
+use Rattle.linked_parts.proofs.Names.{none_reaches}
 use Rattle.run_graph.specs.Histories.{Run, Looks, Binds, Changes, IsKept, IsWritten, HoldsAfter, IsRecord, IsHistory}
 use Rattle.run_graph.specs.Soundness.{IsRun, Reader, statements, done_by, begun, done, Follows, AreTheParts, StandsIn, HasItsReads, IsElsewhere, Repeats, RepeatsFromItsReads}
 use Rattle.run_graph.proofs.Lists.{alone, cons_cases, in_flat, from_flat, has_name, is_bound}
-use Rattle.run_graph.proofs.Reached.{reach_from_one, reach_by_one, none_reaches, has_value, not_both}
+use Rattle.run_graph.proofs.Reached.{reach_from_one, reach_by_one, has_value, not_both}
 use Rattle.run_graph.proofs.Kept.{in_part_value, part_apart, kept_not_written}
 use Rattle.run_graph.proofs.Holding.{left_cases, the_parts}
 use Rattle.run_graph.proofs.Checking.{value_bound}

@@ -43,7 +43,7 @@ module _ (read : Reader) (entries : List Entry) where
     before : (c : ℕ) → suc c - 1 ≡ c
     before c = omega arith
 
-    -- what the cell behind cell c did, told by the entry behind the first n
+    -- what the cell after cell c did, told by the entry after the first n
     abbrev told_by : ℕ → ℕ → Type 0
     told_by c n = (state_after read entries (suc c) ≡ (done_by read (entry entries n).code (record (state_after read entries c) { count = (raised (entry entries n) (state_after read entries n)).count }) (entry entries n).draws).1.state)
         × (marks_of read entries (suc c) ≡ (done_by read (entry entries n).code (record (state_after read entries c) { count = (raised (entry entries n) (state_after read entries n)).count }) (entry entries n).draws).1.marks)

@@ -14,7 +14,7 @@ use Rattle.py_laws.proofs.Sameness.{same_itself, same_through}
 use Rattle.py_laws.proofs.Joining.{reached_only}
 use Rattle.graph_model.specs.declared.graph.Version.{Version}
 use Rattle.graph_model.specs.declared.graph.Graph.{Graph}
-use Rattle.run_graph.specs.Parts.{HasNone}
+use Rattle.linked_parts.specs.Parts.{HasNone}
 use Rattle.run_graph.specs.Histories.{Run, IsKept, HoldsAfter, IsHistory}
 use Rattle.run_graph.specs.Soundness.{IsRun, Spares, StandsAsWritten}
 use Rattle.run_graph.proofs.Kept.{spares_of, kept_value, kept_object, kept_forth}

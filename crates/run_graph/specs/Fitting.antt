@@ -6,7 +6,7 @@ use Rattle.graph_model.specs.declared.graph.Version.{Version}
 use Rattle.graph_model.specs.declared.graph.Graph.{Graph}
 use Rattle.graph_model.specs.Graphs.{IsActive}
 use Rattle.py_laws.specs.Same.{Same}
-use Rattle.run_graph.specs.Parts.{HasValue, HasNone, IsPart}
+use Rattle.linked_parts.specs.Parts.{HasValue, HasNone, IsPart}
 use Rattle.run_graph.specs.Histories.{Run, Looks, Binds, IsWeighed}
 use Rattle.run_graph.specs.Soundness.{Spares}
 
@@ -22,7 +22,7 @@ pub record Fits (r : Run) (c : ℕ) (g : Graph) : Type 0 where
 pub record TellsParts (r : Run) : Type 0 where
   pub alike : (c d : ℕ) (names : List Name) → Same (Contains names) (r.state c) (r.state d) → r.size c names ≡ r.size d names
 
--- what the meaning gives of the one cell behind cell c
+-- what the meaning gives of the one cell after cell c
 pub record IsStep (r : Run) (c : ℕ) : Type 0 where
   pub spares : Spares r c
   pub bound : (x : Name) → Binds r c x → is_variable x ≡ true

@@ -6,7 +6,7 @@ use Rattle.graph_model.specs.declared.graph.CellRecord.{CellRecord}
 use Rattle.graph_model.specs.declared.graph.Version.{Version}
 use Rattle.graph_model.specs.declared.graph.Graph.{Graph}
 use Rattle.graph_model.specs.Faults.{TextBelow, Ascends, least_name}
-use Rattle.run_graph.specs.Parts.{HasValue, IsPart}
+use Rattle.linked_parts.specs.Parts.{HasValue, IsPart}
 use Rattle.run_graph.specs.Histories.{Run, IsKept, IsDeleted, IsLeft, IsWeighed, IsUnwritten, IsRecordWith}
 
 -- the run of the first cells alone
@@ -32,13 +32,13 @@ pub record IsAged (w : ℕ) (news : List Version) (x y : Version) : Type 0 where
 abbrev pub IsNew : List Version → List Name → Bool → Type 0
 IsNew news names absent = (x : Version) × Contains news x × (x.names ≡ names) × (x.absent ≡ absent)
 
--- k is what the cell behind cell c makes of g
+-- k is what the cell after cell c makes of g
 pub record IsNext (r : Run) (c : ℕ) (g k : Graph) : Type 0 where
   -- one record more; what it misses is told by the graph alone
   pub cell : CellRecord
   pub cells : k.cells ≡ g.cells ++ cell ∷ []
   pub is_record : IsRecordWith (IsUnwritten r g c) r g c cell
-  -- the versions that it wrote behind the older ones
+  -- the versions that it wrote after the older ones
   pub olds : List Version
   pub news : List Version
   pub versions : k.versions ≡ olds ++ news

@@ -13,7 +13,8 @@ use Rattle.graph_model.specs.declared.graph.Version.{Version}
 use Rattle.graph_model.specs.declared.graph.Graph.{Graph}
 use Rattle.graph_model.specs.Graphs.{CellAt, VersionAt}
 use Rattle.graph_model.specs.Faults.{TextBelow, Ascends, ComesBefore, Never}
-use Rattle.run_graph.specs.Parts.{HasValue, HasNone, IsPart, HasHandle}
+use Rattle.linked_parts.specs.Parts.{HasValue, HasNone, IsPart}
+use Rattle.run_graph.specs.Parts.{HasHandle}
 
 -- a run of cells, numbered from 1: the state after each, which after none is the state that it began with, and what each did
 pub record Run : Type 0 where
@@ -30,7 +31,7 @@ pub record Run : Type 0 where
   -- after the cell, the length of the text of the part with these names, or 0
   pub size : ℕ → List Name → ℕ
 
--- ---- what a cell did. Each of these speaks of the cell behind cell c, so c is also the number of cells before it
+-- ---- what a cell did. Each of these speaks of the cell after cell c, so c is also the number of cells before it
 
 -- it looked the name up, found or not, before it bound or deleted it
 abbrev pub Looks : Run → ℕ → Name → Type 0
@@ -85,7 +86,7 @@ pub record HoldsAfter (g : Graph) (c v : ℕ) (x : Version) : Type 0 where
   pub written : x.writer ≤ c
   pub stands : (x.replaced ≡ 0) ⊎ (c < x.replaced)
 
--- a cell behind the writer of x, of number w, wrote a version of one of its names
+-- a cell after the writer of x, of number w, wrote a version of one of its names
 abbrev pub Rewrites : Graph → Version → ℕ → Type 0
 Rewrites g x w = (x.writer < w) × (u : ℕ) × (y : Version) × (name : Name) × VersionAt g u y × (y.writer ≡ w) × Contains x.names name × Contains y.names name
 
@@ -95,7 +96,7 @@ IsReplacedFirst g x = ((x.replaced ≡ 0) × Never (Rewrites g x)) ⊎ IsFirst (
 
 -- ---- what a cell reads and misses
 
--- the cell behind cell c read version v, which held as it began: it looked one of its names up, or it bound one of them and
+-- the cell after cell c read version v, which held as it began: it looked one of its names up, or it bound one of them and
 -- the version has two or more
 abbrev pub IsRead : Run → Graph → ℕ → ℕ → Type 0
 IsRead r g c v = (x : Version) × HoldsAfter g c v x × (name : Name) × Contains x.names name
@@ -109,7 +110,7 @@ IsMissed r c name = Looks r c name × ((e : ℕ) → e < c → ¬ Binds r e name
 abbrev pub IsUnwritten : Run → Graph → ℕ → Name → Type 0
 IsUnwritten r g c name = Looks r c name × ((v : ℕ) (y : Version) → VersionAt g v y → ¬ Contains y.names name)
 
--- the record of the cell behind cell c, where these names are the missed ones
+-- the record of the cell after cell c, where these names are the missed ones
 pub record IsRecordWith (Missed : Name → Type 0) (r : Run) (g : Graph) (c : ℕ) (x : CellRecord) : Type 0 where
   pub code : x.code ≡ r.code (suc c)
   pub meter : x.meter ≡ (r.state c).meter

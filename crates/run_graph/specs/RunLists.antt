@@ -16,11 +16,11 @@ pub record Entry : Type 0 where
   pub draws : List Drawn
   pub counted : Bool
 
--- what stands behind the last
+-- what stands after the last
 abbrev pub blank : Entry
 blank = record { code = []; draws = []; counted = false }
 
--- the entry behind the first c
+-- the entry after the first c
 abbrev pub entry : List Entry → ℕ → Entry
 entry entries c = get_or entries c blank
 

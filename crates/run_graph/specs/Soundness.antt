@@ -13,7 +13,7 @@ use Rattle.graph_model.specs.declared.graph.CellRecord.{CellRecord}
 use Rattle.graph_model.specs.declared.graph.Version.{Version}
 use Rattle.graph_model.specs.declared.graph.Graph.{Graph}
 use Rattle.graph_model.specs.Graphs.{CellAt, VersionAt}
-use Rattle.run_graph.specs.Parts.{HasValue, HasNone, Reaches, IsPart, Apart}
+use Rattle.linked_parts.specs.Parts.{HasValue, HasNone, Reaches, IsPart, Apart}
 use Rattle.run_graph.specs.Histories.{Run, Looks, Binds, Changes, HoldsAfter}
 
 -- ---- what every run keeps, by the meaning of a cell
@@ -26,7 +26,7 @@ pub record IsRun (r : Run) : Type 0 where
   pub values : (c : ℕ) (x : Name) → ¬ Binds r c x → finite.get (r.state (suc c)).globals x ≡ finite.get (r.state c).globals x
   pub objects : (c at : ℕ) → at < length (r.state c).heap → ¬ Changes r c at → slice_get (r.state (suc c)).heap at ≡ slice_get (r.state c).heap at
 
--- the same of the one cell behind cell c
+-- the same of the one cell after cell c
 pub record Spares (r : Run) (c : ℕ) : Type 0 where
   pub closed : IsClosed (r.state c)
   pub values : (x : Name) → ¬ Binds r c x → finite.get (r.state (suc c)).globals x ≡ finite.get (r.state c).globals x
@@ -52,11 +52,11 @@ statements (Some body) = body
 abbrev pub done_by : Reader → List ℕ → State → List Drawn → Outcome (Option (List ℕ))
 done_by read code s draws = outcome (statements (read code)) s draws
 
--- the state in which the cell behind cell c began: that after cell c, but for the session's count
+-- the state in which the cell after cell c began: that after cell c, but for the session's count
 abbrev pub begun : Run → ℕ → State
 begun r c = record (r.state c) { count = r.counts (suc c) }
 
--- what the cell behind cell c did
+-- what the cell after cell c did
 abbrev pub done : Reader → Run → ℕ → Outcome (Option (List ℕ))
 done read r c = done_by read (r.code (suc c)) (begun r c) (r.draws (suc c))
 
@@ -92,18 +92,18 @@ StandsAsWritten r g c = (v : ℕ) (x : Version) → HoldsAfter g c v x → Same 
 abbrev pub StandsIn : State → State → List Name → Type 0
 StandsIn s t names = Same (Contains names) s t × Apart t names
 
--- t has what the cell behind cell c needs: its meter, the versions that it read, and no value for what it missed
+-- t has what the cell after cell c needs: its meter, the versions that it read, and no value for what it missed
 pub record HasItsReads (r : Run) (g : Graph) (c : ℕ) (x : CellRecord) (t : State) : Type 0 where
   pub closed : IsClosed t
   pub meter : t.meter ≡ x.meter
   pub reads : (v : ℕ) (y : Version) → Contains x.reads v → VersionAt g v y → StandsIn (r.state c) t y.names
   pub missing : (name : Name) → Contains x.missing name → HasNone t name
 
--- the name is in no version that the cell behind cell c read or wrote
+-- the name is in no version that the cell after cell c read or wrote
 abbrev pub IsElsewhere : Graph → ℕ → CellRecord → Name → Type 0
 IsElsewhere g c x name = (v : ℕ) (y : Version) → VersionAt g v y → Contains x.reads v ⊎ (y.writer ≡ suc c) → ¬ Contains y.names name
 
--- o is what the cell behind cell c did in the run, and u what it does from t
+-- o is what the cell after cell c did in the run, and u what it does from t
 pub record Repeats (r : Run) (g : Graph) (c : ℕ) (x : CellRecord) (t : State) (o u : Outcome (Option (List ℕ))) : Type 0 where
   pub ends : Asks u → ⊥
   pub result : o.0 ≡ u.0

@@ -3,10 +3,14 @@ ghost use Rattle.graph_model.specs.declared.graph.Graph.{Graph};
 ghost use Rattle.graph_model.specs.declared.graph.CellRecord.{CellRecord};
 ghost use Rattle.graph_model.specs.Faults.{IsGraph};
 ghost use Rattle.graph_model.specs.Graphs.{CellAt};
+ghost use Rattle.py_tree.specs.declared.statements.Stmt.{Stmt};
 ghost use Rattle.py_heap.specs.declared.state.State.{State};
+ghost use Rattle.py_heap.specs.References.{IsClosed};
 ghost use Rattle.nb_outside.specs.declared.feed.Drawn.{Drawn};
 ghost use Rattle.py_machine.specs.Runs.{Name, start};
+ghost use Rattle.py_meaning.specs.Cells.{outcome, end_state};
 ghost use Rattle.py_laws.specs.Same.{Same};
+ghost use Rattle.linked_parts.specs.After.{IsAfter};
 ghost use Rattle.run_graph.specs.Parts.{HasHandle};
 ghost use Rattle.run_graph.specs.Histories.{Run, IsHistory};
 ghost use Rattle.run_graph.specs.Soundness.{Reader, done_by, IsRun, HasNames, Follows, AreTheParts, StandsAsWritten, RepeatsFromItsReads, HasItsReads, IsSound};
@@ -99,6 +103,14 @@ pub fn a_history_fits_the_last_state()
 /// In states that are the same over some names these reach a handle in both or in neither.
 pub fn sameness_keeps_handles()
     ensures { (names : List Name) (s t : State) → Same (Contains names) s t → HasHandle s names ↔ HasHandle t names }
+{}
+
+/// From a closed state every cell ends in one that its marks tell of, whatever its body and under all draws. A name that isn't
+/// marked as bound has its value still, and an old object that isn't marked as changed is as it was. What was changed, and
+/// what the names looked up or bound reach at the end, was reached from the names looked up, or is new.
+pub fn marks_tell_what_a_cell_leaves()
+    ensures { (body : List Stmt) (s : State) (draws : List Drawn) → IsClosed s
+        → IsAfter s (outcome body s draws).1.marks (end_state body s draws) }
 {}
 
 /// The histories of two small runs: `x = [1]`, `y = x` and `y = 5`, where a part joins and splits; and `x = 1`, `del x`,

@@ -11,6 +11,6 @@ pub use laws::{
     a_cell_has_its_reads, a_cell_repeats_from_its_reads, a_code_without_a_tree_does_nothing,
     a_graph_that_fits_grows_to_one, a_history_fits_the_last_state, a_history_passes_the_check,
     a_run_has_one_history, a_run_list_is_a_run, histories_are_sound, histories_grow,
-    sameness_keeps_handles, two_small_histories, versions_stand_as_written,
-    what_holds_is_the_parts,
+    marks_tell_what_a_cell_leaves, sameness_keeps_handles, two_small_histories,
+    versions_stand_as_written, what_holds_is_the_parts,
 };

@@ -1,4 +1,5 @@
-//! The least engine: a counter whose every ask adds one, which dies at 4, and which a restart sets back.
+//! The least engine: a counter whose every ask adds one, which dies at 4, which a restart sets back, and for which host 2 has no
+//! memory at 3.
 
 ghost use Rattle.std.specs.Prelude.{◌≡◌, ◌+◌, ◌<◌, IfOk, [], ◌∷◌, None, false};
 ghost use Rattle.session_core.specs.declared.reply.Reply.TheVariants.{Executed};
@@ -110,6 +111,9 @@ impl Engine for Counter {
             [total] => u32::from(*total),
             _ => return Err(AllocError),
         };
+        if host == 2 && total == 3 {
+            return Err(AllocError);
+        }
         Ok((Counter { total, host }, total))
     }
 

@@ -1,0 +1,22 @@
+-- Bytes of numbered items that are written one after the other.
+use Rattle.std.proofs.Common.{◌≡◌, ℕ, ◌+◌, ◌<◌, List, [], ◌∷◌, ◌++◌, length, get_or, take, refl, sym, ap, ◌∙◌, arith}
+use Rattle.std.proofs.lemmas.List.{append-nil, append_assoc, length-take, take_more}
+use Rattle.checkpoint_bytes.specs.Texts.{bytes_from}
+
+from_more : {A : Type 0} (bytes : ℕ → A → List ℕ) (n : ℕ) (xs : List A) (y : A) → bytes_from bytes n (xs ++ y ∷ []) ≡ bytes_from bytes n xs ++ bytes (n + length xs) y
+from_more bytes n [] y = append-nil (bytes n y) ∙ ap (λ (k : ℕ). bytes k y) (let e : n ≡ n + 0 = omega arith in e)
+from_more bytes n (x ∷ xs) y =
+    let k : n + 1 + length xs ≡ n + length (x ∷ xs) = omega arith in
+    ap (λ (zs : List ℕ). bytes n x ++ zs) (from_more bytes (n + 1) xs y)
+    ∙ (sym (append_assoc (bytes n x) (bytes_from bytes (n + 1) xs) (bytes (n + 1 + length xs) y))
+    ∙ ap (λ (m : ℕ). (bytes n x ++ bytes_from bytes (n + 1) xs) ++ bytes m y) k)
+
+pub one_more : {A : Type 0} (bytes : ℕ → A → List ℕ) (old out more : List ℕ) (xs : List A) (i : ℕ) (x : A) → i < length xs → x ≡ get_or xs i x
+    → out ≡ old ++ bytes_from bytes 1 (take i xs) → more ≡ out ++ bytes (i + 1) x → more ≡ old ++ bytes_from bytes 1 (take (i + 1) xs)
+one_more {A = A} bytes old out more xs i x l is e k =
+    let front : List A = take i xs in
+    let size : 1 + length front ≡ i + 1 = let t = length-take i xs in omega arith in
+    let whole : take (i + 1) xs ≡ front ++ x ∷ [] = take_more xs i x l ∙ ap (λ (y : A). front ++ y ∷ []) (sym is) in
+    let last : bytes_from bytes 1 (take (i + 1) xs) ≡ bytes_from bytes 1 front ++ bytes (i + 1) x =
+    ap (bytes_from bytes 1) whole ∙ (from_more bytes 1 front x ∙ ap (λ (m : ℕ). bytes_from bytes 1 front ++ bytes m x) size) in
+    k ∙ (ap (λ (zs : List ℕ). zs ++ bytes (i + 1) x) e ∙ (append_assoc old (bytes_from bytes 1 front) (bytes (i + 1) x) ∙ ap (λ (zs : List ℕ). old ++ zs) (sym last)))

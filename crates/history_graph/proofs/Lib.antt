@@ -1,0 +1,13 @@
+pub mod Adding
+pub mod Keys
+pub mod Reading
+pub mod Missed
+pub mod Least
+pub mod Heading
+pub mod Leaving
+pub mod Aging
+pub mod Bridge
+pub mod Ending
+pub mod Judging
+pub mod Standing
+pub mod Told

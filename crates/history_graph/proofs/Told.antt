@@ -1,0 +1,64 @@
+-- What the call that ends a cell answers.
+use Rattle.std.proofs.Common.{◌≡◌, ℕ, ◌<◌, ◌≤◌, false, List, [], ◌∷◌, length, Option, Some, None, refl, sym, ap, subst, arith, length-append}
+use Rattle.std.specs.Prelude.{slice_get}
+use Rattle.std.specs.List.{AllZip}
+use Rattle.std.specs.FinMap as finite
+use Rattle.py_heap.specs.declared.state.State.{State}
+use Rattle.py_machine.specs.declared.marks.Marks.{Marks}
+use Rattle.py_machine.specs.Marked.{Name}
+use Rattle.graph_model.specs.declared.graph.CellRecord.{CellRecord}
+use Rattle.graph_model.specs.declared.graph.Version.{Version}
+use Rattle.graph_model.specs.declared.graph.Graph.{Graph}
+use Rattle.graph_model.specs.declared.plan.Tally.{Tally}
+use Rattle.graph_model.specs.declared.plan.Tally.TheVariants as tally
+use Rattle.linked_parts.specs.declared.parts.Part.{Part}
+use Rattle.linked_parts.specs.declared.parts.Parts.{Parts}
+use Rattle.linked_parts.specs.Parts.{ArePartsOf}
+use Rattle.part_bytes.specs.Texts.{part_text}
+use Rattle.history_graph.specs.declared.fault.HistoryFault.{HistoryFault}
+use Rattle.history_graph.specs.declared.fault.HistoryFault.TheVariants as fault
+use Rattle.history_graph.specs.declared.heads.Left.TheVariants as lefts
+use Rattle.history_graph.specs.declared.history.History.{History}
+use Rattle.run_graph.specs.Growing.{IsAged}
+use Rattle.history_graph.specs.Left.{Heads, AreHeads, IsOfLeft, AreOfLeft}
+use Rattle.history_graph.specs.Grown.{IsGrown}
+use Rattle.history_graph.specs.Room.{IsFirstOf}
+use Rattle.history_graph.specs.Tallies.{OnTally, IsFirstOver}
+use Rattle.history_graph.proofs.Judging.{bytes_over}
+
+-- a text of 2^32 bytes or more, of a part that the cell left
+abbrev pub IsLong : State → Parts → Heads → Tally → Type 0
+IsLong s now heads t = (t ≡ tally.Bytes) × (name : Name) × (n : ℕ) × (p : Part) × (finite.get heads name ≡ Some (lefts.Part n)) × (slice_get now.list n ≡ Some p)
+    × (p.handle ≡ false) × (4294967296 ≤ length (part_text s p.names))
+
+module _ (h : History) (s : State) (marks : Marks) (now : Parts) (are : ArePartsOf s now) (heads : Heads) (left : (t : State) → ArePartsOf t h.parts → AreHeads h.parts now marks s heads)
+    (room : IsFirstOf (length h.graph.cells) (length h.graph.versions) (length (finite.keys heads)) (length (finite.keys s.globals)) None) where
+  pub long_over : (e : HistoryFault) → OnTally (IsLong s now heads) e → OnTally (λ t. (u : State) → ArePartsOf u h.parts → IsFirstOver h s marks t) e
+  long_over (fault.TooMany t) k = λ u before.
+      subst (IsFirstOver h s marks) (sym k.0) (bytes_over h s marks now are heads (left u before) room k.1 k.2 k.3 k.4 k.5 k.6 k.7)
+  long_over fault.OutOfMemory k = tt
+
+pub room_at : (cells versions n names m : ℕ) (o p : Option Tally) → n ≡ m → o ≡ p → IsFirstOf cells versions n names o → IsFirstOf cells versions m names p
+room_at cells versions n names m o p e f h = subst (λ q. IsFirstOf cells versions m names q) f (subst (λ k. IsFirstOf cells versions k names o) e h)
+
+-- ---- how many cells and versions there are then
+
+zip_length : {A B : Type 0} (R : A → B → Type 0) (xs : List A) (ys : List B) → AllZip R xs ys → length xs ≡ length ys
+zip_length R [] [] z = refl
+zip_length R [] (y ∷ ys) z = absurd z
+zip_length R (x ∷ xs) [] z = absurd z
+zip_length R (x ∷ xs) (y ∷ ys) z = let e = zip_length R xs ys z.1 in omega (arith, e)
+
+pub few_then : (s : State) (now : Parts) (w names : ℕ) (heads : Heads) (cell : CellRecord) (news : List Version) (g k : Graph)
+    → IsFirstOf (length g.cells) (length g.versions) (length (finite.keys heads)) names None → AreOfLeft s now w heads (finite.keys heads) news → IsGrown w cell news g k
+    → (length k.cells < 4294967296) × (length k.versions < 4294967296)
+few_then s now w names heads cell news g k room made grown =
+    let a = ap (λ (xs : List CellRecord). length xs) grown.cells in
+    let b = length-append g.cells (cell ∷ []) in
+    let c = ap (λ (xs : List Version). length xs) grown.versions in
+    let d = length-append grown.olds news in
+    let e = zip_length (IsAged w news) g.versions grown.olds grown.aged in
+    let f = zip_length (λ name x. IsOfLeft s now w name (finite.get heads name) x) (finite.keys heads) news made in
+    let l = room.0 in
+    let m = room.1 in
+    (omega (arith, a, b, l), omega (arith, c, d, e, f, m))

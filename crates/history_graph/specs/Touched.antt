@@ -1,0 +1,57 @@
+-- What a cell reads and misses, by its marks and the versions that hold as it begins.
+use Rattle.std.specs.Prelude.{◌≡◌, ℕ, ◌<◌, ◌≤◌, ◌↔◌, Bool, ◌&&◌, ◌||◌, IsTrue, nat_lt, List, Contains, length}
+use Rattle.py_machine.specs.declared.marks.Marks.{Marks}
+use Rattle.py_machine.specs.Marked.{Name, has_member}
+use Rattle.graph_model.specs.declared.graph.CellRecord.{CellRecord}
+use Rattle.graph_model.specs.declared.graph.Version.{Version}
+use Rattle.graph_model.specs.declared.graph.Graph.{Graph}
+use Rattle.graph_model.specs.Graphs.{VersionAt, IsActive}
+use Rattle.graph_model.specs.Faults.{TextBelow, Ascends}
+use Rattle.history_graph.specs.Sets.{Names, Has}
+
+-- the name was looked up; or it was bound, and is one of many
+abbrev pub is_read_by : Marks → Bool → Name → Bool
+is_read_by marks many name = has_member marks.looked name || (many && has_member marks.bound name)
+
+-- by one of its names the cell reads a version with these, if it holds
+abbrev pub AreTouched : Marks → List Name → Type 0
+AreTouched marks names = (name : Name) × Contains names name × IsTrue (is_read_by marks (nat_lt 1 (length names)) name)
+
+-- it reads the version
+abbrev pub IsTouched : Marks → Version → Type 0
+IsTouched marks x = (x.replaced ≡ 0) × AreTouched marks x.names
+
+abbrev pub Reads : Graph → Marks → ℕ → Type 0
+Reads g marks v = (x : Version) × VersionAt g v x × IsTouched marks x
+
+-- of the first versions, as many as the count, those that the cell reads
+pub record AreReadsTo (g : Graph) (marks : Marks) (count : ℕ) (found : List ℕ) : Type 0 where
+  pub ascends : Ascends (λ m n. m < n) found
+  pub reads : (v : ℕ) → Contains found v ↔ ((v ≤ count) × Reads g marks v)
+
+-- one of the versions that hold has the name
+abbrev pub IsHeld : Graph → Name → Type 0
+IsHeld g name = (v : ℕ) × (x : Version) × IsActive g v x × Contains x.names name
+
+-- of the first versions one that holds has the name
+abbrev pub IsHeldTo : Graph → ℕ → Name → Type 0
+IsHeldTo g count name = (v : ℕ) × (x : Version) × (v ≤ count) × IsActive g v x × Contains x.names name
+
+-- the names that were looked up and that such a version has
+abbrev pub AreHeldTo : Graph → Marks → ℕ → Names → Type 0
+AreHeldTo g marks count held = (name : Name) → Has held name ↔ (IsHeldTo g count name × Has marks.looked name)
+
+-- it was looked up, and no version that holds has it
+abbrev pub Misses : Graph → Marks → Name → Type 0
+Misses g marks name = Has marks.looked name × (¬ IsHeld g name)
+
+-- the record of a cell
+pub record IsRecordOf (g : Graph) (text : List ℕ) (units taken : ℕ) (marks : Marks) (x : CellRecord) : Type 0 where
+  pub code : x.code ≡ text
+  pub meter : x.meter ≡ units
+  pub steps : x.steps ≡ taken
+  pub drew : x.drew ≡ marks.drew
+  pub reads_ascend : Ascends (λ m n. m < n) x.reads
+  pub reads : (v : ℕ) → Contains x.reads v ↔ Reads g marks v
+  pub missing_ascends : Ascends TextBelow x.missing
+  pub missing : (name : Name) → Contains x.missing name ↔ Misses g marks name

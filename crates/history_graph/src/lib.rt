@@ -1,0 +1,25 @@
+//! The history graph of a session as it is kept, cell by cell.
+//!
+//! After each cell the parts of the state are found, and the graph gets the cell's record, a version of each part that the
+//! cell wrote and of each name that it deleted, and a mark at each version that these replace. What a history graph is:
+//! docs/HISTORY.md. (Li et al., ElasticNotebook, PVLDB 17(2).)
+#![tactic(auto)]
+
+mod fault;
+mod growth;
+mod heads;
+mod history;
+mod laws;
+mod missing;
+mod reads;
+mod record;
+mod room;
+mod sets;
+mod versions;
+mod written;
+
+pub use fault::HistoryFault;
+pub use history::History;
+pub use laws::{
+    a_checked_graph_stays_one, a_history_stays_one, checked_graphs_have_cells, histories_have_cells,
+};

@@ -1,0 +1,97 @@
+ghost use Rattle.std.specs.Prelude.{IfOk, OnOk};
+ghost use Rattle.py_heap.specs.References.{IsClosed};
+
+use history_graph::{History, HistoryFault};
+use nb_outside::{Drawn, MemFeed};
+use py_heap::operations_keep_closed;
+use py_kernel::Kernel;
+use py_laws::cells_keep_states_closed;
+use py_machine::Marks;
+use py_meaning::CellEnd;
+use py_reader::{ReadError, read_cell};
+use std::alloc::{AllocError, Global};
+
+/// What is kept of a cell that ended.
+#[derive(Drop)]
+struct Ended {
+    steps: u32,
+    marks: Marks,
+}
+
+/// Runs a code. One without a tree does nothing.
+fn run(
+    alloc: Global,
+    kernel: &mut Kernel,
+    code: &str,
+    feed: &mut MemFeed,
+) -> Result<Ended, AllocError>
+    requires { IsClosed kernel.old.state }
+    ensures { OnOk result (IsClosed kernel.new.state) }
+{
+    cells_keep_states_closed();
+    match read_cell(alloc, code) {
+        Ok(tree) => {
+            let end = kernel.run_cell(alloc, tree.body.as_slice(), feed)?;
+            let CellEnd {
+                printed: _,
+                result: _,
+                error: _,
+                steps,
+                draws: _,
+                marks,
+            } = end;
+            Ok(Ended { steps, marks })
+        }
+        Err(ReadError::Fault(_)) => Ok(Ended {
+            steps: 0,
+            marks: Marks::new(alloc),
+        }),
+        Err(ReadError::OutOfMemory) => Err(AllocError),
+    }
+}
+
+/// Raises the count of a session.
+fn raise_count(kernel: &mut Kernel)
+    requires { IsClosed kernel.old.state }
+    ensures { IsClosed kernel.new.state }
+{
+    operations_keep_closed();
+    let count = kernel.state.count().saturating_add(1);
+    kernel.state.set_count(count);
+}
+
+/// A session that keeps its history.
+#[derive(Drop)]
+pub struct Session {
+    pub kernel: Kernel,
+    pub feed: MemFeed,
+    pub history: History,
+}
+
+impl Session {
+    /// One without cells, which draws 7, 8 and 9.
+    pub fn new(alloc: Global) -> Result<Session, AllocError>
+        ensures { IfOk result (λ session. IsClosed session.kernel.state) }
+    {
+        operations_keep_closed();
+        let draws = vec![in alloc; Drawn::Word(7), Drawn::Word(8), Drawn::Word(9)]?;
+        Ok(Session {
+            kernel: Kernel::new(alloc, 0),
+            feed: MemFeed::new(draws),
+            history: History::new(alloc),
+        })
+    }
+
+    /// Raises the session's count, runs a cell, and adds it to the history.
+    pub fn end(&mut self, alloc: Global, code: &str) -> Result<(), HistoryFault>
+        requires { IsClosed self.old.kernel.state }
+        ensures { OnOk result (IsClosed self.new.kernel.state) }
+    {
+        raise_count(&mut self.kernel);
+        let meter = self.kernel.state.meter();
+        let ended = run(alloc, &mut self.kernel, code, &mut self.feed)?;
+        let state = &self.kernel.state;
+        self.history
+            .end_cell(alloc, state, code, meter, ended.steps, &ended.marks)
+    }
+}

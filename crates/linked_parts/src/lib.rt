@@ -1,0 +1,15 @@
+//! The parts of a session's state: which names are linked by the objects that they share.
+//!
+//! Two names that reach a common object are linked, and so is what each of them is linked to. A part is a class of linked
+//! names, with the objects that they reach. (Li et al., ElasticNotebook, PVLDB 17(2): co-variables.)
+#![tactic(auto)]
+
+mod after;
+mod labels;
+mod listing;
+mod parts;
+#[cfg(test)]
+mod tests;
+
+pub use listing::parts_of;
+pub use parts::{Part, Parts};

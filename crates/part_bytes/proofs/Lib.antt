@@ -1,0 +1,5 @@
+pub mod Orders
+pub mod Places
+pub mod Pieces
+pub mod Small
+pub mod Closing

@@ -1,0 +1,96 @@
+-- Bytes that are written one piece after the other.
+use Rattle.std.proofs.Common.{◌≡◌, ℕ, ◌+◌, ◌<◌, List, [], ◌∷◌, ◌++◌, length, get_or, take, map, Some, refl, sym, ap, ◌∙◌, subst, arith}
+use Rattle.std.specs.Prelude.{All, slice_get, option_to_list}
+use Rattle.std.specs.List.{flat_map}
+use Rattle.std.proofs.lemmas.List.{append-nil, append_assoc, length-append, map-append, take_more, flat_map_more}
+use Rattle.std.proofs.lemmas.List.Elements.{All-head, All-tail}
+use Rattle.std.proofs.lemmas.Grind.{flat_map-append}
+use Rattle.std.proofs.lemmas.Option.{slice_get_within, get_or_from_slice_get}
+use Rattle.py_value.specs.declared.key.Key.{Key}
+use Rattle.py_value.specs.declared.value.Value.{Value}
+use Rattle.py_value.specs.Keys.{value_of}
+use Rattle.py_heap.specs.declared.heap.Object.{Object}
+use Rattle.py_heap.specs.declared.state.State.{State}
+use Rattle.py_heap.specs.Dicts.{Pairs}
+use Rattle.py_heap.specs.References.{AreLive}
+use Rattle.part_bytes.specs.Parts.{order, number_in, numbered, numbered_pair, numbered_object, objects_of, held_of, part_of}
+use Rattle.part_bytes.specs.Texts.{four, name_bytes, value_bytes, held_bytes, pair_bytes, object_bytes, bytes_of, part_text}
+use Rattle.part_bytes.proofs.Places.{there}
+
+pub piece_more : {B C : Type 0} (f : B → List C) (old out more : List C) (front : List B) (y : B) → out ≡ old ++ flat_map f front → more ≡ out ++ f y → more ≡ old ++ flat_map f (front ++ y ∷ [])
+piece_more {C = C} f old out more front y e k = k ∙ (ap (λ (zs : List C). zs ++ f y) e ∙ flat_map_more f old front y)
+
+mapped_front : {A B : Type 0} (g : A → B) (xs : List A) (i : ℕ) (x : A) → i < length xs → x ≡ get_or xs i x → map g (take i xs) ++ g x ∷ [] ≡ map g (take (i + 1) xs)
+mapped_front {A = A} g xs i x l is = sym (ap (map g) (take_more xs i x l) ∙ (map-append g (take i xs) (get_or xs i x ∷ []) ∙ ap (λ (y : A). map g (take i xs) ++ g y ∷ []) (sym is)))
+
+pub mapped_more : {A B C : Type 0} (f : B → List C) (g : A → B) (old out more : List C) (xs : List A) (i : ℕ) (x : A) → i < length xs → x ≡ get_or xs i x
+    → out ≡ old ++ flat_map f (map g (take i xs)) → more ≡ out ++ f (g x) → more ≡ old ++ flat_map f (map g (take (i + 1) xs))
+mapped_more {B = B} f g old out more xs i x l is e k = piece_more f old out more (map g (take i xs)) (g x) e k ∙ ap (λ (ys : List B). old ++ flat_map f ys) (mapped_front g xs i x l is)
+
+pub plain_more : {A C : Type 0} (f : A → List C) (old out more : List C) (xs : List A) (i : ℕ) (x : A) → i < length xs → x ≡ get_or xs i x
+    → out ≡ old ++ flat_map f (take i xs) → more ≡ out ++ f x → more ≡ old ++ flat_map f (take (i + 1) xs)
+plain_more {A = A} f old out more xs i x l is e k =
+    piece_more f old out more (take i xs) x e k
+    ∙ ap (λ (ys : List A). old ++ flat_map f ys) (sym (take_more xs i x l ∙ ap (λ (y : A). take i xs ++ y ∷ []) (sym is)))
+
+-- a key and then its value are a pair
+pub pair_more : (number : ℕ → ℕ) (old out key_out more : List ℕ) (pairs : Pairs) (i : ℕ) (key : Key) (value : Value) → slice_get pairs i ≡ Some (key, value)
+    → out ≡ old ++ flat_map pair_bytes (map (numbered_pair number) (take i pairs)) → key_out ≡ out ++ value_bytes (value_of key) → more ≡ key_out ++ value_bytes (numbered number value)
+    → more ≡ old ++ flat_map pair_bytes (map (numbered_pair number) (take (i + 1) pairs))
+pair_more number old out key_out more pairs i key value at e k v =
+    let pair : Key × Value = (key, value) in
+    let both : more ≡ out ++ pair_bytes (numbered_pair number pair) = v ∙ (ap (λ (zs : List ℕ). zs ++ value_bytes (numbered number value)) k ∙ append_assoc out (value_bytes (value_of key)) (value_bytes (numbered number value))) in
+    mapped_more pair_bytes (numbered_pair number) old out more pairs i pair (slice_get_within pairs i pair at) (sym (get_or_from_slice_get pairs i pair pair at)) e both
+
+module _ (s : State) (number : ℕ → ℕ) where
+  one_object : (at : ℕ) (o : Object) → slice_get s.heap at ≡ Some o → objects_of s number at ≡ numbered_object number o ∷ []
+  one_object at o e = rw e refl
+
+  pub object_more : (old out more found : List ℕ) (i : ℕ) (o : Object) → i < length found → slice_get s.heap (get_or found i 0) ≡ Some o
+      → out ≡ old ++ flat_map object_bytes (flat_map (objects_of s number) (take i found)) → more ≡ out ++ object_bytes (numbered_object number o)
+      → more ≡ old ++ flat_map object_bytes (flat_map (objects_of s number) (take (i + 1) found))
+  object_more old out more found i o l at e k =
+      let x : ℕ = get_or found i 0 in
+      let front : List Object = flat_map (objects_of s number) (take i found) in
+      let last : flat_map (objects_of s number) (x ∷ []) ≡ numbered_object number o ∷ [] = append-nil (objects_of s number x) ∙ one_object x o at in
+      let all : flat_map (objects_of s number) (take (i + 1) found) ≡ front ++ numbered_object number o ∷ [] =
+      ap (flat_map (objects_of s number)) (take_more found i 0 l) ∙ (flat_map-append (objects_of s number) (take i found) (x ∷ []) ∙ ap (λ (os : List Object). front ++ os) last) in
+      piece_more object_bytes old out more front (numbered_object number o) e k ∙ ap (λ (os : List Object). old ++ flat_map object_bytes os) (sym all)
+
+  -- each address of an object has one
+  pub as_many : (found : List ℕ) → AreLive s.heap found → length (flat_map (objects_of s number) found) ≡ length found
+  as_many [] live = refl
+  as_many (at ∷ found) live =
+      let P : ℕ → Type 0 = λ at. at < length s.heap in
+      let o = there s.heap at (All-head P at found live) in
+      let rest = as_many found (All-tail P at found live) in
+      let size = length-append (objects_of s number at) (flat_map (objects_of s number) found) in
+      let one : length (objects_of s number at) ≡ 1 = ap (λ (os : List Object). length os) (one_object at o.0 o.1) in
+      omega (arith, rest, size, one)
+
+module _ (s : State) (names : List (List ℕ)) where
+  -- the text of the part, where its objects stand in this order
+  abbrev text_by : List ℕ → List ℕ
+  text_by found = bytes_of (record {
+    names = names;
+    values = map (held_of s (number_in found)) names;
+    objects = flat_map (objects_of s (number_in found)) found;
+  })
+
+  pub whole_text : (found : List ℕ) → found ≡ order s names → AreLive s.heap found → (n m : ℕ) → n ≡ length names → m ≡ length found → (z a b c d e : List ℕ) → z ≡ []
+      → a ≡ z ++ four n → b ≡ a ++ flat_map name_bytes names → c ≡ b ++ flat_map held_bytes (map (held_of s (number_in found)) names)
+      → d ≡ c ++ four m → e ≡ d ++ flat_map object_bytes (flat_map (objects_of s (number_in found)) found) → e ≡ part_text s names
+  whole_text found is live n m size many z a b c d e zz aa bb ccc dd ee =
+      let p : List ℕ = four (length names) in
+      let q : List ℕ = flat_map name_bytes names in
+      let r : List ℕ = flat_map held_bytes (map (held_of s (number_in found)) names) in
+      let objects : List Object = flat_map (objects_of s (number_in found)) found in
+      let t : List ℕ = four (length objects) in
+      let u : List ℕ = flat_map object_bytes objects in
+      let counted : four m ≡ t = ap four (many ∙ sym (as_many s (number_in found) found live)) in
+      let first : a ≡ p = aa ∙ (ap (λ (zs : List ℕ). zs ++ four n) zz ∙ ap four size) in
+      let second : b ≡ p ++ q = bb ∙ ap (λ (zs : List ℕ). zs ++ q) first in
+      let third : c ≡ (p ++ q) ++ r = ccc ∙ ap (λ (zs : List ℕ). zs ++ r) second in
+      let fourth : d ≡ ((p ++ q) ++ r) ++ t = dd ∙ (ap (λ (zs : List ℕ). zs ++ four m) third ∙ ap (λ (zs : List ℕ). ((p ++ q) ++ r) ++ zs) counted) in
+      let all : e ≡ text_by found = ee ∙ ap (λ (zs : List ℕ). zs ++ u) fourth in
+      all ∙ ap text_by is

@@ -1,0 +1,90 @@
+ghost use Rattle.std.specs.Prelude.{◌≡◌, ◌++◌, map, OnOk};
+ghost use Rattle.std.specs.List.{flat_map};
+ghost use Rattle.py_heap.specs.References.{AreLive};
+ghost use Rattle.part_bytes.specs.Parts.{number_in, numbered, numbered_pair, numbered_object, objects_of};
+ghost use Rattle.part_bytes.specs.Texts as spec;
+
+use crate::numbers::Numbers;
+use crate::values::{write_count, write_key, write_text, write_value};
+use plain_data::Items;
+use py_heap::{Dict, Function, Object, State};
+use py_value::Value;
+use std::alloc::AllocError;
+
+/// The items of a list.
+fn write_items(out: &mut Items<u8>, numbers: &Numbers, items: &[Value]) -> Result<(), AllocError>
+    ensures { OnOk result (out.new ≡ out.old ++ flat_map spec.value_bytes (map (numbered (number_in numbers.now.order)) items.now)) }
+{
+    for value in items {
+        write_value(out, numbers, value)?;
+    }
+    Ok(())
+}
+
+/// The pairs of a dict, in their order.
+fn write_pairs(out: &mut Items<u8>, numbers: &Numbers, dict: &Dict) -> Result<(), AllocError>
+    ensures { OnOk result (out.new ≡ out.old ++ flat_map spec.pair_bytes (map (numbered_pair (number_in numbers.now.order)) dict.now)) }
+{
+    for index in 0..dict.len() {
+        let (key, value) = dict.pair_at(index);
+        write_key(out, key)?;
+        write_value(out, numbers, value)?;
+    }
+    Ok(())
+}
+
+fn write_list(
+    out: &mut Items<u8>,
+    numbers: &Numbers,
+    items: &Items<Value>,
+) -> Result<(), AllocError>
+    ensures { OnOk result (out.new ≡ out.old ++ spec.object_bytes (numbered_object (number_in numbers.now.order) (Object.List items.now))) }
+{
+    out.push(16)?;
+    write_count(out, items.len())?;
+    write_items(out, numbers, items.as_slice())
+}
+
+fn write_dict(out: &mut Items<u8>, numbers: &Numbers, dict: &Dict) -> Result<(), AllocError>
+    ensures { OnOk result (out.new ≡ out.old ++ spec.object_bytes (numbered_object (number_in numbers.now.order) (Object.Dict dict.now))) }
+{
+    out.push(17)?;
+    write_count(out, dict.len())?;
+    write_pairs(out, numbers, dict)
+}
+
+/// A function, as its source.
+fn write_function(out: &mut Items<u8>, function: &Function) -> Result<(), AllocError>
+    ensures { OnOk result (out.new ≡ out.old ++ spec.object_bytes (Object.Function function.now)) }
+{
+    out.push(18)?;
+    let def = function.def();
+    write_text(out, def.source.as_str())
+}
+
+/// An object. A handle has no bytes.
+fn write_object(out: &mut Items<u8>, numbers: &Numbers, object: &Object) -> Result<(), AllocError>
+    ensures { OnOk result (out.new ≡ out.old ++ spec.object_bytes (numbered_object (number_in numbers.now.order) object.now)) }
+{
+    match object {
+        Object::List(items) => write_list(out, numbers, items),
+        Object::Dict(dict) => write_dict(out, numbers, dict),
+        Object::Function(function) => write_function(out, function),
+        Object::Handle { .. } => Ok(()),
+    }
+}
+
+/// The objects, in their order.
+pub(crate) fn write_objects(
+    out: &mut Items<u8>,
+    numbers: &Numbers,
+    state: &State,
+) -> Result<(), AllocError>
+    requires { AreLive state.now.heap numbers.now.order }
+    ensures { OnOk result (out.new ≡ out.old ++ flat_map spec.object_bytes (flat_map (objects_of state.now (number_in numbers.now.order)) numbers.now.order)) }
+{
+    for at in numbers.order.as_slice() {
+        write_object(out, numbers, state.get(*at))?;
+    }
+    Ok(())
+}

@@ -1,0 +1,128 @@
+ghost use Rattle.std.specs.Prelude.{◌≡◌, [], ◌∷◌, ◌++◌, length, OnOk};
+ghost use Rattle.std.specs.List.{flat_map};
+ghost use Rattle.py_value.specs.Keys.{value_of};
+ghost use Rattle.part_bytes.specs.Parts.{number_in, numbered};
+ghost use Rattle.part_bytes.specs.Texts as spec;
+
+use crate::numbers::{Numbers, count_of};
+use byteorder::{BigEndian, ByteOrder};
+use plain_data::{Items, SharedText};
+use py_value::{Builtin, Key, Value};
+use std::alloc::AllocError;
+
+// Each function puts bytes at the end. After an error the bytes stand for nothing, and are only dropped.
+
+/// A number in four bytes.
+#[tactic(auto, unfolding(crate::specs::Texts::four))]
+pub fn write_four(out: &mut Items<u8>, n: u32) -> Result<(), AllocError>
+    ensures { OnOk result (out.new ≡ out.old ++ spec.four n) }
+{
+    let mut bytes = [0u8; 4];
+    BigEndian::write_u32(&mut bytes, n);
+    out.extend_from_slice(&bytes)
+}
+
+/// A count.
+pub fn write_count(out: &mut Items<u8>, n: usize) -> Result<(), AllocError>
+    ensures { OnOk result (out.new ≡ out.old ++ spec.four n) }
+{
+    write_four(out, count_of(n)?)
+}
+
+/// A number in sixteen bytes.
+#[tactic(auto, unfolding(crate::specs::Texts::sixteen))]
+fn write_sixteen(out: &mut Items<u8>, n: i128) -> Result<(), AllocError>
+    ensures { OnOk result (out.new ≡ out.old ++ spec.sixteen n) }
+{
+    let mut bytes = [0u8; 16];
+    BigEndian::write_i128(&mut bytes, n);
+    out.extend_from_slice(&bytes)
+}
+
+/// A text after its length.
+pub fn write_text(out: &mut Items<u8>, text: &str) -> Result<(), AllocError>
+    ensures { OnOk result (out.new ≡ out.old ++ spec.text_bytes text.now) }
+{
+    write_count(out, text.len())?;
+    out.extend_from_slice(text.as_bytes())
+}
+
+fn write_truth(out: &mut Items<u8>, truth: bool) -> Result<(), AllocError>
+    ensures { OnOk result (out.new ≡ out.old ++ spec.value_bytes (Value.Bool truth)) }
+{
+    out.push(if truth { 2 } else { 1 })
+}
+
+fn write_number(out: &mut Items<u8>, number: i128) -> Result<(), AllocError>
+    ensures { OnOk result (out.new ≡ out.old ++ spec.value_bytes (Value.Number number)) }
+{
+    out.push(3)?;
+    write_sixteen(out, number)
+}
+
+fn write_text_value(out: &mut Items<u8>, text: &SharedText) -> Result<(), AllocError>
+    ensures { OnOk result (out.new ≡ out.old ++ spec.value_bytes (Value.Text text.now)) }
+{
+    out.push(4)?;
+    write_text(out, text.as_str())
+}
+
+fn write_reference(out: &mut Items<u8>, number: u32) -> Result<(), AllocError>
+    ensures { OnOk result (out.new ≡ out.old ++ spec.value_bytes (Value.Ref number)) }
+{
+    out.push(5)?;
+    write_four(out, number)
+}
+
+fn builtin_byte(builtin: Builtin) -> u8
+    ensures { result ≡ spec.builtin_byte builtin }
+{
+    match builtin {
+        Builtin::Print => 0,
+        Builtin::Len => 1,
+        Builtin::Str => 2,
+        Builtin::Repr => 3,
+        Builtin::Int => 4,
+        Builtin::Range => 5,
+        Builtin::Draw => 6,
+        Builtin::Handle => 7,
+        Builtin::Tell => 8,
+    }
+}
+
+fn write_builtin(out: &mut Items<u8>, builtin: Builtin) -> Result<(), AllocError>
+    ensures { OnOk result (out.new ≡ out.old ++ spec.value_bytes (Value.Builtin builtin)) }
+{
+    out.push(6)?;
+    out.push(builtin_byte(builtin))
+}
+
+/// A key, as the value that it is.
+pub(crate) fn write_key(out: &mut Items<u8>, key: &Key) -> Result<(), AllocError>
+    ensures { OnOk result (out.new ≡ out.old ++ spec.value_bytes (value_of key.now)) }
+{
+    match key {
+        Key::Nothing => out.push(0),
+        Key::Bool(truth) => write_truth(out, *truth),
+        Key::Number(number) => write_number(out, *number),
+        Key::Text(text) => write_text_value(out, text),
+    }
+}
+
+/// A value, with the number of its object in place of an address.
+pub(crate) fn write_value(
+    out: &mut Items<u8>,
+    numbers: &Numbers,
+    value: &Value,
+) -> Result<(), AllocError>
+    ensures { OnOk result (out.new ≡ out.old ++ spec.value_bytes (numbered (number_in numbers.now.order) value.now)) }
+{
+    match value {
+        Value::Nothing => out.push(0),
+        Value::Bool(truth) => write_truth(out, *truth),
+        Value::Number(number) => write_number(out, *number),
+        Value::Text(text) => write_text_value(out, text),
+        Value::Ref(at) => write_reference(out, numbers.number(*at)),
+        Value::Builtin(builtin) => write_builtin(out, *builtin),
+    }
+}

@@ -1,0 +1,81 @@
+ghost use Rattle.std.specs.Prelude.{◌≡◌, ◌++◌, map, length, IfOk, OnOk};
+ghost use Rattle.std.specs.List.{flat_map};
+ghost use Rattle.py_heap.specs.References.{IsClosed};
+ghost use Rattle.part_bytes.specs.Parts.{number_in, held_of};
+ghost use Rattle.part_bytes.specs.Texts as spec;
+ghost use Rattle.part_bytes.specs.Texts.{part_text};
+
+use crate::numbers::Numbers;
+use crate::objects::write_objects;
+use crate::values::{write_count, write_value};
+use plain_data::{Items, Text};
+use py_heap::State;
+use std::alloc::{AllocError, Global};
+
+/// A name after its length. One of more than 255 bytes is want of memory.
+fn write_name(out: &mut Items<u8>, name: &Text) -> Result<(), AllocError>
+    ensures { OnOk result (out.new ≡ out.old ++ spec.name_bytes name.now) }
+{
+    let len = name.len();
+    if len > 255 {
+        return Err(AllocError);
+    }
+    out.push(len as u8)?;
+    let text = name.as_str();
+    out.extend_from_slice(text.as_bytes())
+}
+
+pub fn write_names(out: &mut Items<u8>, names: &[Text]) -> Result<(), AllocError>
+    ensures { OnOk result (out.new ≡ out.old ++ flat_map spec.name_bytes names.now) }
+{
+    for name in names {
+        write_name(out, name)?;
+    }
+    Ok(())
+}
+
+/// What a name has.
+fn write_held(
+    out: &mut Items<u8>,
+    numbers: &Numbers,
+    state: &State,
+    name: &Text,
+) -> Result<(), AllocError>
+    ensures { OnOk result (out.new ≡ out.old ++ spec.held_bytes (held_of state.now (number_in numbers.now.order) name.now)) }
+{
+    match state.look(name) {
+        Some(value) => write_value(out, numbers, value),
+        None => out.push(7),
+    }
+}
+
+/// What each of the names has.
+fn write_all_held(
+    out: &mut Items<u8>,
+    numbers: &Numbers,
+    state: &State,
+    names: &[Text],
+) -> Result<(), AllocError>
+    ensures { OnOk result (out.new ≡ out.old ++ flat_map spec.held_bytes (map (held_of state.now (number_in numbers.now.order)) names.now)) }
+{
+    for name in names {
+        write_held(out, numbers, state, name)?;
+    }
+    Ok(())
+}
+
+/// The text of the part of a state with these names: a part without a handle, or one name without a value. A part with a
+/// count of 2^32 or more, or a name of more than 255 bytes, has no text: that is want of memory.
+pub fn write_part(alloc: Global, state: &State, names: &[Text]) -> Result<Items<u8>, AllocError>
+    requires { IsClosed state.now }
+    ensures { IfOk result (λ bytes. bytes ≡ part_text state.now names.now) }
+{
+    let numbers = Numbers::new(alloc, state, names)?;
+    let mut out = Items::new(alloc);
+    write_count(&mut out, names.len())?;
+    write_names(&mut out, names)?;
+    write_all_held(&mut out, &numbers, state, names)?;
+    write_count(&mut out, numbers.order.len())?;
+    write_objects(&mut out, &numbers, state)?;
+    Ok(out)
+}

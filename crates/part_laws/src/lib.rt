@@ -1,0 +1,7 @@
+//! The text of a part says what the part is, and not where its objects stand: states that are the same over some names have
+//! one text of their part. A law alone: the contract of a function that does nothing.
+#![tactic(auto)]
+
+mod laws;
+
+pub use laws::same_states_have_one_text;

@@ -1,0 +1,5 @@
+pub mod Parts
+pub mod Tails
+pub mod Shallow
+pub mod Alone
+pub mod Cells

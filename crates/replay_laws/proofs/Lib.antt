@@ -1,0 +1,15 @@
+pub mod Staying
+pub mod Times
+pub mod Loading
+pub mod Copying
+pub mod Steps
+pub mod Walking
+pub mod Joining
+pub mod Ending
+pub mod Alike
+pub mod GoingOn
+pub mod Tidying
+pub mod Ordering
+pub mod Canonical
+pub mod OneWalk
+pub mod Renumbering

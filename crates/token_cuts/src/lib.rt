@@ -1,0 +1,8 @@
+//! The tokens of a part of a text: cut out alone, they are the same.
+//!
+//! The law is the contract of a function that does nothing.
+#![tactic(auto)]
+
+mod laws;
+
+pub use laws::a_cut_text_has_the_same_tokens;
