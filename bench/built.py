@@ -7,7 +7,7 @@ import sys
 
 TOP = os.path.dirname(os.path.dirname(os.path.realpath(__file__)))
 # What a program is given where `rt run` starts it once it is built.
-WORDS = {"elastic_notebook": ["run"], "read_bench": ["1"], "reader_show": [], "frames_show": [], "session_show": [], "history_show": []}
+WORDS = {"elastic_notebook": ["run"], "read_bench": ["1"], "reader_show": [], "frames_show": [], "session_show": [], "history_show": [], "checkpoint_show": []}
 
 
 def launcher():

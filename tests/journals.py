@@ -1,12 +1,14 @@
 """What the journal of a session over the least engine says, by a second writing of the rules of docs/JOURNAL.md, which shares nothing
-with the program. The engine counts what it was asked, a shutdown sets it back to 0, at 4 it dies, and at 3 host 2 has no memory for
-it; `session_show` has it.
+with the program. The engine counts what it was asked, a shutdown sets it back to 0, at 4 it dies, at 2 it holds a handle, with which
+it can't move, and at 3 host 2 has no memory for it; `session_show` has it.
 """
 
 HOSTS = 3
 MOST_WEIGHT = 1_000_000
 NO_MEMORY = 7
 FULL = 4
+# With a handle, which can be neither copied nor opened again.
+HELD = 2
 # A host, and a count for which it has no memory.
 SMALL = (2, 3)
 
@@ -31,6 +33,8 @@ class Session:
             self.told.append(reason)
         elif weight == NO_MEMORY:
             self.told.append("resumed")
+        elif self.count == HELD:
+            self.told.append("stuck")
         else:
             fits = (host, self.count) != SMALL
             self.told += ["sealed", "moved", "adopted" if fits else "resumed"]

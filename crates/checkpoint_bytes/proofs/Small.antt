@@ -3,7 +3,7 @@ use Rattle.std.proofs.Common.{◌≡◌, List, [], ◌∷◌, ◌++◌, ap}
 use Rattle.std.specs.Prelude.{ℕ, codes}
 use Rattle.part_bytes.specs.Texts.{four, sixteen, part_text}
 use Rattle.part_bytes.specs.Parts.{order}
-use Rattle.part_bytes.specs.Examples.{two_in_x, two_in_x_bytes}
+use Rattle.part_bytes.specs.Examples.{two_in_x_bytes}
 use Rattle.part_bytes.proofs.Small.{small_text}
 use Rattle.checkpoint_bytes.specs.Texts.{checkpoint_text}
 use Rattle.checkpoint_bytes.specs.Examples.{small_state, small_graph, small_plan, small_bytes}

@@ -1,5 +1,5 @@
 -- A small session written down.
-use Rattle.std.specs.Prelude.{ℕ, pos, false, List, [], ◌∷◌, codes}
+use Rattle.std.specs.Prelude.{ℕ, false, List, [], ◌∷◌, codes}
 use Rattle.graph_model.specs.declared.graph.Graph.{Graph}
 use Rattle.graph_model.specs.declared.plan.Plan.{Plan}
 use Rattle.py_heap.specs.declared.state.State.{State}

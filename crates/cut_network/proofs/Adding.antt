@@ -2,7 +2,7 @@
 use Rattle.std.proofs.Common.{◌≡◌, ℕ, ◌+◌, ◌<◌, ◌≤◌, List, [], ◌∷◌, ◌++◌, map, length, get_or, take, refl, sym, ap, ◌∙◌, subst, arith}
 use Rattle.std.specs.Prelude.{Contains, count_by, nat_lt}
 use Rattle.std.specs.List.{flat_map}
-use Rattle.std.proofs.lemmas.List.{append_assoc, append-nil, map_push, map-append, take_more, flat_map_more}
+use Rattle.std.proofs.lemmas.List.{append_assoc, map_push, map-append, take_more, flat_map_more}
 use Rattle.std.proofs.lemmas.List.Elements.{Contains-get_or}
 use Rattle.flow_model.specs.declared.Arc.{Arc}
 use Rattle.flow_model.specs.Flows.{Net}
@@ -18,9 +18,6 @@ use Rattle.plan_model.proofs.Reading.{actives-rise, old_writers-from}
 use Rattle.plan_model.proofs.Cutting.{writer-numbered}
 use Rattle.cut_network.proofs.Rising.{rank-of}
 use Rattle.cut_network.specs.Arcs.{more, node_count, copy_numbers, writer_numbers, read_numbers, reads_numbers, rerun_numbers}
-
-pub more-none : (net : Net) → net ≡ more net []
-more-none net = ap (λ (zs : List Arc). record net { arcs = zs }) (sym (append-nil net.arcs))
 
 pub more-more : (net : Net) (xs ys : List Arc) → more (more net xs) ys ≡ more net (xs ++ ys)
 more-more net xs ys = ap (λ (zs : List Arc). record net { arcs = zs }) (append_assoc net.arcs xs ys)

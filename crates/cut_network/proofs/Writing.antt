@@ -12,7 +12,6 @@ use Rattle.graph_model.specs.Marks.{WroteOld, WroteOldOf}
 use Rattle.graph_model.specs.Networks.{old_writers, cell_numbers}
 use Rattle.graph_model.proofs.Needing.{same_old_writer}
 use Rattle.graph_model.proofs.Lookups.{of_cell}
-use Rattle.plan_model.proofs.Deciding.{contains-nil}
 use Rattle.plan_model.proofs.Ascents.{Rises}
 use Rattle.plan_model.proofs.Listing.{filter-rises, count_up-rises}
 use Rattle.plan_model.proofs.Reading.{old_writers-from, old_writers-has}
@@ -22,9 +21,6 @@ use Rattle.cut_network.proofs.Rising.{rising_unique}
 pub record WritersSo (g : Graph) (reads writers : List ℕ) (i : ℕ) : Type 0 where
   pub sound : (w : ℕ) → Contains writers w → (k : ℕ) × (k < i) × WroteOld g (get_or reads k 0) w
   pub whole : (k w : ℕ) → k < i → WroteOld g (get_or reads k 0) w → Contains writers w
-
-pub writers_none : (g : Graph) (reads : List ℕ) → WritersSo g reads [] 0
-writers_none g reads = record { sound = λ w c. absurd (contains-nil w c); whole = λ k w l o. absurd (omega arith) }
 
 pub writers_more : (g : Graph) (reads writers : List ℕ) (i u : ℕ) → WritersSo g reads writers i → WroteOld g (get_or reads i 0) u → WritersSo g reads (writers ++ u ∷ []) (i + 1)
 writers_more g reads writers i u s o = record {

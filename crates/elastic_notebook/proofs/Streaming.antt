@@ -1,7 +1,7 @@
 -- Bytes written and read piece by piece.
-use Rattle.std.proofs.Common.{◌≡◌, ℕ, ◌+◌, ◌≤◌, List, [], ◌++◌, take, drop, Option, Some, None, refl, ap, sym, ◌∙◌, subst, append_assoc, append-nil, arith, inl, inr, Result, Ok, Err, OnOk, OnErr}
+use Rattle.std.proofs.Common.{◌≡◌, ℕ, ◌+◌, List, [], ◌++◌, take, drop, Option, Some, None, refl, ap, sym, ◌∙◌, subst, append_assoc, append-nil, arith, inl, inr, Result, Ok, Err, OnOk, OnErr}
 use Rattle.std.proofs.lemmas.List.{take-append-drop}
-use Rattle.nb_outside.specs.Counts.{HasRisen, HasRisenBy}
+use Rattle.nb_outside.specs.Counts.{HasRisenBy}
 use Rattle.nb_outside.specs.Streams.{Adds, Takes}
 use Rattle.elastic_notebook.specs.Served.{AddsFront}
 

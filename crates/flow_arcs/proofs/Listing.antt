@@ -11,9 +11,6 @@ use Rattle.flow_arcs.proofs.Partners.{length_heads, length_tails}
 
 -- one directed arc more
 module _ (ts first next : List ℕ) (node : ℕ) (h : IsLists ts first next) (within : node < length first) where
-  more_tails : List ℕ
-  more_tails = ts ++ node ∷ []
-
   old_tail : (e : ℕ) → e < length ts → get_or (ts ++ node ∷ []) e 0 ≡ get_or ts e 0
   old_tail e l = get_or_append_left ts (node ∷ []) 0 e l
 
@@ -83,17 +80,6 @@ lists_read ts first first' next r h = record {
   next_low = h.next_low;
   next_leaves = h.next_leaves;
   next_skips = h.next_skips;
-}
-
-pub no_lists : IsLists [] [] []
-no_lists = record {
-  nexts = refl;
-  first_low = λ n. omega arith;
-  first_leaves = λ n e f. absurd (omega arith);
-  first_skips = λ n e f b. absurd (omega arith);
-  next_low = λ d b. absurd (omega arith);
-  next_leaves = λ d e b f. absurd (omega arith);
-  next_skips = λ d e b f c. absurd (omega arith);
 }
 
 pub tails_push : (arcs : List Arc) (arc : Arc) → tails (arcs ++ arc ∷ []) ≡ (tails arcs ++ arc.from ∷ []) ++ arc.to ∷ []

@@ -1,9 +1,8 @@
 -- What a push along a directed arc changes.
-use Rattle.std.proofs.Common.{◌≡◌, ◌≢◌, ℕ, zero, suc, ◌+◌, ◌-◌, ◌^◌, ◌%◌, ◌<◌, ◌≤◌, cond, ◌==◌, Bool, true, false, List, [], ◌∷◌, ◌++◌, length, get_or, set, drop, append_assoc, ◌*◌, refl, ap, arith}
-use Rattle.std.proofs.lemmas.List.{drop_more, drop_all, get_or_read, length-set}
+use Rattle.std.proofs.Common.{◌≡◌, ◌≢◌, ℕ, zero, suc, ◌+◌, ◌-◌, ◌^◌, ◌%◌, ◌<◌, ◌≤◌, cond, ◌==◌, Bool, true, false, List, [], ◌∷◌, ◌++◌, length, get_or, set, drop, ◌*◌, refl, ap, arith}
+use Rattle.std.proofs.lemmas.List.{drop_all, get_or_read, length-set}
 use Rattle.flow_model.specs.declared.Arc.{Arc}
 use Rattle.flow_model.specs.Flows.{given, taken, IsWithin}
-use Rattle.flow_arcs.specs.Ends.{no_arc}
 use Rattle.flow_arcs.specs.Pairs.{tails, heads, partner, IsPaired, carried, pushed}
 
 -- the lists have two entries for each arc
@@ -53,11 +52,6 @@ pushed_other (x ∷ y ∷ rest) (suc zero) amount (suc (suc d)) n = omega arith
 pushed_other (x ∷ y ∷ rest) (suc (suc e)) amount zero n = omega arith
 pushed_other (x ∷ y ∷ rest) (suc (suc e)) amount (suc zero) n = omega arith
 pushed_other (x ∷ y ∷ rest) (suc (suc e)) amount (suc (suc d)) n = pushed_other rest e amount d (λ q. n (ap (λ k. suc (suc k)) q))
-
--- the amount more at one node, and less at the other
-cond_sum : (b : Bool) (x y : ℕ) → cond b (x + y) 0 ≡ cond b x 0 + cond b y 0
-cond_sum true x y = refl
-cond_sum false x y = refl
 
 step_along : (b c : Bool) (g t y amount : ℕ) → (cond b (y + amount) 0 + g) + (cond c y 0 + t) + cond c amount 0 ≡ (cond b y 0 + g) + (cond c (y + amount) 0 + t) + cond b amount 0
 step_along true true g t y amount = omega arith
@@ -160,14 +154,6 @@ length_carried [] (x ∷ rest) h = absurd h
 length_carried (arc ∷ arcs) [] h = absurd h
 length_carried (arc ∷ arcs) (x ∷ []) h = absurd h
 length_carried (arc ∷ arcs) (x ∷ y ∷ rest) h = ap suc (length_carried arcs rest h.1)
-
--- two numbers more for one arc more
-pub paired_more : (arcs : List Arc) (rest : List ℕ) (i : ℕ) (x : ℕ) → i < length arcs → x ≡ (get_or arcs i no_arc).capacity → x < 2 ^ 64
-    → ((more : List ℕ) → IsPaired (drop i arcs) more → IsPaired arcs (rest ++ more))
-    → (more : List ℕ) → IsPaired (drop (i + 1) arcs) more → IsPaired arcs (((rest ++ x ∷ []) ++ 0 ∷ []) ++ more)
-paired_more arcs rest i x l e c h more p =
-    rw (append_assoc (rest ++ x ∷ []) (0 ∷ []) more, append_assoc rest (x ∷ []) (0 ∷ more))
-    (h (x ∷ 0 ∷ more) (rw (drop_more arcs i no_arc l) (record { sum = omega arith; capped = omega arith }, p)))
 
 pub carried_even : (arcs : List Arc) (rest more : List ℕ) → IsPaired arcs rest → carried (rest ++ more) ≡ carried rest ++ carried more
 carried_even [] [] more h = refl

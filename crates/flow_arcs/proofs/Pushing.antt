@@ -10,9 +10,6 @@ use Rattle.flow_arcs.specs.Ends.{arc_at, near_end, far_end, spare_room}
 use Rattle.flow_arcs.specs.Searches.{reached_at, IsLinked, IsSearch}
 use Rattle.flow_arcs.proofs.Sums.{within_length, within_at}
 
-set_sums : (b : Bool) (s t x y : ℕ) → t + cond b x 0 ≡ s + cond b y 0 → (z : ℕ) → (z + t) + cond b x 0 ≡ (z + s) + cond b y 0
-set_sums b s t x y h z = omega arith
-
 -- another number on one arc
 given_set : (arcs : List Arc) (flow : List ℕ) (i y node : ℕ) → i < length arcs → length flow ≡ length arcs
     → given arcs (set flow i y) node + cond ((arc_at arcs i).from == node) (get_or flow i 0) 0 ≡ given arcs flow node + cond ((arc_at arcs i).from == node) y 0
@@ -166,20 +163,6 @@ module _ (arcs : List Arc) (old on : List ℕ) (tree : List Reached) (seen : Lis
             (taken_set arcs on i y node link.numbered long)
             (subst (λ n. given arcs on node + taken arcs old node ≡ (taken arcs on node + given arcs old node) + cond (n == node) amount 0) (sym far) (p.moved node ne)));
       }
-
--- the walk begins at the sink
-pub push_begins : (arcs : List Arc) (on : List ℕ) (tree : List Reached) (seen : List ℕ) (at amount : ℕ) → IsSearch arcs on tree seen → get_or seen 1 0 ≡ at + 1 → amount ≡ (reached_at tree at).room
-    → IsPushed arcs on on tree at amount
-push_begins arcs on tree seen at amount h s a =
-    let l = h.found_low 1 in
-    let n = h.found 1 at s in
-    record {
-      low = omega arith;
-      fits = omega arith;
-      within = h.within;
-      kept = λ j q m. refl;
-      moved = λ node ne. rw (n, ne_eqb 1 node (λ e. ne (sym e))) (omega arith);
-    }
 
 -- the walk ends at the source
 pub push_ends : (net : Net) (old on : List ℕ) (tree : List Reached) (seen : List ℕ) (amount : ℕ) → IsNet net → IsLegal net old → IsSearch net.arcs old tree seen → 0 < amount → IsPushed net.arcs old on tree 0 amount

@@ -6,8 +6,8 @@ use Rattle.std.specs.List.{AllByRecursion}
 use Rattle.flow_model.specs.declared.Arc.{Arc}
 use Rattle.flow_model.specs.Flows.{Net, Joins, IsNet, IsWithin}
 use Rattle.flow_arcs.specs.declared.search.Reached.{Reached}
-use Rattle.flow_arcs.specs.Ends.{arc_at, near_end, far_end}
-use Rattle.flow_arcs.specs.Searches.{reached_at, IsLinked, zeros, IsSearch, Grows, IsDone, IsClosed}
+use Rattle.flow_arcs.specs.Ends.{arc_at, far_end}
+use Rattle.flow_arcs.specs.Searches.{reached_at, IsLinked, zeros, IsSearch, IsDone, IsClosed}
 
 -- a place with a number that isn't 0 is within the list
 pub below_length : (xs : List ℕ) (i : ℕ) → 0 < get_or xs i 0 → i < length xs
@@ -107,10 +107,6 @@ pub some_room : (arcs : List Arc) (on : List ℕ) (tree : List Reached) (seen : 
 some_room arcs on tree seen zero h l = h.root_room
 some_room arcs on tree seen (suc k) h l = (h.linked (suc k) (omega arith) l).some
 
--- the entry's place
-pub node_seen : (arcs : List Arc) (on : List ℕ) (tree : List Reached) (seen : List ℕ) (k : ℕ) → IsSearch arcs on tree seen → k < length tree → (reached_at tree k).node < length seen
-node_seen arcs on tree seen k h l = below_length seen (reached_at tree k).node (let m = h.marked k l in omega arith)
-
 -- no node is reached
 abbrev pub blank : ℕ → List ℕ
 blank n = replicate n 0
@@ -124,11 +120,6 @@ far_joined nodes [] j leaving a l = absurd (omega arith)
 far_joined nodes (arc ∷ arcs) j true zero l = j.0.to
 far_joined nodes (arc ∷ arcs) j false zero l = j.0.from
 far_joined nodes (arc ∷ arcs) j leaving (suc a) l = far_joined nodes arcs j.1 leaving a (omega arith)
-
--- the ends of the arcs are nodes
-pub near_joined : (nodes : ℕ) (arcs : List Arc) → AllByRecursion (Joins nodes) arcs → (leaving : Bool) (a : ℕ) → a < length arcs → near_end leaving (arc_at arcs a) < nodes
-near_joined nodes arcs j true a l = far_joined nodes arcs j false a l
-near_joined nodes arcs j false a l = far_joined nodes arcs j true a l
 
 -- the search that has reached the source alone
 module _ (net : Net) (on : List ℕ) (r : Reached) (n : IsNet net) (w : IsWithin net.arcs on) (node : r.node ≡ 0) (room : 0 < r.room) where
@@ -182,7 +173,3 @@ closed_from_done arcs on tree seen done h l d leaving node s =
     suc_pred : (n : ℕ) → 0 < n → n ≡ pred n + 1
     suc_pred zero p = absurd (omega arith)
     suc_pred (suc n) p = omega arith
-
--- what was done stays done
-pub done_kept : (leaving : Bool) (arcs : List Arc) (on : List ℕ) (tree tree' : List Reached) (seen seen' : List ℕ) (node : ℕ) → Grows tree tree' seen seen' → IsDone leaving arcs on seen node → IsDone leaving arcs on seen' node
-done_kept leaving arcs on tree tree' seen seen' node g d a l n r = g.kept (far_end leaving (arc_at arcs a)) (d a l n r)

@@ -8,7 +8,7 @@ use Rattle.flow_model.specs.Flows.{Net, Joins, IsNet, IsLegal, value}
 use Rattle.flow_model.proofs.Cuts.{taken-source}
 use Rattle.flow_arcs.specs.declared.send.Stop.{Stop}
 use Rattle.flow_arcs.specs.Pairs.{tails, heads, IsPaired, carried, pushed}
-use Rattle.flow_arcs.specs.Ways.{LeavesEach, IsTurns, IsStep, IsWay, owed, IsSending, IsCarried}
+use Rattle.flow_arcs.specs.Ways.{LeavesEach, IsTurns, IsWay, owed, IsSending, IsCarried}
 use Rattle.flow_arcs.proofs.Partners.{pairs_length, pushed_paired, pushed_other, pushed_moves, carried_within}
 
 -- the directed arcs enter nodes
@@ -121,20 +121,6 @@ delivered_carries net rest rank turn stop more e amount h k t i f = λ node ne.
     let m = pushed_moves net.arcs rest e amount node h.paired (omega arith) f in
     let n = rw (i, t, ne_eqb 1 node (λ q. ne (sym q))) at m in
     deliver_sums (stop.node == node) _ _ _ _ stop.got amount (owed more node) n
-
--- a new stop
-pub descended : (net : Net) (rest rank turn : List ℕ) (stop next : Stop) (more : List Stop) → IsSending net rest rank turn stop more → IsStep net.arcs rest rank next stop
-    → IsSending net rest rank turn next (stop ∷ more)
-descended net rest rank turn stop next more h s = record {
-  paired = h.paired;
-  ranks = h.ranks;
-  turns = h.turns;
-  leaves = h.leaves;
-  way = (s, h.way);
-}
-
-pub descended_carries : (arcs : List Arc) (rest : List ℕ) (stop next : Stop) (more : List Stop) → next.got ≡ 0 → IsCarried arcs rest rest (stop ∷ more) (next ∷ stop ∷ more)
-descended_carries arcs rest stop next more z = λ node ne. rw z (let c = cond_none (next.node == node) in omega arith)
 
 -- the last stop is left, at its rank or shut
 pub left : (net : Net) (rest rank rank' turn : List ℕ) (stop before : Stop) (more : List Stop) (mark : ℕ) → IsSending net rest rank turn stop (before ∷ more)

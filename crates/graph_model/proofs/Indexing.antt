@@ -179,9 +179,6 @@ abbrev pub IsBegun : Graph → ℕ → List (List ℕ) → ℕ → NameIndex →
 IsBegun g v names i index = (name : List ℕ) → ((k : ℕ) × (k < i) × (get_or names k [] ≡ name) × (finite.get index name ≡ Some v))
     ⊎ (((k : ℕ) → k < i → get_or names k [] ≢ name) × Indexes g v name (finite.get index name))
 
-pub index_begins : (g : Graph) (v : ℕ) (names : List (List ℕ)) (index : NameIndex) → IsIndex g v index → IsBegun g v names 0 index
-index_begins g v names index h = λ name. inr (λ k l. absurd (omega arith), h name)
-
 tied_same : (x y : List ℕ) → tied x y ≡ true → x ≡ y
 tied_same x y t = tells_apart (finite.slice_cmp-IsAntisymmetric finite.nat_cmp-IsAntisymmetric) x y t
 

@@ -1,7 +1,7 @@
 -- A graph has one version and one record at a number.
 use Rattle.std.proofs.Common.{◌≡◌, ℕ, ◌+◌, ◌-◌, ◌<◌, ◌≤◌, Some, List, length, get_or, refl, subst, arith}
 use Rattle.std.specs.Prelude.{slice_get}
-use Rattle.std.proofs.lemmas.Option.{same_Some, slice_get_within, slice_get_read, get_or_from_slice_get}
+use Rattle.std.proofs.lemmas.Option.{same_Some, slice_get_within, slice_get_read}
 use Rattle.std.proofs.Common.{sym, ◌∙◌}
 use Rattle.graph_model.specs.declared.graph.CellRecord.{CellRecord}
 use Rattle.graph_model.specs.declared.graph.Version.{Version}
@@ -34,12 +34,3 @@ version_read g ys i x same l e =
     let P : ℕ → Type 0 = λ k. slice_get g.versions k ≡ Some x in
     let Q : List Version → Type 0 = λ zs. slice_get zs i ≡ Some x in
     (omega arith, subst P (sym e1) (subst Q same (slice_get_read ys (length ys) i x refl l e)))
-
--- what fails at each place of the list of versions fails of each version
-pub none_of_versions : (g : Graph) (P : ℕ → Version → Type 0) → ((k : ℕ) (d : Version) → k < length g.versions → P (k + 1) (get_or g.versions k d) → ⊥)
-    → (u : ℕ) (y : Version) → VersionAt g u y → P u y → ⊥
-none_of_versions g P h u y at p =
-    let w = version_within g u y at in
-    let same : u ≡ u - 1 + 1 = omega arith in
-    let Q : ℕ → Type 0 = λ k. P k y in
-    h (u - 1) y (omega arith) (subst (P (u - 1 + 1)) (sym (get_or_from_slice_get g.versions (u - 1) y y at.1)) (subst Q same p))

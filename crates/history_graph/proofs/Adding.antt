@@ -1,14 +1,13 @@
 -- Sets of names with names added.
-use Rattle.std.proofs.Common.{◌≡◌, ℕ, ◌+◌, ◌<◌, ◌≤◌, true, false, Option, Some, None, is_some, Bor, Result, Ok, Err, is_err, OnOk, List, [], ◌∷◌, length, get_or, take, refl, sym, ap, ◌∙◌, ◌⊎◌, inl, inr, subst, arith}
+use Rattle.std.proofs.Common.{◌≡◌, ℕ, ◌+◌, ◌<◌, true, false, Option, Some, None, is_some, Bor, Result, Ok, Err, is_err, OnOk, List, [], ◌∷◌, length, get_or, take, refl, sym, ap, ◌∙◌, ◌⊎◌, inl, inr, subst, arith}
 use Rattle.std.specs.Prelude.{Contains, slice_get}
 use Rattle.std.specs.Option.{option_copied}
 use Rattle.std.proofs.lemmas.Bool.{false≢true}
 use Rattle.std.proofs.lemmas.Option.{none-some, slice_get_read}
-use Rattle.std.proofs.lemmas.List.{take_more, take_all, get_or_default}
+use Rattle.std.proofs.lemmas.List.{take_more, get_or_default}
 use Rattle.std.proofs.lemmas.List.Elements.{Contains-push_cases, Contains-push, Contains-append_left}
 use Rattle.py_machine.specs.Marked.{Name, with_member}
 use Rattle.py_laws.proofs.Members.{name_kept, name_newly, name_before}
-use Rattle.py_laws.proofs.Partners.{none_in}
 use Rattle.history_graph.specs.Sets.{Names, Has, IsWith, IsWithThose}
 
 -- one more
@@ -72,18 +71,6 @@ module _ (names : List Name) (i : ℕ) (x : Name) (l : i < length names) (e : ge
         | inr c ↦ elim (shorter y c.0) [ inl b ↦ (h y).1 (inr (b, c.1)) | inr same ↦ absurd (n (subst (λ z. Has those z) (sym same) c.1)) ]
       ],
     )
-
-pub with_none : (s : Names) (names : List Name) → IsWith s (take 0 names) s
-with_none s names = λ x. (λ h. inl h, λ k. elim k [ inl h ↦ h | inr none ↦ absurd (none_in x none) ])
-
-pub those_none : (s : Names) (names : List Name) (those : Names) → IsWithThose s (take 0 names) those s
-those_none s names those = λ x. (λ h. inl h, λ k. elim k [ inl h ↦ h | inr none ↦ absurd (none_in x none.0) ])
-
-pub with_all : (old s : Names) (names : List Name) (i : ℕ) → length names ≤ i → IsWith old (take i names) s → IsWith old names s
-with_all old s names i l h = subst (λ ns. IsWith old ns s) (take_all i names l) h
-
-pub those_all : (old s : Names) (names : List Name) (those : Names) (i : ℕ) → length names ≤ i → IsWithThose old (take i names) those s → IsWithThose old names those s
-those_all old s names those i l h = subst (λ ns. IsWithThose old ns those s) (take_all i names l) h
 
 -- ---- an element by its place
 

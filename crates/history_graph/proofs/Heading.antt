@@ -1,11 +1,10 @@
 -- What a cell left, one part and one name after the other.
-use Rattle.std.proofs.Common.{◌≡◌, ℕ, ◌+◌, ◌<◌, ◌≤◌, List, [], length, get_or, take, Some, refl, sym, ap, ◌∙◌, inl, inr, subst, arith}
+use Rattle.std.proofs.Common.{◌≡◌, ℕ, ◌+◌, ◌<◌, ◌≤◌, List, [], length, get_or, take, Some, sym, ap, ◌∙◌, inl, inr, subst, arith}
 use Rattle.std.specs.Prelude.{slice_get}
 use Rattle.std.specs.FinMap as finite
 use Rattle.std.specs.Ordering.{nat_cmp}
 use Rattle.std.specs.Cmp.Lexicographic.{slice_cmp}
 use Rattle.std.proofs.lemmas.Bool.{cases_eq}
-use Rattle.std.proofs.lemmas.List.{take_all}
 use Rattle.std.proofs.lemmas.Option.{none-some, same_Some, slice_get_within}
 use Rattle.std.proofs.lemmas.List.Elements.{All-contains}
 use Rattle.py_laws.proofs.Members.{name_cases}
@@ -16,7 +15,7 @@ use Rattle.graph_model.specs.Faults.{Ascends, least_name}
 use Rattle.linked_parts.specs.declared.parts.Part.{Part}
 use Rattle.linked_parts.specs.declared.parts.Parts.{Parts}
 use Rattle.linked_parts.specs.Parts.{HasValue, HasNone, IsPartOf, LeastBelow, ArePartsOf}
-use Rattle.linked_parts.proofs.Lists.{none_in, least_there}
+use Rattle.linked_parts.proofs.Lists.{least_there}
 use Rattle.linked_parts.proofs.Names.{linked_values}
 use Rattle.run_graph.proofs.Growing.{in_of_get}
 use Rattle.history_graph.specs.declared.heads.Left.{Left}
@@ -105,9 +104,6 @@ within_push now heads name i l h other n e = elim (name_cases name other) [
 
 -- ---- the names that it deleted
 
-pub adds_none : (s : State) (names : List Name) (heads : Heads) → AddsGone s (take 0 names) heads heads
-adds_none s names heads = λ x. inr (λ k. none_in x k.0, refl)
-
 module _ (s : State) (names : List Name) (i : ℕ) (x : Name) (l : i < length names) (at : get_or names i [] ≡ x) (old now : Heads) (h : AddsGone s (take i names) old now) where
   pub adds_more : HasNone s x → AddsGone s (take (i + 1) names) old (finite.insert now x left.Gone)
   adds_more none = λ y. elim (name_cases x y) [
@@ -129,9 +125,6 @@ module _ (s : State) (names : List Name) (i : ℕ) (x : Name) (l : i < length na
       b.1,
     )
   ]
-
-pub adds_all : (s : State) (names : List Name) (i : ℕ) (old now : Heads) → length names ≤ i → AddsGone s (take i names) old now → AddsGone s names old now
-adds_all s names i old now l h = subst (λ ns. AddsGone s ns old now) (take_all i names l) h
 
 -- ---- both
 
@@ -170,9 +163,3 @@ module _ (before now : Parts) (marks : Marks) (s : State) (heads all : Heads) (a
       | inr b ↦ absurd (b.0 (in_keys marks.bound name gone.0.is, gone.1))
     ];
   }
-
-pub within_still : (now : Parts) (s : State) (names : List Name) (heads all : Heads) → AddsGone s names heads all → AreWithin now heads → AreWithin now all
-within_still now s names heads all adds h name n e = elim (adds name) [
-  | inl a ↦ absurd (gone_not_part n (sym a.2 ∙ e))
-  | inr b ↦ h name n (sym b.1 ∙ e)
-]

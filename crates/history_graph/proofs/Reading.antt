@@ -3,7 +3,6 @@ use Rattle.std.proofs.Common.{ℕ, ◌+◌, ◌<◌, ◌≤◌, List, [], ◌∷
 use Rattle.std.specs.Prelude.{Contains, ◌↔◌}
 use Rattle.std.proofs.lemmas.Bool.{cases_eq}
 use Rattle.std.proofs.lemmas.List.Elements.{Contains-push_cases, Contains-push, Contains-append_left}
-use Rattle.py_laws.proofs.Partners.{none_in}
 use Rattle.py_machine.specs.declared.marks.Marks.{Marks}
 use Rattle.graph_model.specs.declared.graph.Version.{Version}
 use Rattle.graph_model.specs.declared.graph.Graph.{Graph}
@@ -11,12 +10,6 @@ use Rattle.graph_model.specs.Graphs.{VersionAt}
 use Rattle.graph_model.proofs.Ascending.{ascends-push}
 use Rattle.graph_model.proofs.Lookups.{of_version, version_within}
 use Rattle.history_graph.specs.Touched.{IsTouched, Reads, AreReadsTo}
-
-pub reads_none : (g : Graph) (marks : Marks) → AreReadsTo g marks 0 []
-reads_none g marks = record {
-  ascends = tt;
-  reads = λ v. (λ h. absurd (none_in v h), λ k. let l = k.0 in let p = k.1.1.0 in let none : ⊥ = omega (arith, p, l) in absurd none);
-}
 
 module _ (g : Graph) (marks : Marks) (i : ℕ) (reads : List ℕ) (h : AreReadsTo g marks i reads) (x : Version) (at : VersionAt g (i + 1) x) where
   pub reads_push : IsTouched marks x → AreReadsTo g marks (i + 1) (reads ++ (i + 1) ∷ [])

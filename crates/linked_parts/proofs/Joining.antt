@@ -24,9 +24,6 @@ joined_from from into label e = elim (eqb_tells label from) [ inl t ↦ cond-tru
 pub joined_other : (from into label : ℕ) → label ≢ from → joined from into label ≡ label
 joined_other from into label n = elim (eqb_tells label from) [ inl t ↦ absurd (n t.1) | inr f ↦ cond-false (label == from) into label f.0 ]
 
-pub relabelled_none : (from into : ℕ) (old : List ℕ) → IsRelabelledTo from into old old 0
-relabelled_none from into old = record { size = refl; before = λ k l. absurd (omega arith); after = λ k l. refl }
-
 pub relabelled_more : (from into : ℕ) (old now : List ℕ) (count label : ℕ) → IsRelabelledTo from into old now count → count < length now
     → label ≡ joined from into (slice_index now count) → IsRelabelledTo from into old (set now count label) (count + 1)
 relabelled_more from into old now count label r l e = record {
@@ -162,9 +159,6 @@ module _ (s : State) (names : List Name) (labels : List ℕ) (owners : List (Opt
               let head : slice_index more m ≡ m = now_at m m_in ∙ (ap (joined from into) (c.heads k k_in) ∙ joined_other from into m f) in
               ap (slice_index more) e ∙ (head ∙ sym e)
         ]
-
-    linked_as : (j k : ℕ) → j < length names → k < length names → slice_index labels j ≡ slice_index labels k → Linked s (name_at names j) (name_at names k)
-    linked_as = c.linked
 
     -- one has the label that went, the other the one that came
     across : (j k : ℕ) → j < length names → k < length names → slice_index labels j ≡ from → slice_index labels k ≡ into → Linked s (name_at names j) (name_at names k)

@@ -19,7 +19,7 @@ use Rattle.std.proofs.lemmas.Map.Views.{Contains-from_any, list_any-from_Contain
 use Rattle.py_value.specs.declared.value.Value.{Value}
 use Rattle.py_heap.specs.declared.state.State.{State}
 use Rattle.py_heap.specs.References.{value_refs}
-use Rattle.py_heap.specs.Reaching.{held_refs, name_refs, Reach}
+use Rattle.py_heap.specs.Reaching.{held_refs}
 use Rattle.py_heap.specs.Reaching as reaching
 use Rattle.py_machine.specs.Marked.{Name}
 use Rattle.graph_model.specs.Faults.{TextBelow}

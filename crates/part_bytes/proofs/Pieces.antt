@@ -1,10 +1,9 @@
 -- Bytes that are written one piece after the other.
-use Rattle.std.proofs.Common.{◌≡◌, ℕ, ◌+◌, ◌<◌, List, [], ◌∷◌, ◌++◌, length, get_or, take, map, Some, refl, sym, ap, ◌∙◌, subst, arith}
-use Rattle.std.specs.Prelude.{All, slice_get, option_to_list}
+use Rattle.std.proofs.Common.{◌≡◌, ℕ, ◌+◌, ◌<◌, List, [], ◌∷◌, ◌++◌, length, get_or, take, map, Some, refl, sym, ap, ◌∙◌, arith}
+use Rattle.std.specs.Prelude.{slice_get}
 use Rattle.std.specs.List.{flat_map}
-use Rattle.std.proofs.lemmas.List.{append-nil, append_assoc, length-append, map-append, take_more, flat_map_more}
+use Rattle.std.proofs.lemmas.List.{append_assoc, length-append, map-append, take_more, flat_map_more}
 use Rattle.std.proofs.lemmas.List.Elements.{All-head, All-tail}
-use Rattle.std.proofs.lemmas.Grind.{flat_map-append}
 use Rattle.std.proofs.lemmas.Option.{slice_get_within, get_or_from_slice_get}
 use Rattle.py_value.specs.declared.key.Key.{Key}
 use Rattle.py_value.specs.declared.value.Value.{Value}
@@ -13,7 +12,7 @@ use Rattle.py_heap.specs.declared.heap.Object.{Object}
 use Rattle.py_heap.specs.declared.state.State.{State}
 use Rattle.py_heap.specs.Dicts.{Pairs}
 use Rattle.py_heap.specs.References.{AreLive}
-use Rattle.part_bytes.specs.Parts.{order, number_in, numbered, numbered_pair, numbered_object, objects_of, held_of, part_of}
+use Rattle.part_bytes.specs.Parts.{order, number_in, numbered, numbered_pair, numbered_object, objects_of, held_of}
 use Rattle.part_bytes.specs.Texts.{four, name_bytes, value_bytes, held_bytes, pair_bytes, object_bytes, bytes_of, part_text}
 use Rattle.part_bytes.proofs.Places.{there}
 
@@ -45,17 +44,6 @@ pair_more number old out key_out more pairs i key value at e k v =
 module _ (s : State) (number : ℕ → ℕ) where
   one_object : (at : ℕ) (o : Object) → slice_get s.heap at ≡ Some o → objects_of s number at ≡ numbered_object number o ∷ []
   one_object at o e = rw e refl
-
-  pub object_more : (old out more found : List ℕ) (i : ℕ) (o : Object) → i < length found → slice_get s.heap (get_or found i 0) ≡ Some o
-      → out ≡ old ++ flat_map object_bytes (flat_map (objects_of s number) (take i found)) → more ≡ out ++ object_bytes (numbered_object number o)
-      → more ≡ old ++ flat_map object_bytes (flat_map (objects_of s number) (take (i + 1) found))
-  object_more old out more found i o l at e k =
-      let x : ℕ = get_or found i 0 in
-      let front : List Object = flat_map (objects_of s number) (take i found) in
-      let last : flat_map (objects_of s number) (x ∷ []) ≡ numbered_object number o ∷ [] = append-nil (objects_of s number x) ∙ one_object x o at in
-      let all : flat_map (objects_of s number) (take (i + 1) found) ≡ front ++ numbered_object number o ∷ [] =
-      ap (flat_map (objects_of s number)) (take_more found i 0 l) ∙ (flat_map-append (objects_of s number) (take i found) (x ∷ []) ∙ ap (λ (os : List Object). front ++ os) last) in
-      piece_more object_bytes old out more front (numbered_object number o) e k ∙ ap (λ (os : List Object). old ++ flat_map object_bytes os) (sym all)
 
   -- each address of an object has one
   pub as_many : (found : List ℕ) → AreLive s.heap found → length (flat_map (objects_of s number) found) ≡ length found

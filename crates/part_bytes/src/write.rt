@@ -25,6 +25,7 @@ fn write_name(out: &mut Items<u8>, name: &Text) -> Result<(), AllocError>
     out.extend_from_slice(text.as_bytes())
 }
 
+/// Names, each after its length. One of more than 255 bytes is want of memory.
 pub fn write_names(out: &mut Items<u8>, names: &[Text]) -> Result<(), AllocError>
     ensures { OnOk result (out.new ≡ out.old ++ flat_map spec.name_bytes names.now) }
 {

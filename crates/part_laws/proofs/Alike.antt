@@ -11,7 +11,7 @@ use Rattle.py_heap.specs.declared.heap.Object.{Object}
 use Rattle.py_heap.specs.declared.heap.Object.TheVariants as object
 use Rattle.py_heap.specs.declared.state.State.{State}
 use Rattle.py_heap.specs.References.{value_refs, pair_refs, object_refs, IsClosed}
-use Rattle.py_heap.specs.Reaching.{held_refs, name_refs, refs_at, firsts, met}
+use Rattle.py_heap.specs.Reaching.{held_refs, name_refs, refs_at, met}
 use Rattle.py_machine.specs.Runs.{Name}
 use Rattle.py_laws.specs.Same.{ValuesMatch, equal, refs, PairsMatch, ObjectsMatch, BothOrNone, Both, HasPair, SameBy, Same}
 use Rattle.py_laws.proofs.Zipped.{zip_append}

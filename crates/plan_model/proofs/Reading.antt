@@ -12,7 +12,7 @@ use Rattle.graph_model.specs.declared.graph.Graph.{Graph}
 use Rattle.graph_model.specs.Graphs.{CellAt, VersionAt, IsActive, ReadsOldOf}
 use Rattle.graph_model.specs.Faults.{IsGraph}
 use Rattle.graph_model.specs.Networks.{count_up, cell_numbers, is_active_at, actives, is_old_of, reads_of, old_writers, writer_of}
-use Rattle.graph_model.proofs.Lookups.{version_within, cell_within}
+use Rattle.graph_model.proofs.Lookups.{version_within}
 use Rattle.graph_model.proofs.Needing.{writer_within}
 use Rattle.plan_model.proofs.Ascents.{Rises, rises-tail}
 use Rattle.plan_model.proofs.Deciding.{contains-cases, contains-nil}
@@ -46,9 +46,6 @@ cell_numbers-at g c m =
 
 pub cell_numbers-has : (g : Graph) (c : ℕ) → 0 < c → c ≤ length g.cells → Contains (cell_numbers g) c
 cell_numbers-has g c p l = count_up-has 1 (length g.cells) c (omega arith) (omega arith)
-
-pub cell_numbers-from : (g : Graph) (c : ℕ) (x : CellRecord) → CellAt g c x → Contains (cell_numbers g) c
-cell_numbers-from g c x at = let w = cell_within g c x at in cell_numbers-has g c w.0 w.1
 
 -- the active versions
 

@@ -14,7 +14,7 @@ use Rattle.py_expressions.specs.Held.{held_upper, held_opened, held}
 use Rattle.py_expressions.specs.Written.{written_around}
 use Rattle.py_expressions.specs.Endings.{listed, listed_on}
 use Rattle.py_expressions.specs.Steps as steps
-use Rattle.py_expressions.specs.Steps.{Step, bracket_goes_on, behind_word, relation_at}
+use Rattle.py_expressions.specs.Steps.{bracket_goes_on, behind_word, relation_at}
 use Rattle.py_expressions.proofs.Chains.{last, before_last, compare_goes_on-last, with_nots}
 use Rattle.py_expressions.proofs.Closed.{seen, close_parenthesis_after-seen, close_bracket_after-seen, close_brace_after-seen, comma_after-seen, colon_after-seen, at_sign-none}
 

@@ -24,7 +24,7 @@ use Rattle.py_expressions.specs.Endings.{span, settled, compared_of, sum_ended}
 use Rattle.py_expressions.specs.Steps as e
 use Rattle.py_expressions.specs.Steps.{begun, is_bare}
 use Rattle.py_expressions.specs.Places as ex
-use Rattle.py_expressions.specs.Places.{may_end, ended_behind, place_written, is_alone, placed, is_begun, is_narrow, is_whole}
+use Rattle.py_expressions.specs.Places.{may_end, ended_behind, place_written, placed, is_begun, is_narrow, is_whole}
 use Rattle.py_statements.specs.declared.state.Head.{Head}
 use Rattle.py_statements.specs.declared.state.Head.TheVariants as head
 use Rattle.py_statements.specs.declared.state.Outer.{Outer}

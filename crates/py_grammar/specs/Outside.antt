@@ -6,7 +6,7 @@ use Rattle.py_grammar.specs.declared.constructs.Construct.TheVariants.{Word as W
 use Rattle.py_token.specs.declared.kinds.Keyword.TheVariants as k
 use Rattle.py_grammar.specs.Words.{not_word, for_word, none_word, def_word, as_word, assert_word, async_word, await_word, class_word, except_word, finally_word, from_word, import_word, lambda_word, nonlocal_word, raise_word, try_word, with_word, yield_word, assign_sign, open_parenthesis, close_parenthesis, close_brace, comma}
 use Rattle.py_grammar.specs.Expressions.{Expression, compares_none, compares_not_none}
-use Rattle.py_grammar.specs.Readings.{Upper, upper, Lower, lower, in_group, in_display, in_dict, in_call, Opened, opened, Reading, wants, has, has_none, has_not_none, after_is, after_is_not, after_not, after_dot, after_method, is_empty, compares_of, expression_of, whole}
+use Rattle.py_grammar.specs.Readings.{Upper, upper, Lower, lower, in_group, in_display, in_dict, in_call, Opened, opened, Reading, wants, has, has_none, has_not_none, after_is, after_is_not, after_method, is_empty, compares_of, expression_of, whole}
 use Rattle.py_grammar.specs.Statements.{IsFailing}
 use Rattle.py_grammar.specs.States.{Outer, Purpose, deleting, assigning, State, line, in_simple, in_test, has_params, after_colon, StandsAt, state_stands}
 

@@ -1,5 +1,5 @@
 -- A cell's end, from the run that gave it.
-use Rattle.std.proofs.Common.{◌≡◌, ℕ, true, List, [], Option, Result, Ok, Err, refl, sym, ap, ◌∙◌, subst}
+use Rattle.std.proofs.Common.{◌≡◌, ℕ, true, List, [], Option, Result, Ok, Err, refl, sym, subst}
 use Rattle.std.proofs.lemmas.List.{append-nil}
 use Rattle.nb_outside.specs.Feeds.{Seen, Fed}
 use Rattle.nb_outside.proofs.Feeding.{fed_none}
@@ -9,7 +9,6 @@ use Rattle.py_machine.specs.declared.error.Fault.{Fault}
 use Rattle.py_machine.specs.declared.error.Fault.TheVariants.{OutOfMemory, DrawFailed, Raised}
 use Rattle.py_machine.specs.declared.machine.Machine.{Machine}
 use Rattle.py_machine.specs.Runs.{Outcome, Stop, asks, start, tells, told, Runs}
-use Rattle.py_meaning.specs.declared.end.CellEnd.{CellEnd}
 use Rattle.py_meaning.specs.declared.end.CellError.{CellError}
 use Rattle.py_meaning.specs.Acts.{run}
 use Rattle.py_meaning.specs.Cells.{Asks, UsesUp, outcome, result_in, error_in, end_of, end}

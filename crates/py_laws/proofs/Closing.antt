@@ -24,7 +24,7 @@ module _ (ps : ℕ → ℕ → Type 0) (n : ℕ) (below : (a b : ℕ) → ps a b
   abbrev Below : List ℕ → Type 0
   Below ns = All (λ at. at < n) ns
 
-  live_value : (v w : Value) → ValuesMatch ps v w → Below (value_refs v)
+  pub live_value : (v w : Value) → ValuesMatch ps v w → Below (value_refs v)
   live_value _ _ (equal v none) = subst Below (sym none) (All-nil (λ at. at < n))
   live_value _ _ (refs a b p) = All-cons (λ at. at < n) a [] (below a b p) (All-nil (λ at. at < n))
 
@@ -38,7 +38,7 @@ module _ (ps : ℕ → ℕ → Type 0) (n : ℕ) (below : (a b : ℕ) → ps a b
   live_pairs (v ∷ vs) (w ∷ ws) h = All-append (λ at. at < n) (pair_refs v) (flat_map pair_refs vs) (live_value v.1 w.1 h.0.1) (live_pairs vs ws h.1)
   live_pairs (v ∷ vs) [] h = absurd h
 
-  live_object : (o u : Object) → ObjectsMatch ps o u → Below (object_refs o)
+  pub live_object : (o u : Object) → ObjectsMatch ps o u → Below (object_refs o)
   live_object (object.List vs) (object.List ws) h = live_items vs ws h
   live_object (object.Dict vs) (object.Dict ws) h = live_pairs vs ws h
   live_object (object.List vs) _ h = absurd h

@@ -1,6 +1,6 @@
 -- What a `for` goes over respects alikeness: its start, and what comes next.
 use Rattle.std.proofs.Common.{◌≡◌, ℕ, ℤ, ◌+◌, ◌==◌, Bool, true, false, cond, List, [], length, Option, Some, None, refl, ap, subst}
-use Rattle.std.specs.Prelude.{pos, codes, slice_get}
+use Rattle.std.specs.Prelude.{pos, codes}
 use Rattle.py_value.specs.declared.key.Key.{Key}
 use Rattle.py_value.specs.declared.value.Value.{Value}
 use Rattle.py_value.specs.declared.value.Value.TheVariants as value

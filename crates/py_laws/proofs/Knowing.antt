@@ -1,7 +1,7 @@
 -- A cell uses only names that stand in its statements or in functions of its state: the two runs of the law that it keeps a state
 -- closed, under the rules of such names.
 use Rattle.std.proofs.Common.{◌≡◌, ℕ, Bool, true, false, IsTrue, cond, List, [], ◌∷◌, ◌++◌, get_or, map, Option, Some, None, refl, subst, arith, ◌⊎◌, inl, inr}
-use Rattle.std.specs.Prelude.{All, slice_get}
+use Rattle.std.specs.Prelude.{slice_get}
 use Rattle.std.specs.List.{AllByRecursion}
 use Rattle.std.proofs.lemmas.Option.{slice_get-get_or, slice_get_within, get_or_from_slice_get}
 use Rattle.std.proofs.lemmas.List.Elements.{All-from_recursion, recursion_from_All}

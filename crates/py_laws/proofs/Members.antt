@@ -47,9 +47,6 @@ looked_newly false s x e = name_newly s x
 
 -- ---- addresses
 
-pub number_cases : (x y : ℕ) → (x ≡ y) ⊎ (x ≡ y → ⊥)
-number_cases x y = sets.cases nat_cmp_total nat_cmp-IsAntisymmetric x y
-
 pub number_kept : (s : Numbers) (x y : ℕ) → IsIn s y → IsIn (with_member s x) y
 number_kept s x y i = sets.kept nat_cmp_total nat_cmp-IsAntisymmetric s x y i
 

@@ -32,7 +32,7 @@ use Rattle.py_meaning.specs.Texts.{begins, ends, split_at}
 use Rattle.py_meaning.specs.Methods.{list_bound, dict_bound, text_bound, object_bound, not_bound, method_of, append, items_in, inserted, insert_at, taken_out, popped_at, popped, pop_at, pop_number, extend, extended_by, extended_at, extend_with, clear, list_method, pairs_in, value_or, get, pop_key, dict_method, with_text, texts_of, texts_in, texts_joined, join_at, join, as_texts, split, starts_with, ends_with, text_method, method_called}
 use Rattle.py_laws.specs.Same.{equal, refs}
 use Rattle.py_laws.proofs.Zipped.{zip_length, under_match, Zips, no_more, one_more, zips}
-use Rattle.py_laws.proofs.Respecting.{Setting, Paired, BoundMethodsMatch, list_methods, dict_methods, text_methods, ChangesMatch, push, extends, insert, remove, drop, Respects, Any, Equal, next, pure_respects, fail_respects}
+use Rattle.py_laws.proofs.Respecting.{Setting, Paired, BoundMethodsMatch, list_methods, dict_methods, text_methods, ChangesMatch, push, extends, insert, remove, drop, Respects, Any, next, pure_respects, fail_respects}
 use Rattle.py_laws.proofs.Respecting as matched
 use Rattle.py_laws.proofs.LeastActs.{Values, Slots, Listed, listed, charge_respects, change_respects, object_at_respects, kind_of_respects}
 use Rattle.py_laws.proofs.Slotted.{Kinds, lists, dicts, kinds, same_kind}

@@ -6,14 +6,14 @@ use Rattle.std.proofs.lemmas.Option.{slice_get-get_or, slice_get_within, get_or_
 use Rattle.std.proofs.lemmas.List.Elements.{All-head, All-tail}
 use Rattle.nb_outside.specs.declared.feed.Drawn.{Drawn}
 use Rattle.py_names.specs.Names.{is_variable}
-use Rattle.py_tree.specs.declared.expressions.Expr.{Expr, out-Expr}
+use Rattle.py_tree.specs.declared.expressions.Expr.{out-Expr}
 use Rattle.py_tree.specs.declared.expressions.Target.{Target}
 use Rattle.py_tree.specs.declared.expressions.Target.TheVariants as target
 use Rattle.py_tree.specs.declared.statements.Arm.{Arm, out-Arm}
 use Rattle.py_tree.specs.declared.statements.Def.{Def}
 use Rattle.py_tree.specs.declared.statements.Stmt.{Stmt, out-Stmt}
 use Rattle.py_tree.specs.declared.statements.Stmt.TheOpen.{Stmt-F, Arm-F}
-use Rattle.py_tree.specs.declared.statements.Stmt.TheFolds.{every-Stmt, every-Arm, every-Def, every_here-Stmt, every_held-Stmt, every_held-Arm, every_made-Stmt, map-Stmt}
+use Rattle.py_tree.specs.declared.statements.Stmt.TheFolds.{every-Stmt, every-Arm, every-Def, every_here-Stmt, every_held-Stmt, every_held-Arm, map-Stmt}
 use Rattle.py_tree.specs.declared.statements.Stmt.TheVariants as s
 use Rattle.py_value.specs.declared.value.Value.{Value}
 use Rattle.py_heap.specs.declared.heap.Object.{Object}
@@ -30,7 +30,7 @@ use Rattle.py_meaning.specs.Cells.{outcome, end_state}
 use Rattle.py_meaning.specs.Meaning.{cell}
 use Rattle.py_meaning.proofs.Growing.{Rises, rises}
 use Rattle.py_laws.specs.Same.{Every}
-use Rattle.py_laws.specs.Allowed.{MayBindAt, IsAllowedHere, ArmAny, DefAny, IsAllowed, AreAllowed}
+use Rattle.py_laws.specs.Allowed.{MayBindAt, IsAllowedHere, ArmAny, DefAny, AreAllowed}
 use Rattle.py_laws.proofs.Sameness.{Itself, same_by_itself}
 use Rattle.py_laws.proofs.Rules.{Rules, IfThere, BindsAt, Opens, NameAny, ExprAny, any_if, any_looks, any_deleted}
 use Rattle.py_laws.proofs.Respecting.{Setting, Alike, Ends, Equal}
@@ -117,12 +117,6 @@ module _ (IsOfKind : Def → Type 0) where
       let w = every_held-Stmt (IsAllowedHere IsOfKind) ArmAny DefAny s h in
       let here : IsAllowedHere IsOfKind (out-Stmt s) = every_here-Stmt (IsAllowedHere IsOfKind) ArmAny DefAny s h in
       subst (λ x. IsAllowedHere IsOfKind x → OpensHere x) w.1 (opens w.0) here
-
-  -- as of an assignment to a name that may be bound
-  assignment_allowed : (name : Name) (e : Expr) → May name → IsAllowed IsOfKind (s.Assign (target.Name name) e)
-  assignment_allowed name e h =
-      subst (IsAllowed IsOfKind) (s.rolls-Assign (target.Name name) e)
-      (every_made-Stmt (IsAllowedHere IsOfKind) ArmAny DefAny (Stmt-F.Assign (target.Name name) e) (Stmt-F.Assign (target.Name name) e) refl h)
 
   -- ---- objects
 

@@ -15,8 +15,6 @@ mod machine;
 mod marks;
 mod method;
 mod numbers;
-#[cfg(test)]
-mod tests;
 mod text_rest;
 mod type_errors;
 

@@ -1,5 +1,5 @@
 -- Steps and the meter never fall, and stay within their limits; no object goes.
-use Rattle.std.proofs.Common.{◌≡◌, ℕ, ◌≤◌, List, [], ◌∷◌, ◌++◌, length, length-append, arith, refl}
+use Rattle.std.proofs.Common.{◌≡◌, ℕ, ◌≤◌, [], ◌∷◌, length, length-append, arith, refl}
 use Rattle.std.proofs.Math.ListN.{length-set}
 use Rattle.py_machine.specs.declared.machine.Machine.{Machine}
 use Rattle.py_machine.specs.Runs.{step, charge}

@@ -2,7 +2,7 @@
 use Rattle.std.proofs.Common.{◌≡◌, ℕ, zero, suc, Bool, true, false, cond, List, [], ◌∷◌, ◌++◌, length, Option, Some, None, Result, Ok, Err, refl, sym, arith}
 use Rattle.std.proofs.lemmas.List.{append-nil}
 use Rattle.std.proofs.lemmas.List.Elements.{Contains-append_right}
-use Rattle.std.specs.Prelude.{Contains, slice_get, nat_lt, nat_le}
+use Rattle.std.specs.Prelude.{Contains, slice_get}
 use Rattle.std.specs.FinMap as finite
 use Rattle.nb_outside.specs.declared.feed.Drawn.{Drawn}
 use Rattle.nb_outside.specs.declared.feed.Drawn.TheVariants as answer
@@ -19,8 +19,7 @@ use Rattle.py_machine.specs.declared.frame.Slot.TheVariants.{Empty, Held}
 use Rattle.py_machine.specs.declared.machine.Machine.{Machine}
 use Rattle.py_machine.specs.Builtins.{builtin_named}
 use Rattle.py_machine.specs.Errors.{name_error, unbound_error, step_limit_error, memory_error}
-use Rattle.py_machine.specs.Marked as event
-use Rattle.py_machine.specs.Runs.{Name, Outcome, Stop, raised, draw_failed, asks, Runs, after, marked, slot, built_in, found, looked, met, sought, taken}
+use Rattle.py_machine.specs.Runs.{Name, Outcome, Stop, raised, draw_failed, asks, Runs, after, slot, built_in, found, looked, met, sought, taken}
 use Rattle.py_machine.specs.Runs as runs
 use Rattle.py_meaning.specs.Acts.{Act, run, pure, fail, chain, step, charge, look, seek, bind, unbind, is_local, enter, leave, add, object_at, change, write, draw}
 use Rattle.py_meaning.specs.Cells.{Asks}

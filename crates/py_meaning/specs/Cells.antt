@@ -1,5 +1,5 @@
 -- A cell from a state, under draws: what it gives, what it leaves, and its trace.
-use Rattle.std.specs.Prelude.{◌≡◌, ℕ, List, [], Option, Some, None, Result, Ok, Err}
+use Rattle.std.specs.Prelude.{◌≡◌, ℕ, List, Option, Some, None, Result, Ok, Err}
 use Rattle.nb_outside.specs.declared.feed.Drawn.{Drawn}
 use Rattle.py_tree.specs.declared.statements.Stmt.{Stmt}
 use Rattle.py_heap.specs.declared.state.State.{State}

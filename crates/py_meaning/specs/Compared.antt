@@ -1,5 +1,5 @@
 -- When values are equal, in order or in one another, as acts, by the levels left. (Python reference: comparisons.)
-use Rattle.std.specs.Prelude.{ℕ, zero, suc, ℤ, pos, Bool, true, false, not, ◌&&◌, ◌==◌, List, [], ◌∷◌, length, is_some, Option, Some, None}
+use Rattle.std.specs.Prelude.{ℕ, zero, suc, ℤ, Bool, true, false, not, ◌==◌, List, [], ◌∷◌, length, is_some, Option, Some, None}
 use Rattle.std.specs.declared.cmp.Ordering.{Ordering}
 use Rattle.std.specs.declared.cmp.Ordering.TheVariants as order
 use Rattle.std.specs.Ordering.{nat_cmp, int_cmp, int_eq}
@@ -14,7 +14,7 @@ use Rattle.py_value.specs.declared.value.Value.TheVariants as value
 use Rattle.py_heap.specs.declared.heap.Object.{Object}
 use Rattle.py_heap.specs.declared.heap.Object.TheVariants as object
 use Rattle.py_heap.specs.Dicts.{Pairs, value_under}
-use Rattle.py_machine.specs.Changes.{list_in, object_kind}
+use Rattle.py_machine.specs.Changes.{object_kind}
 use Rattle.py_machine.specs.Errors.{recursion_error, not_ordered, not_searched, not_in_text}
 use Rattle.py_meaning.specs.Acts.{Act, ◌>>=◌, ◌>>◌, pure, fail, step, object_at, list_at, kind_of, choose}
 use Rattle.py_meaning.specs.Numbers.{as_number}

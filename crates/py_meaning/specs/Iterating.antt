@@ -1,5 +1,5 @@
 -- What a `for` goes over, and what comes next. (Python reference: the `for` statement, ranges.)
-use Rattle.std.specs.Prelude.{ℕ, ◌+◌, ◌==◌, ℤ, pos, ◌+ℤ◌, Bool, true, false, cond, codes, List, [], ◌∷◌, length, slice_get, int_lt, Option, Some, None}
+use Rattle.std.specs.Prelude.{ℕ, ◌+◌, ◌==◌, ℤ, pos, ◌+ℤ◌, Bool, cond, codes, List, [], ◌∷◌, length, slice_get, int_lt, Option, Some, None}
 use Rattle.py_value.specs.declared.key.Key.{Key}
 use Rattle.py_value.specs.declared.value.Value.{Value}
 use Rattle.py_value.specs.declared.value.Value.TheVariants as value

@@ -35,7 +35,6 @@ use Rattle.py_machine.specs.declared.frame.Change.TheVariants as changes
 use Rattle.py_machine.specs.declared.frame.Flow.{Flow}
 use Rattle.py_machine.specs.declared.frame.Flow.TheVariants as flow
 use Rattle.py_machine.specs.declared.frame.Frame.{Frame}
-use Rattle.py_machine.specs.declared.frame.Slot.{Slot}
 use Rattle.py_machine.specs.declared.frame.Slot.TheVariants.{Empty, Held}
 use Rattle.py_machine.specs.Changes.{object_kind}
 use Rattle.py_machine.specs.declared.iteration.Iteration.{Iteration}
@@ -43,7 +42,7 @@ use Rattle.py_machine.specs.Errors.{recursion_error, step_limit_error, overflow_
 use Rattle.py_machine.specs.Runs.{Name}
 use Rattle.py_meaning.specs.Acts.{Act, ◌>>=◌, ◌>>◌, pure, fail, step, charge, look, seek, bind, unbind, is_local, enter, leave, add, object_at, change, list_at, kind_of, write, draw, choose}
 use Rattle.py_meaning.specs.Truth.{truth_of}
-use Rattle.py_meaning.specs.Operators.{steps, list_units, made_text, operated, signed}
+use Rattle.py_meaning.specs.Operators.{list_units, made_text, operated, signed}
 use Rattle.py_meaning.specs.Compared.{compared}
 use Rattle.py_meaning.specs.Items.{keyed, put_in, indexed, sliced, item_stored, item_deleted}
 use Rattle.py_meaning.specs.Iterating.{Next, iterated, range_of, advance}

@@ -1,5 +1,5 @@
 -- What the operators of sums and products give, and signs. (Python reference: unary and binary arithmetic operations.)
-use Rattle.std.specs.Prelude.{ℕ, zero, suc, ◌+◌, ℤ, pos, negsuc, neg_ℤ, Bool, List, [], ◌∷◌, ◌++◌, length, sum_by, true, false, Option, Some, None}
+use Rattle.std.specs.Prelude.{ℕ, zero, suc, ◌+◌, ℤ, pos, negsuc, neg_ℤ, Bool, List, ◌++◌, length, sum_by, true, false, Option, Some, None}
 use Rattle.std.specs.List.{repeat}
 use Rattle.py_tree.specs.declared.expressions.Op.{Op}
 use Rattle.py_tree.specs.declared.expressions.Op.TheVariants as op

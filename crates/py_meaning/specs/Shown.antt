@@ -1,6 +1,5 @@
 -- The text that a value shows, as acts, by the levels left and the lists and dicts that are open. (Python reference: `repr`, `str`.)
 use Rattle.std.specs.Prelude.{ℕ, zero, suc, List, [], ◌∷◌, ◌++◌, codes, Option, Some, None}
-use Rattle.py_tree.specs.declared.statements.Def.{Def}
 use Rattle.py_value.specs.declared.key.Key.{Key}
 use Rattle.py_value.specs.declared.key.Key.TheVariants as key
 use Rattle.py_value.specs.declared.value.Builtin.{Builtin}

@@ -1,5 +1,5 @@
 -- Texts put together.
-use Rattle.std.proofs.Common.{◌≡◌, ℕ, List, [], ◌∷◌, ◌++◌, Option, Some, None, refl, sym, ap, append_assoc, append-nil, length-append}
+use Rattle.std.proofs.Common.{◌≡◌, ℕ, List, [], ◌∷◌, ◌++◌, Option, Some, None, refl, sym, ap, append_assoc, length-append}
 use Rattle.std.specs.Option.{option_map}
 use Rattle.py_value.specs.declared.value.Value.TheVariants as value
 use Rattle.py_meaning.specs.Methods.{with_text}

@@ -4,7 +4,7 @@ use Rattle.py_postfix.specs.declared.entries.Entry.{Entry}
 use Rattle.py_nesting.specs.declared.depth.Side.{Side}
 use Rattle.py_nesting.specs.declared.depth.Side.TheVariants.{From, To}
 use Rattle.std.proofs.lemmas.List.{drop_more, get_or_default, get_or-set_same, get_or-set_other, length-set}
-use Rattle.py_nesting.specs.Depth.{count_if, depth, place_of, number, AllWithin, counted, Counts, IsFirstTooDeep, IsShallow}
+use Rattle.py_nesting.specs.Depth.{count_if, depth, place_of, number, AllWithin, counted, IsFirstTooDeep, IsShallow}
 
 one : (left from to : ℕ) → count_if (nat_lt to left && nat_le left from) + count_if (nat_lt to from && nat_eq to left) ≡ count_if (nat_lt to (suc left) && nat_le (suc left) from) + count_if (nat_lt to from && nat_eq from left)
 one left from to = grind arith
@@ -91,12 +91,6 @@ tallied_at s most es rest e counts t =
     let n = t.each (place_of s e) 0 w in
     let f = few es s (place_of s e) in
     (omega arith, omega arith)
-
-pub tallied_all : (s : Side) (most : ℕ) (es : List Entry) (counts : List ℕ) → Tallied s most es [] counts → Counts (λ k. number s k es) most counts
-tallied_all s most es counts t = record { all = t.all; each = λ k d l. let e = t.each k d l in omega arith }
-
-pub tallied_none : (s : Side) (most : ℕ) (es : List Entry) (counts : List ℕ) → AllWithin most es → length counts ≡ suc most → ((k d : ℕ) → k ≤ most → slice_index_or counts k d ≡ 0) → Tallied s most es es counts
-tallied_none s most es counts w a z = record { within = w; all = a; each = λ k d l. let e = z k d l in omega arith }
 
 -- ---- from one token to the next
 

@@ -6,7 +6,6 @@ use Rattle.py_token.specs.declared.kinds.Kind.TheVariants as t
 use Rattle.py_token.specs.declared.kinds.Token.{Token}
 use Rattle.py_grammar.specs.declared.constructs.Construct.{Construct}
 use Rattle.py_grammar.specs.States as m
-use Rattle.py_grammar.specs.States.{done}
 use Rattle.py_grammar.proofs.Whole.{then_run, run-append}
 use Rattle.py_postfix.specs.declared.entries.Entry.{Entry}
 use Rattle.py_nesting.specs.Depth.{count_if, depth, IsShallow, IsFirstTooDeep}
@@ -158,13 +157,6 @@ all_done front v r = last_done front v r (m.run m.start front) refl
 pub deep_place : (tokens : List Token) (es : List Entry) (found : Option ℕ) → MatchOption found (IsShallow es) (IsFirstTooDeep es) → place_of_deep tokens found ≡ place_of_deep tokens (deep_from (most es) es)
 deep_place tokens es None h = ap (place_of_deep tokens) (sym (shallow_is es (most es) h))
 deep_place tokens es (Some left) d = ap (place_of_deep tokens) (sym (deep_is es left d))
-
-deep_on : {A : Type 0} (tokens : List Token) (judged : Result A SyntaxFault) (at : ℕ) (o : Option ℕ) → place_of_deep tokens o ≡ Some at → unless_deep tokens o judged ≡ Err (TooDeep at)
-deep_on tokens judged at None e = cc
-deep_on tokens judged at (Some left) e = let same : start_of tokens (length tokens - left) ≡ at = cc in ap (λ x. Err (TooDeep x)) same
-
-pub nested_deep : {A : Type 0} (tokens : List Token) (es : List Entry) (judged : Result A SyntaxFault) (at : ℕ) → place_of_deep tokens (deep_from (most es) es) ≡ Some at → nested tokens es judged ≡ Err (TooDeep at)
-nested_deep tokens es judged at e = deep_on tokens judged at (deep_from (most es) es) e
 
 shallow_on : {A : Type 0} (tokens : List Token) (judged : Result A SyntaxFault) (o : Option ℕ) → place_of_deep tokens o ≡ None → unless_deep tokens o judged ≡ judged
 shallow_on tokens judged None e = refl

@@ -1,7 +1,5 @@
 -- The texts of the functions of a cell are all bytes of their tokens.
-use Rattle.std.proofs.Common.{◌≡◌, ℕ, List, [], ◌∷◌, ◌++◌, length, Option, Some, None, Result, Ok, Err, refl, ap, ◌∙◌, sym, subst, IsUtf8, IfOk}
-use Rattle.py_token.specs.declared.kinds.Token.{Token}
-use Rattle.py_token.specs.Lines.{tokens_of}
+use Rattle.std.proofs.Common.{◌≡◌, ℕ, List, [], ◌∷◌, ◌++◌, length, Some, None, Result, Ok, Err, refl, ap, ◌∙◌, sym, subst, IsUtf8, IfOk}
 use Rattle.py_token.proofs.Covers.{covers}
 use Rattle.py_tree.specs.declared.statements.Stmt.{Stmt}
 use Rattle.py_tree.specs.declared.statements.Tree.{Tree}

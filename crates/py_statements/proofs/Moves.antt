@@ -5,10 +5,10 @@ use Rattle.py_token.specs.declared.kinds.Kind.TheVariants as t
 use Rattle.py_grammar.specs.Words.{if_word, else_word, elif_word, while_word, for_word, in_word, def_word, open_parenthesis, close_parenthesis, colon, comma}
 use Rattle.py_grammar.specs.Expressions.{Expression, spell_expression}
 use Rattle.py_grammar.specs.Readings as r
-use Rattle.py_grammar.specs.Readings.{has, has_none, has_not_none, wants, after_is, after_is_not, after_not, after_dot, after_method, read, whole}
+use Rattle.py_grammar.specs.Readings.{has, has_none, has_not_none, read, whole}
 use Rattle.py_grammar.specs.Open.{spell_reading}
 use Rattle.py_grammar.specs.Statements as g
-use Rattle.py_grammar.specs.Statements.{Params, Branches, Statement, simple, compound, choose, otherwise, while_true, for_each, define, if_true, else_if, indented, declare, word, pass_, break_, continue_, Statements, statements_one, statements_more, spell_head, spell_names, spell_params, spell_branches, spell_front, is_new}
+use Rattle.py_grammar.specs.Statements.{Params, Branches, simple, compound, choose, otherwise, while_true, for_each, define, if_true, else_if, indented, declare, word, pass_, break_, continue_, Statements, statements_one, statements_more, spell_head, spell_front}
 use Rattle.py_grammar.specs.States as m
 use Rattle.py_grammar.specs.States.{outer, own, behind_head, lead_if, lead_elif, lead_while, lead_for, line, in_simple, after_word, in_global, has_global, in_test, after_for, after_for_name, after_else, after_def, after_def_name, in_params, has_params, after_params, after_colon, after_newline, done, spell_lead}
 use Rattle.py_grammar.proofs.Spelled.{Adds, Spells, read-adds, whole-spelled}

@@ -5,7 +5,6 @@ use Rattle.py_token.specs.declared.kinds.Kind.{Kind}
 use Rattle.py_grammar.specs.Expressions.{Expression}
 use Rattle.py_grammar.specs.Statements.{Target}
 use Rattle.py_grammar.specs.Readings as r
-use Rattle.py_grammar.specs.Readings.{read, whole}
 use Rattle.py_postfix.specs.declared.entries.Entry.{Entry}
 use Rattle.py_postfix.specs.Expressions.{post_expression}
 use Rattle.py_postfix.specs.Statements.{post_place}

@@ -8,7 +8,7 @@ use Rattle.py_grammar.specs.Readings as r
 use Rattle.py_grammar.specs.Readings.{Upper, upper, Lower, lower, has, begun, read, whole, narrow}
 use Rattle.py_grammar.specs.Open.{spell_upper, spell_lower, spell_reading}
 use Rattle.py_grammar.specs.Statements as g
-use Rattle.py_grammar.specs.Statements.{Target, to_name, Augmentation, by_plus, by_minus, by_times, by_floor, by_modulo, Simple, word, return_, give, declare, delete, assign, augment, show, pass_, break_, continue_, spell_target, augmentation_sign, spell_simple, choose, otherwise, while_true, for_each, define, if_true, else_if, Block, inline, Statements, spell_head, spell_block, spell_front, keyword}
+use Rattle.py_grammar.specs.Statements.{Target, to_name, Augmentation, by_plus, by_minus, by_times, by_floor, by_modulo, Simple, return_, give, assign, augment, show, break_, continue_, spell_target, augmentation_sign, spell_simple, choose, otherwise, while_true, for_each, define, if_true, else_if, Block, inline, Statements, spell_head, spell_block, spell_front}
 use Rattle.py_grammar.specs.States as m
 use Rattle.py_grammar.specs.States.{outer, own, behind_head, showing, giving, deleting, assigning, augmenting, line, in_simple, after_word, in_global, place_of, place_read, if_made, if_deleted, finished, spell_spot, spell_purpose, close}
 use Rattle.py_grammar.proofs.Spelled.{Adds, Spells, read-adds, whole-spelled}

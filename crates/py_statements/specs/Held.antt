@@ -5,9 +5,9 @@ use Rattle.py_token.specs.declared.kinds.Kind.TheVariants as t
 use Rattle.py_grammar.specs.Words.{if_word, else_word, elif_word, while_word, for_word, in_word, global_word, def_word, open_parenthesis, close_parenthesis}
 use Rattle.py_grammar.specs.Open.{spell_reading}
 use Rattle.py_grammar.specs.Statements as g
-use Rattle.py_grammar.specs.Statements.{pass_, break_, continue_, Statement, simple, compound, choose, otherwise, while_true, for_each, define, Condition, if_true, else_if, Statements, statements_one, statements_more, spell_names, spell_params, keyword, spell_head, spell_front}
+use Rattle.py_grammar.specs.Statements.{pass_, break_, continue_, Statement, compound, choose, otherwise, while_true, for_each, define, Condition, if_true, else_if, Statements, statements_one, statements_more, spell_names, spell_params, keyword, spell_head, spell_front}
 use Rattle.py_grammar.specs.States as m
-use Rattle.py_grammar.specs.States.{outer, own, behind_head, showing, giving, deleting, assigning, augmenting, lead_if, lead_elif, lead_while, lead_for, line, in_simple, after_word, in_global, has_global, in_test, after_for, after_for_name, after_else, after_def, after_def_name, in_params, has_params, after_params, after_colon, after_newline, done, spell_names_before, spell_spot, spell_purpose, spell_outer}
+use Rattle.py_grammar.specs.States.{outer, own, behind_head, showing, giving, deleting, assigning, augmenting, lead_if, lead_elif, lead_while, lead_for, line, in_simple, after_word, in_global, has_global, in_test, after_for, after_for_name, after_else, after_def, after_def_name, in_params, has_params, after_params, after_colon, after_newline, done, spell_names_before, spell_spot, spell_purpose}
 use Rattle.py_postfix.specs.Statements.{own_head, augmentation_op}
 use Rattle.py_expressions.specs.Held.{held}
 use Rattle.py_statements.specs.declared.state.Head.{Head}

@@ -7,7 +7,7 @@ use Rattle.std.proofs.lemmas.Bool.Decides.{nat_tests}
 use Rattle.std.proofs.lemmas.List.Folds.{length-prefix_len}
 use Rattle.std.proofs.Math.Seq.{take-append_seam}
 use Rattle.std.proofs.Math.Numerals.{one-add}
-use Rattle.py_names.specs.Names.{begins_name, continues_name, same_text, is_spelled_as_name, is_identifier, is_keyword, is_variable}
+use Rattle.py_names.specs.Names.{begins_name, continues_name, same_text, is_spelled_as_name, is_identifier, is_keyword}
 use Rattle.py_names.specs.Names as names
 use Rattle.py_token.specs.declared.kinds.Keyword as keyword
 use Rattle.py_token.specs.declared.lines.Lexeme.{Lexeme}

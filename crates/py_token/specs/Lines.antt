@@ -6,7 +6,7 @@ use Rattle.py_token.specs.declared.kinds.Kind.TheVariants.{Newline, Indent, Dede
 use Rattle.py_token.specs.declared.kinds.Symbol.TheVariants.{OpenParenthesis, CloseParenthesis, OpenBracket, CloseBracket, OpenBrace, CloseBrace}
 use Rattle.py_token.specs.declared.kinds.Token.{Token}
 use Rattle.py_token.specs.declared.faults.TokenFault.{TokenFault}
-use Rattle.py_token.specs.declared.faults.TokenFault.TheVariants.{BadChar, BadIndent, Tab}
+use Rattle.py_token.specs.declared.faults.TokenFault.TheVariants.{BadIndent, Tab}
 use Rattle.py_token.specs.declared.lines.Line.{Line}
 use Rattle.py_token.specs.declared.lines.Spot.{Spot}
 use Rattle.py_token.specs.declared.lines.Spot.TheVariants.{Start, Inside}

@@ -1,37 +1,33 @@
 -- A function of a cell is what its text alone is read as.
-use Rattle.std.proofs.Common.{◌≡◌, ℕ, zero, suc, ◌+◌, ◌-◌, ◌<◌, ◌≤◌, Bool, true, false, List, [], ◌∷◌, ◌++◌, length, take, drop, Option, Some, None, Result, Ok, Err, refl, sym, ap, ◌∙◌, subst, arith, append_assoc, length-append, length-take, length-drop, IsUtf8}
-use Rattle.std.specs.Prelude.{slice_range, slice_get, nat_lt, if◌then◌else◌, IsTrue}
-use Rattle.std.specs.List.{AllByRecursion}
+use Rattle.std.proofs.Common.{◌≡◌, ℕ, ◌+◌, ◌-◌, ◌≤◌, true, false, List, [], ◌∷◌, ◌++◌, length, drop, Some, None, Ok, Err, refl, sym, ap, ◌∙◌, subst, arith, append_assoc, length-take, length-drop, IsUtf8}
+use Rattle.std.specs.Prelude.{slice_range, nat_lt, if◌then◌else◌}
 use Rattle.std.proofs.lemmas.Bool.Decides.{nat_tests}
 use Rattle.py_token.specs.declared.kinds.Kind.{Kind}
 use Rattle.py_token.specs.declared.kinds.Kind.TheVariants as t
 use Rattle.py_token.specs.declared.kinds.Token.{Token}
 use Rattle.py_token.specs.Lines.{tokens_of}
 use Rattle.py_token.proofs.Covers.{covers}
-use Rattle.py_tree.specs.declared.statements.Def.{Def, roll-Def}
+use Rattle.py_tree.specs.declared.statements.Def.{Def}
 use Rattle.py_grammar.specs.Words.{def_word}
-use Rattle.py_grammar.specs.Statements.{Params, Block, Statement, compound, define, Statements, statements_one, Cell, IsCell, spell_statement, outside_all, statement_stands}
-use Rattle.py_grammar.specs.Trees.{tree_params, tree_block}
+use Rattle.py_grammar.specs.Statements.{Params, Block, Statement, compound, define, statements_one, Cell, spell_statement, outside_all, statement_stands}
 use Rattle.py_grammar.proofs.Whole.{one_cell}
 use Rattle.py_definition.specs.Alone.{alone, IsDefinition}
-use Rattle.py_postfix.specs.declared.entries.Entry.{Entry}
 use Rattle.py_postfix.specs.Statements.{post_statement, post_cell}
 use Rattle.py_nesting.specs.Depth.{IsShallow}
-use Rattle.py_build.specs.Source.{last_word, text_of, bytes_up_to, bytes_from, source_of, bytes_of}
+use Rattle.py_build.specs.Source.{bytes_up_to, bytes_from, source_of}
 use Rattle.py_build.proofs.Boundaries.{whole_text}
-use Rattle.py_reader.specs.declared.fault.ReadError.{ReadError}
 use Rattle.py_reader.specs.declared.fault.SyntaxFault.TheVariants.{NoParse}
 use Rattle.py_reader.specs.Alone.{IsFunction}
-use Rattle.py_reader.specs.Verdicts.{start_if, start_of}
+use Rattle.py_reader.specs.Verdicts.{start_of}
 use Rattle.py_reader.specs.Verdict.{most, deep_from, place_of_deep, nested}
 use Rattle.py_reader.specs.Definitions.{end_if, end_of_words, definition}
-use Rattle.py_reader.specs.DefinitionVerdict.{JudgedDefinition, unless_more, unless_later, of_function, verdict_alone}
+use Rattle.py_reader.specs.DefinitionVerdict.{unless_more, of_function, verdict_alone}
 use Rattle.py_reader.proofs.Judged.{shallow_is, nested_shallow}
 use Rattle.py_reader.proofs.JudgedAlone.{gives_function}
 use Rattle.token_cuts.specs.Cuts.{kinds, is_word, level, begins_line, dedents, AreCut}
 use Rattle.token_cuts.proofs.Cutting.{cuts}
 use Rattle.token_cuts.proofs.Blocks.{kinds-append}
-use Rattle.read_functions.proofs.Parts.{split_kinds, first_kind, kinds_long, middle_part, NoWord, last_word_is, no_word_kinds}
+use Rattle.read_functions.proofs.Parts.{split_kinds, first_kind, kinds_long, middle_part, last_word_is, no_word_kinds}
 use Rattle.read_functions.proofs.Tails.{Ending, ending_steady, ending_tokens, statement-ends, dedents-append}
 
 -- ---- a text whose tokens are one function from its first byte to its last

@@ -1,5 +1,5 @@
 -- Each function of a code is what its text alone is read as, and no function stands elsewhere than at the top.
-use Rattle.std.proofs.Common.{◌≡◌, ℕ, zero, suc, ◌+◌, ◌≤◌, Bool, true, false, IsTrue, List, [], ◌∷◌, ◌++◌, length, Option, Some, None, Result, Ok, Err, refl, sym, ap, ◌∙◌, subst, arith, length-append, IsUtf8}
+use Rattle.std.proofs.Common.{◌≡◌, ℕ, ◌+◌, ◌≤◌, true, List, [], ◌∷◌, ◌++◌, length, Some, None, Ok, refl, sym, ap, ◌∙◌, subst, arith, length-append, IsUtf8}
 use Rattle.std.specs.List.{AllByRecursion}
 use Rattle.std.proofs.lemmas.List.{append-nil}
 use Rattle.std.proofs.lemmas.List.Elements.{All-from_recursion}
@@ -7,18 +7,18 @@ use Rattle.py_token.specs.declared.kinds.Kind.{Kind}
 use Rattle.py_token.specs.declared.kinds.Kind.TheVariants as t
 use Rattle.py_token.specs.declared.kinds.Token.{Token}
 use Rattle.py_token.specs.Lines.{tokens_of}
-use Rattle.py_tree.specs.declared.statements.Def.{Def, roll-Def}
+use Rattle.py_tree.specs.declared.statements.Def.{Def}
 use Rattle.py_tree.specs.declared.statements.Stmt.{Stmt}
 use Rattle.py_tree.specs.declared.statements.Stmt.TheOpen.{Def-F}
 use Rattle.py_tree.specs.declared.statements.Stmt.TheViews.{out-roll-Def}
 use Rattle.py_tree.specs.declared.statements.Arm.{Arm}
-use Rattle.py_grammar.specs.Statements.{Params, Block, Statement, simple, compound, Head, choose, otherwise, while_true, for_each, define, Statements, statements_one, statements_more, Cell, IsCell, spell_block, spell_statement, spell_statements, spell_front, outside_all, inside, hear, statement_stands, statements_stand, front_stands}
+use Rattle.py_grammar.specs.Statements.{Params, Block, Statement, simple, compound, choose, otherwise, while_true, for_each, define, Statements, statements_one, statements_more, Cell, IsCell, spell_block, spell_statement, spell_statements, outside_all, inside, hear, statement_stands, statements_stand}
 use Rattle.py_grammar.specs.Trees.{tree_params, tree_block, tree_statement, tree_top, tree_cell}
 use Rattle.py_postfix.specs.declared.entries.Entry.{Entry}
-use Rattle.py_postfix.specs.Statements.{post_statement, post_statements, post_front, post_cell}
+use Rattle.py_postfix.specs.Statements.{post_statement, post_statements, post_cell}
 use Rattle.py_nesting.specs.Depth.{IsShallow}
 use Rattle.py_build.specs.Source.{source_of}
-use Rattle.py_laws.specs.Allowed.{IsAllowed, AreAllowed}
+use Rattle.py_laws.specs.Allowed.{AreAllowed}
 use Rattle.py_reader.specs.Verdicts.{Verdict}
 use Rattle.py_reader.specs.Verdicts as cells
 use Rattle.py_reader.specs.Verdict.{verdict}

@@ -1,20 +1,20 @@
 -- A part is no deeper in a text of its own than before more tokens.
-use Rattle.std.proofs.Common.{◌≡◌, ℕ, zero, suc, ◌+◌, ◌<◌, ◌≤◌, Bool, true, false, List, [], ◌∷◌, length, Option, Some, None, refl, sym, ap, ◌∙◌, subst, arith, length-append}
+use Rattle.std.proofs.Common.{◌≡◌, ℕ, ◌+◌, ◌≤◌, false, List, ◌∷◌, length, ap, ◌∙◌, arith, length-append}
 use Rattle.std.specs.Prelude.{nat_lt, nat_le, ◌&&◌}
 use Rattle.std.proofs.lemmas.Bool.Decides.{nat_tests}
 use Rattle.py_token.specs.declared.kinds.Kind.{Kind}
 use Rattle.py_token.specs.declared.kinds.Kind.TheVariants as t
-use Rattle.py_grammar.specs.Words.{if_word, else_word, elif_word, while_word, for_word, in_word, def_word, and_word, or_word, not_word, is_word, none_word, assign_sign, open_parenthesis, close_parenthesis, open_bracket, close_bracket, close_brace, colon, comma, dot}
-use Rattle.py_grammar.specs.Expressions.{Expression, plain, conditional, Ors, ors_one, ors_more, Ands, ands_one, ands_more, Negation, compared, negated, Compares, compares_one, compares_more, compares_none, compares_not_none, Relational, equal, not_equal, less, at_most, greater, at_least, within, not_within, Sums, sums_one, sums_more, Products, products_one, products_more, Signed, unsigned, signed, Primary, name, number, text, nothing, truth, falsity, group, display, dict, call, index, slice, Callee, function, method, Bound, unbounded, bounded, Args, no_args, args, args_comma, Elements, elements_one, elements_more, Entries, no_entries, entries, entries_comma, Pairs, pairs_one, pairs_more, spell_relational, additive_sign, multiplicative_sign, spell_expression, spell_ors, spell_ands, spell_negation, spell_compares, spell_sums, spell_products, spell_signed, spell_primary, spell_bound, spell_args}
-use Rattle.py_grammar.specs.Statements.{Target, to_name, to_item, Names, names_one, names_more, Simple, word, return_, give, declare, delete, assign, augment, show, Params, no_params, params, params_comma, Statement, simple, compound, Head, choose, otherwise, while_true, for_each, define, Condition, if_true, else_if, Branches, branches, Block, inline, indented, Statements, statements_one, statements_more, augmentation_sign, spell_target, spell_names, spell_simple, spell_statement, spell_head, spell_block}
-use Rattle.py_grammar.proofs.Standing.{Spelling, expression-tokens, ors-tokens, ands-tokens, negation-tokens, compares-tokens, sums-tokens, products-tokens, signed-tokens, primary-tokens, callee-tokens, bound-tokens, args-tokens, elements-tokens, entries-tokens, pairs-tokens}
-use Rattle.py_grammar.proofs.Places.{statement-tokens, head-tokens, condition-tokens, branches-tokens, block-tokens, statements-tokens}
+use Rattle.py_grammar.specs.Words.{if_word, else_word, elif_word, and_word, or_word, not_word, is_word, none_word, assign_sign, open_parenthesis, close_parenthesis, open_bracket, close_bracket, close_brace, colon, comma, dot}
+use Rattle.py_grammar.specs.Expressions.{Expression, plain, conditional, Ors, ors_one, ors_more, Ands, ands_one, ands_more, Negation, compared, negated, Compares, compares_one, compares_more, compares_none, compares_not_none, Relational, equal, not_equal, less, at_most, greater, at_least, within, not_within, Sums, sums_one, sums_more, Products, products_one, products_more, Signed, unsigned, signed, Primary, name, number, text, nothing, truth, falsity, group, display, dict, call, index, slice, Callee, function, method, Bound, unbounded, bounded, Args, no_args, args, args_comma, Elements, elements_one, elements_more, Entries, no_entries, entries, entries_comma, Pairs, pairs_one, pairs_more, spell_relational, additive_sign, multiplicative_sign, spell_expression, spell_ors, spell_ands, spell_negation, spell_sums, spell_products, spell_signed, spell_bound, spell_args}
+use Rattle.py_grammar.specs.Statements.{Target, to_name, to_item, Names, names_one, names_more, Simple, word, return_, give, declare, delete, assign, augment, show, Params, no_params, params, params_comma, Statement, simple, compound, Head, choose, otherwise, while_true, for_each, define, Condition, if_true, else_if, Branches, branches, Block, inline, indented, Statements, statements_one, statements_more, augmentation_sign, spell_target, spell_names, spell_simple, spell_statement, spell_block}
+use Rattle.py_grammar.proofs.Standing.{Spelling, expression-tokens, ors-tokens, ands-tokens, negation-tokens, compares-tokens, sums-tokens, products-tokens, signed-tokens, primary-tokens, bound-tokens, args-tokens}
+use Rattle.py_grammar.proofs.Places.{statement-tokens, head-tokens, block-tokens}
 use Rattle.py_postfix.specs.declared.entries.Node.{Node}
 use Rattle.py_postfix.specs.declared.entries.Entry.{Entry}
 use Rattle.py_postfix.specs.Entries.{part, mark}
 use Rattle.py_postfix.specs.Expressions.{post_expression, post_ors, terms_ors, post_ands, terms_ands, post_negation, post_compares, relations, post_sums, summed, post_products, multiplied, post_signed, post_primary, post_callee, post_bound, post_args, post_elements, post_entries, post_pairs}
 use Rattle.py_postfix.specs.Statements.{post_item, post_place, post_names, inner_simple, post_simple, post_params, own_condition, own_head, post_statement, post_head, post_condition, post_branches, post_block, post_statements}
-use Rattle.py_nesting.specs.Depth.{holds, count_if, depth}
+use Rattle.py_nesting.specs.Depth.{count_if, depth}
 
 module _ (k : ℕ) where
   -- so many tokens more

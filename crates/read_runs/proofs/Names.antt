@@ -1,5 +1,5 @@
 -- Cells of codes bind only names that a program may bind, and look up only identifiers: such names stand in their trees.
-use Rattle.std.proofs.Common.{◌≡◌, ◌&&◌, ℕ, zero, suc, Bool, true, false, IsTrue, List, [], Ok, Err, refl, inl, inr}
+use Rattle.std.proofs.Common.{◌≡◌, ◌&&◌, ℕ, zero, suc, Bool, true, false, IsTrue, List, Ok, Err, refl, inl, inr}
 use Rattle.std.proofs.lemmas.List.Elements.{All-nil}
 use Rattle.py_names.specs.Names.{is_identifier, is_variable}
 use Rattle.py_tree.specs.declared.statements.Stmt.{Stmt}

@@ -1,5 +1,5 @@
 -- Runs of codes by the trees that the reader gives for them.
-use Rattle.std.specs.Prelude.{ℕ, List, Option, Some, None, Ok, Err}
+use Rattle.std.specs.Prelude.{List, Option, Some, None, Ok, Err}
 use Rattle.py_tree.specs.declared.statements.Stmt.{Stmt}
 use Rattle.py_reader.specs.Verdict.{Judged, verdict}
 use Rattle.run_graph.specs.Soundness.{Reader}

@@ -4,6 +4,7 @@ use Rattle.std.specs.Prelude.{Contains, ◌↔◌}
 use Rattle.std.proofs.lemmas.Option.{none-some}
 use Rattle.py_value.specs.declared.value.Value.{Value}
 use Rattle.py_heap.specs.declared.state.State.{State}
+use Rattle.py_heap.specs.References.{IsClosed}
 use Rattle.py_machine.specs.Runs.{Name}
 use Rattle.py_laws.specs.Same.{HasPair, ValuesMatch, BothOrNone, Same, Every}
 use Rattle.py_laws.proofs.Partners.{one_in, reach_partner}
@@ -118,8 +119,8 @@ module _ (r : Run) (run : IsRun r) (g : Graph) (h : IsHistory r g) where
           no_value_on Last t same name (subst (HasNone Last) (one_in d.0 name (subst (λ ns. Contains ns name) d.1 p)) d.2);
     }
 
-    pub has_sizes : (size : List Name → State → ℕ) → TellsAlike size → ((c : ℕ) (names : List Name) → r.size c names ≡ size names (r.state c)) → (v : ℕ) (x : Version) → IsActive g v x → x.size ≡ size x.names t
-    has_sizes size tells is v x a = (h.weights v x a.0).1 ∙ (is x.writer x.names ∙ tells x.names (r.state x.writer) t (same_written v x a))
+    pub has_sizes : (size : List Name → State → ℕ) → TellsAlike size → IsClosed t → ((c : ℕ) (names : List Name) → r.size c names ≡ size names (r.state c)) → (v : ℕ) (x : Version) → IsActive g v x → x.size ≡ size x.names t
+    has_sizes size tells closed is v x a = (h.weights v x a.0).1 ∙ (is x.writer x.names ∙ tells x.names (r.state x.writer) t (run.closed x.writer) closed (same_written v x a))
 
   module _ (p : Plan) (feasible : IsFeasible g p) (t : State) (good : IsGood r g r.cells (IsGivenBack p) t) where
     -- a name of no active version was bound by no cell

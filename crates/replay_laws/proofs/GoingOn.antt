@@ -5,6 +5,7 @@ use Rattle.std.proofs.lemmas.Bool.{cases_eq}
 use Rattle.nb_outside.specs.declared.feed.Drawn.{Drawn}
 use Rattle.py_tree.specs.declared.statements.Stmt.{Stmt}
 use Rattle.py_heap.specs.declared.state.State.{State}
+use Rattle.py_heap.specs.References.{IsClosed}
 use Rattle.py_heap.specs.States.{empty}
 use Rattle.py_heap.proofs.Closed.{empty_closed}
 use Rattle.py_machine.specs.declared.marks.Marks.{Marks}
@@ -13,6 +14,7 @@ use Rattle.py_machine.specs.Runs.{Name, Outcome}
 use Rattle.py_meaning.specs.Cells.{outcome, UsesUp, Asks}
 use Rattle.py_laws.specs.Same.{HasPair, SameBy, Same, SameStates, Every}
 use Rattle.py_laws.specs.Framed.{OrBound, Renamed}
+use Rattle.py_laws.proofs.Closing.{closed_after}
 use Rattle.py_laws.proofs.Matching.{Turned}
 use Rattle.py_laws.proofs.Framing.{All, ended, ended_same, renamed}
 use Rattle.py_laws.proofs.Partners.{reach_partner}
@@ -30,7 +32,7 @@ use Rattle.run_graph.specs.RunLists.{Entry, entry, raised, entry_done, state_aft
 use Rattle.run_graph.specs.Growing.{first_cells, IsNext}
 use Rattle.run_graph.proofs.Growing.{grown, nothing_yet}
 use Rattle.run_graph.proofs.Reached.{reach_from_one, reach_by_one}
-use Rattle.run_graph.proofs.Runs.{is_run, follows}
+use Rattle.run_graph.proofs.Runs.{raised_closed, is_run, follows}
 use Rattle.replay_laws.specs.Walks.{Walked, done_again}
 use Rattle.replay_laws.specs.Copies.{AreCopies}
 use Rattle.replay_laws.specs.Restored.{with_tallies, HasVersions, TellsAlike}
@@ -38,7 +40,7 @@ use Rattle.replay_laws.specs.Sessions.{StandsFor, IsCellFrom}
 use Rattle.replay_laws.specs.Tidied.{IsTidied}
 use Rattle.replay_laws.proofs.Walking.{walk_good, never_asks}
 use Rattle.replay_laws.proofs.Ending.{same_over, without_tallies, has_versions, restored, has_sizes}
-use Rattle.replay_laws.proofs.Tidying.{tidied_same}
+use Rattle.replay_laws.proofs.Tidying.{tidied_same, tidied_closed}
 use Rattle.replay_laws.proofs.Alike.{HasChanged, changed_equal, Alike, alike_turned, alike_equal, next_on, history_on}
 
 -- ---- one cell, run from two states that are the same
@@ -93,6 +95,10 @@ entry_kept (x ∷ entries) e (suc c) l = entry_kept entries e c (omega (arith, l
 entry_new : (entries : List Entry) (e : Entry) → entry (entries ++ e ∷ []) (length entries) ≡ e
 entry_new [] e = refl
 entry_new (x ∷ entries) e = entry_new entries e
+
+-- a cell keeps a state closed
+closed_then : (read : Reader) (e : Entry) (t : State) → IsClosed t → IsClosed (entry_done read e t).1.state
+closed_then read e t c = closed_after (statements (read e.code)) e.draws (raised e t) (raised_closed e t c)
 
 module _ (read : Reader) (entries : List Entry) (e : Entry) where
   abbrev Longer : List Entry
@@ -166,7 +172,7 @@ module _ (read : Reader) (entries : List Entry) (e : Entry) where
 
     -- ---- the last cell from a state that is the same
 
-    module _ (t : State) (same : SameStates Old t) (tells : TellsAlike size) (q : Run) (is : IsCellFrom read size e t N q) where
+    module _ (t : State) (closed : IsClosed t) (same : SameStates Old t) (tells : TellsAlike size) (q : Run) (is : IsCellFrom read size e t N q) where
       abbrev o : Outcome (Option (List ℕ))
       o = entry_done read e Old
 
@@ -210,7 +216,8 @@ module _ (read : Reader) (entries : List Entry) (e : Entry) where
             let before : suc N - 1 ≡ N = omega arith in
             ap (λ n. (entry Longer n).code) before ∙ (ap (λ (x : Entry). x.code) (entry_new entries e) ∙ sym is.code);
         steps = ap (λ (x : Outcome (Option (List ℕ))). x.1.steps) last_done ∙ (both.steps ∙ sym is.steps);
-        sizes = λ names. tells names (Long.state (suc N)) (q.state (suc N)) (same_over (Long.state (suc N)) (q.state (suc N)) same_after names) ∙ sym (is.sizes names);
+        sizes = λ names. tells names (Long.state (suc N)) (q.state (suc N)) ((is_run read Longer size).closed (suc N))
+            (subst IsClosed (sym is.after) (closed_then read e t closed)) (same_over (Long.state (suc N)) (q.state (suc N)) same_after names) ∙ sym (is.sizes names);
       }
 
       pub last_history : (g k : Graph) → IsHistory Short g → IsNext q N g k → IsHistory Long k
@@ -225,6 +232,7 @@ pub begins_so : (read : Reader) (size : List Name → State → ℕ) → StandsF
 begins_so read size = record {
   list = λ c l. let none : ⊥ = omega (arith, l) in absurd none;
   history = nothing_yet (run_of read size []);
+  closed = empty_closed;
   same = states_themselves empty empty_closed;
 }
 
@@ -239,7 +247,8 @@ module _ (read : Reader) (size : List Name → State → ℕ) (entries : List En
       → StandsFor read size (entries ++ e ∷ []) k (entry_done read e t).1.state
   one_more tells e uses q k is next = record {
     list = longer_list read entries e stands.list (same_uses e uses);
-    history = last_history read entries e size t stands.same tells q is g k stands.history next;
+    history = last_history read entries e size t stands.closed stands.same tells q is g k stands.history next;
+    closed = closed_then read e t stands.closed;
     same =
         let both = entry_alike read e (state_after read entries (length entries)) t stands.same in
         subst (λ n. SameStates (state_after read (entries ++ e ∷ []) n) (entry_done read e t).1.state) (sym (longer_length read entries e))
@@ -266,6 +275,7 @@ module _ (read : Reader) (size : List Name → State → ℕ) (entries : List En
       record {
         list = stands.list;
         history = stands.history;
+        closed = record { names = good.closed.names; objects = good.closed.objects };
         same = record {
           names = record { by = back.by; same = record { pairs = back.same.pairs; names = back.same.names; objects = back.same.objects } };
           count = stands.same.count;
@@ -288,10 +298,15 @@ module _ (read : Reader) (size : List Name → State → ℕ) (entries : List En
   -- ---- its objects numbered anew
 
   pub tidied_so : (u : State) → IsTidied t u → StandsFor read size entries g u
-  tidied_so u tidied = record { list = stands.list; history = stands.history; same = states_through Last t u stands.same (tidied_same t u tidied) }
+  tidied_so u tidied = record {
+    list = stands.list;
+    history = stands.history;
+    closed = tidied_closed t u tidied;
+    same = states_through Last t u stands.same (tidied_same t u tidied);
+  }
 
   pub versions_so : HasVersions g t
   versions_so = has_versions (run_of read size entries) (is_run read entries size) g stands.history t stands.same.names
 
   pub sizes_so : TellsAlike size → (v : ℕ) (x : Version) → IsActive g v x → x.size ≡ size x.names t
-  sizes_so tells v x active = has_sizes (run_of read size entries) (is_run read entries size) g stands.history t stands.same.names size tells (λ n names. refl) v x active
+  sizes_so tells v x active = has_sizes (run_of read size entries) (is_run read entries size) g stands.history t stands.same.names size tells stands.closed (λ n names. refl) v x active

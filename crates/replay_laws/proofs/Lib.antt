@@ -13,3 +13,4 @@ pub mod Ordering
 pub mod Canonical
 pub mod OneWalk
 pub mod Renumbering
+pub mod Sizing

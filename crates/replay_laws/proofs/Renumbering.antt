@@ -179,10 +179,6 @@ module _ (order : List ℕ) where
   -- ---- the names
 
   module _ (t : State) where
-    moved_maybe : Option Value → Option Value
-    moved_maybe None = None
-    moved_maybe (Some v) = Some (moved v)
-
     put_one : Name → Option Value → finite.FinMap (slice_cmp nat_cmp) Value → finite.FinMap (slice_cmp nat_cmp) Value
     put_one x None g = g
     put_one x (Some v) g = finite.insert g x (moved v)

@@ -1,16 +1,21 @@
 -- A tidied state is the same as before, and states that are the same have equally many objects that names reach.
-use Rattle.std.proofs.Common.{◌≡◌, ◌≢◌, ℕ, zero, suc, ◌+◌, ◌<◌, ◌≤◌, List, [], ◌∷◌, length, Some, refl, sym, ap, ◌∙◌, inl, inr, subst, arith}
-use Rattle.std.specs.Prelude.{Contains, AllPairs, slice_get}
+use Rattle.std.proofs.Common.{◌≡◌, ◌≢◌, ℕ, zero, suc, ◌+◌, ◌<◌, ◌≤◌, List, [], ◌∷◌, length, get_or, Option, Some, None, refl, sym, ap, ◌∙◌, inl, inr, subst, arith}
+use Rattle.std.specs.Prelude.{All, Contains, AllPairs, slice_get}
+use Rattle.std.specs.FinMap as finite
 use Rattle.std.proofs.lemmas.Bool.{cases_eq}
-use Rattle.std.proofs.lemmas.Option.{none-some, same_Some}
+use Rattle.std.proofs.lemmas.Option.{none-some, same_Some, slice_get_within, slice_get-get_or}
+use Rattle.py_value.specs.declared.value.Value.{Value}
+use Rattle.py_heap.specs.declared.heap.Object.{Object}
 use Rattle.py_heap.specs.declared.state.State.{State}
+use Rattle.py_heap.specs.References.{value_refs, object_refs, IsClosed}
 use Rattle.py_heap.specs.Reaching.{met}
 use Rattle.py_heap.proofs.Numbers.{firsts_apart}
-use Rattle.py_laws.specs.Same.{Pairs, HasPair, Same, SameStates, Every}
-use Rattle.py_laws.proofs.Matching.{IsWithin}
+use Rattle.py_laws.specs.Same.{Pairs, HasPair, ValuesMatch, ObjectsMatch, BothOrNone, Both, SameBy, Same, SameStates, Every}
+use Rattle.py_laws.proofs.Closing.{live_value, live_object}
+use Rattle.py_laws.proofs.Matching.{IsWithin, Turned}
 use Rattle.py_laws.proofs.Pairing.{pair_cases, no_pair, first_pair, later_pair}
 use Rattle.py_laws.proofs.Partners.{none_in, first_in, later_in, reach_partner}
-use Rattle.py_laws.proofs.Sameness.{same_by_agreeing, same_turned}
+use Rattle.py_laws.proofs.Sameness.{same_by_agreeing, same_by_turned, same_turned}
 use Rattle.run_graph.proofs.Lists.{cons_cases}
 use Rattle.linked_parts.proofs.Names.{reaches_value}
 use Rattle.run_graph.proofs.Reached.{reach_from_one, reach_by_one}
@@ -53,6 +58,37 @@ tidied_same t u h = record {
   count = sym h.count;
   meter = sym h.meter;
 }
+
+-- each reference of it is one of its objects
+held_live : (ps : ℕ → ℕ → Type 0) (n : ℕ) → ((a b : ℕ) → ps a b → a < n) → (v : Value) (o : Option Value) → BothOrNone (ValuesMatch ps) (Some v) o → All (λ at. at < n) (value_refs v)
+held_live ps n below v (Some w) h = live_value ps n below v w h
+held_live ps n below v None h = absurd h
+
+object_live : (ps : ℕ → ℕ → Type 0) (n : ℕ) → ((a b : ℕ) → ps a b → a < n) → (x : Object) (o : Option Object) → Both (ObjectsMatch ps) (Some x) o → All (λ at. at < n) (object_refs x)
+object_live ps n below x (Some y) h = live_object ps n below x y h
+object_live ps n below x None h = absurd h
+
+module _ (t u : State) (h : IsTidied t u) where
+  abbrev Places : ℕ → ℕ → Type 0
+  Places = Turned (AtPlace h.order)
+
+  turned : SameBy Places Every u t
+  turned = same_by_turned (AtPlace h.order) Every t u h.same
+
+  below : (a b : ℕ) → Places a b → a < length u.heap
+  below a b p = let l = slice_get_within h.order a b p in let s = h.size in omega (arith, l, s)
+
+  pub tidied_closed : IsClosed u
+  tidied_closed = record {
+    names = λ name held e. held_live Places (length u.heap) below held (finite.get t.globals name)
+        (subst (λ o. BothOrNone (ValuesMatch Places) o (finite.get t.globals name)) e (turned.names name tt));
+    objects = λ k d l.
+        let at : ℕ = get_or h.order k 0 in
+        let s = h.size in
+        let place : AtPlace h.order at k = slice_get-get_or h.order k 0 (omega (arith, l, s)) in
+        object_live Places (length u.heap) below (get_or u.heap k d) (slice_get t.heap at)
+        (subst (λ o. Both (ObjectsMatch Places) o (slice_get t.heap at)) (slice_get-get_or u.heap k d l) (turned.objects k at place));
+  }
 
 pub tidied_objects : (t u : State) (h : IsTidied t u) → AreObjectsOf t h.order
 tidied_objects t u h = record {

@@ -4,3 +4,4 @@ pub mod Standing
 pub mod Restored
 pub mod Sessions
 pub mod Tidied
+pub mod Sizing

@@ -28,6 +28,6 @@ pub record IsRestored (g : Graph) (last t : State) : Type 0 where
   pub none : (name : Name) → HasNone last name ↔ HasNone t name
   pub versions : HasVersions g t
 
--- states that are the same over some names have one length of the text of their part
+-- closed states that are the same over some names have one length of the text of their part
 abbrev pub TellsAlike : (List Name → State → ℕ) → Type 0
-TellsAlike size = (names : List Name) (s t : State) → Same (Contains names) s t → size names s ≡ size names t
+TellsAlike size = (names : List Name) (s t : State) → IsClosed s → IsClosed t → Same (Contains names) s t → size names s ≡ size names t

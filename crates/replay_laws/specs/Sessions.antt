@@ -2,6 +2,7 @@
 -- same as after them.
 use Rattle.std.specs.Prelude.{◌≡◌, ℕ, suc, List, length}
 use Rattle.py_heap.specs.declared.state.State.{State}
+use Rattle.py_heap.specs.References.{IsClosed}
 use Rattle.py_machine.specs.Runs.{Name}
 use Rattle.py_laws.specs.Same.{SameStates}
 use Rattle.graph_model.specs.declared.graph.Graph.{Graph}
@@ -13,6 +14,7 @@ use Rattle.run_graph.specs.RunLists.{Entry, entry_done, state_after, IsRunList, 
 pub record StandsFor (read : Reader) (size : List Name → State → ℕ) (entries : List Entry) (g : Graph) (t : State) : Type 0 where
   pub list : IsRunList read entries
   pub history : IsHistory (run_of read size entries) g
+  pub closed : IsClosed t
   pub same : SameStates (state_after read entries (length entries)) t
 
 -- the cell after cell c of run r is this one, run from the state t

@@ -1,4 +1,4 @@
-ghost use Rattle.std.specs.Prelude.{ℕ, ◌+◌, ◌≤◌, ◌≡◌, ◌++◌, Contains, List, [], ◌∷◌, length};
+ghost use Rattle.std.specs.Prelude.{ℕ, ◌+◌, ◌≤◌, ◌≡◌, ◌↔◌, true, ◌++◌, Contains, List, [], ◌∷◌, length};
 ghost use Rattle.graph_model.specs.declared.graph.CellRecord.{CellRecord};
 ghost use Rattle.graph_model.specs.declared.graph.Graph.{Graph};
 ghost use Rattle.graph_model.specs.declared.graph.Version.{Version};
@@ -18,11 +18,14 @@ ghost use Rattle.run_graph.specs.Histories.{Run, IsHistory};
 ghost use Rattle.run_graph.specs.Soundness.{Reader, statements, IsRun, Follows};
 ghost use Rattle.run_graph.specs.RunLists.{Entry, raised, entry_done, state_after, IsRunList, run_of};
 ghost use Rattle.run_graph.specs.Growing.{IsNext};
+ghost use Rattle.run_graph.specs.Fitting.{TellsParts};
+ghost use Rattle.run_graph.specs.Parts.{HasHandle};
 ghost use Rattle.replay_laws.specs.Walks.{done_again, Walked, IsLoaded};
 ghost use Rattle.replay_laws.specs.Copies.{AreCopies, with_copy};
 ghost use Rattle.replay_laws.specs.Standing.{IsGivenBack, IsGood};
 ghost use Rattle.replay_laws.specs.Restored.{with_tallies, HasVersions, IsRestored, TellsAlike};
 ghost use Rattle.replay_laws.specs.Sessions.{StandsFor, IsCellFrom};
+ghost use Rattle.replay_laws.specs.Sizing.{holds_handle, size_of};
 ghost use Rattle.replay_laws.specs.Tidied.{IsTidied, AreObjectsOf};
 
 /// After each cell of the walk of a feasible plan, every version that holds and that the plan gave back is the same as in the
@@ -72,7 +75,15 @@ pub fn a_copy_is_loaded()
     ensures whole { (g : Graph) (p : Plan) (last : State) → IsClosed last → AreCopies g p last (λ v. last) }
 {}
 
-/// The parts of a restored state have texts as long as the graph says, if states that are the same tell one length.
+/// The size of a version is the length of the text of its part, or 0 if a handle is in it or it has no value. Closed states that
+/// are the same tell one size, and so do the states of a run.
+pub fn sizes_are_told_alike()
+    ensures handle { (names : List Name) (s : State) → IsClosed s → (holds_handle names s ≡ true) ↔ HasHandle s names }
+    ensures alike { TellsAlike size_of }
+    ensures parts { (r : Run) → ((c : ℕ) (names : List Name) → r.size c names ≡ size_of names (r.state c)) → TellsParts r }
+{}
+
+/// The parts of a restored state have texts as long as the graph says, if closed states that are the same tell one length.
 pub fn a_restored_state_has_the_sizes()
     ensures { (read : Reader) (size : List Name → State → ℕ) (entries : List Entry) (g : Graph) → IsHistory (run_of read size entries) g → TellsAlike size
         → (t : State) → IsRestored g (state_after read entries (length entries)) t → (v : ℕ) (x : Version) → IsActive g v x
@@ -129,7 +140,7 @@ pub fn a_move_keeps_the_session()
 {}
 
 /// The active versions of a session are the parts of its state, with their handles, and with the lengths of their texts if
-/// states that are the same tell one length.
+/// closed states that are the same tell one length.
 pub fn a_session_has_its_versions()
     ensures parts { (read : Reader) (size : List Name → State → ℕ) (entries : List Entry) (g : Graph) (t : State)
         → StandsFor read size entries g t → HasVersions g t }

@@ -11,5 +11,5 @@ pub use laws::{
     a_copy_is_loaded, a_feasible_plan_restores_the_session, a_move_keeps_the_session,
     a_restored_state_has_the_sizes, a_session_goes_on, a_session_has_its_versions,
     a_walk_can_be_made, a_walk_keeps_what_it_gave_back, same_states_are_reached_in_one_order,
-    tidying_keeps_the_state, two_walks_end_alike,
+    sizes_are_told_alike, tidying_keeps_the_state, two_walks_end_alike,
 };

@@ -1,5 +1,5 @@
 -- Each step of a queue keeps its rule.
-use Rattle.std.proofs.Common.{◌≡◌, ◌≢◌, ◌⊎◌, ◌+◌, ◌<◌, ◌≤◌, ◌==◌, ℕ, zero, suc, Bool, cond, true, false, true≢false, List, [], ◌∷◌, ◌++◌, map, length, set, sym, refl, ap, ap₂, ◌∙◌, subst, inl, inr, ⊎_elim, append_assoc, append-nil, length-append, length-set, eq-eqb, ne_eqb, arith}
+use Rattle.std.proofs.Common.{◌≡◌, ◌≢◌, ◌⊎◌, ◌+◌, ◌<◌, ◌≤◌, ◌==◌, ℕ, zero, suc, Bool, cond, true, false, true≢false, List, [], ◌∷◌, ◌++◌, map, length, set, sym, refl, ap, ap₂, ◌∙◌, subst, inl, inr, ⊎_elim, append_assoc, append-nil, length-append, eq-eqb, ne_eqb, arith}
 use Rattle.std.proofs.lemmas.List.Elements.{filter-append}
 use Rattle.std.proofs.lemmas.Bool.{cases_lt}
 use Rattle.std.proofs.Math.Decide.{ℕ_discrete}
@@ -9,7 +9,7 @@ use lib.ListN.{get_elem?}
 use Rattle.crossbeam_queue.specs.Fifo.{Pushes, Pops, Forks, Merges, Learns}
 use Rattle.crossbeam_queue.proofs.Lists.{at_set, set_else, at_longer, at_last}
 use Rattle.ruled_queue.specs.declared.rule.View.{View}
-use Rattle.ruled_queue.specs.Rule.{of, Keeps, Fits, Kept, knows, first_view, spent_view, consumer_part, producer_part, gave_number, next_number, joined, impossible, grow, grown, took, Took, MayPush, Waits, Each, OnlyFirstOpens}
+use Rattle.ruled_queue.specs.Rule.{of, Keeps, Fits, Kept, knows, first_view, spent_view, impossible, grow, grown, took, Took, MayPush, Waits, Each, OnlyFirstOpens}
 
 module _ {T : Type 0} where
   keeps_either : (n : ℕ) (l : List T) (es fs : List (ℕ × List T)) → Keeps n l (es ++ fs) → Keeps n l es ⊎ Keeps n l fs

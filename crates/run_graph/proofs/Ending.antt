@@ -40,5 +40,5 @@ module _ (r : Run) (run : IsRun r) (g : Graph) (h : IsHistory r g) where
         subst (HasNone (r.state r.cells)) (one_in d.0 name (subst (λ ns. Contains ns name) d.1 p)) d.2;
     weights = λ v x a.
         let same = stands r run g h r.cells (omega arith) v x (holds v x a) in
-        weighed_later r x.writer r.cells x same (tells.alike x.writer r.cells x.names same) (h.weights v x a.0);
+        weighed_later r x.writer r.cells x same (tells.alike x.writer r.cells x.names (run.closed x.writer) (run.closed r.cells) same) (h.weights v x a.0);
   }

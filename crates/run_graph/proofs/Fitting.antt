@@ -239,7 +239,7 @@ module _ (r : Run) (c : ℕ) (g k : Graph) (next : IsNext r c g k) (good : IsGra
           let e = still_active v o.0 x o.2 active.1 in
           let same = still_same v o.0 (o.1, e.0) e.1 in
           weighed_alike r (suc c) o.0 x o.2.names o.2.handle o.2.size
-          (weighed_later r c (suc c) o.0 same (tells.alike c (suc c) o.0.names same) (fits.weights v o.0 (o.1, e.0)))
+          (weighed_later r c (suc c) o.0 same (tells.alike c (suc c) o.0.names step.spares.closed step.closed same) (fits.weights v o.0 (o.1, e.0)))
       | inr n ↦ (next.left x (in_of_get next.news n.0 x n.2)).3
     ];
   }

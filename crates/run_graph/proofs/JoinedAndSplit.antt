@@ -9,7 +9,7 @@ use Rattle.py_heap.specs.declared.heap.Object.{Object}
 use Rattle.py_heap.specs.declared.heap.Object.TheVariants as object
 use Rattle.py_heap.specs.declared.state.State.{State}
 use Rattle.py_heap.specs.References.{value_refs}
-use Rattle.py_heap.specs.Reaching.{held_refs, Reach}
+use Rattle.py_heap.specs.Reaching.{held_refs}
 use Rattle.py_heap.specs.Reaching as reaching
 use Rattle.py_heap.specs.States.{empty, with_object}
 use Rattle.py_machine.specs.Runs.{Name}

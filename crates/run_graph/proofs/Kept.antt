@@ -10,7 +10,7 @@ use Rattle.linked_parts.specs.Parts.{HasValue, shared, IsPart, Apart}
 use Rattle.linked_parts.proofs.Names.{linked_values}
 use Rattle.run_graph.specs.Histories.{Run, IsKept, IsWritten}
 use Rattle.run_graph.specs.Soundness.{IsRun, Spares}
-use Rattle.run_graph.proofs.Reached.{reach_from_one, reach_forth, reach_back}
+use Rattle.run_graph.proofs.Reached.{reach_from_one, reach_forth}
 
 -- ---- a name in a part has a value
 
@@ -50,9 +50,6 @@ module _ (r : Run) (c : ℕ) (spares : Spares r c) (names : List Name) (k : IsKe
 
   pub kept_forth : (at : ℕ) → Reach (r.state c) names at → Reach (r.state (suc c)) names at
   kept_forth = reach_forth (r.state c) (r.state (suc c)) names kept_value kept_object
-
-  pub kept_back : (at : ℕ) → Reach (r.state (suc c)) names at → Reach (r.state c) names at
-  kept_back = reach_back (r.state c) (r.state (suc c)) names kept_value kept_object
 
   pub value_before : (x : Name) → Contains names x → HasValue (r.state (suc c)) x → HasValue (r.state c) x
   value_before x h v = (v.0, sym (kept_value x h) ∙ v.1)

@@ -14,7 +14,7 @@ use Rattle.py_laws.proofs.Closing.{closed_after}
 use Rattle.run_graph.specs.Soundness.{IsRun, Reader, statements, done_by, Follows}
 use Rattle.run_graph.specs.RunLists.{Entry, entry, raised, entry_done, state_after, marks_of, steps_of, IsRunList, run_of}
 
-raised_closed : (e : Entry) (s : State) → IsClosed s → IsClosed (raised e s)
+pub raised_closed : (e : Entry) (s : State) → IsClosed s → IsClosed (raised e s)
 raised_closed e s c = record { names = c.names; objects = c.objects }
 
 module _ (read : Reader) (entries : List Entry) where

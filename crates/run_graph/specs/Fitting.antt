@@ -1,6 +1,7 @@
 -- What a graph keeps that need not be the history of a run, as one that was read from bytes.
-use Rattle.std.specs.Prelude.{◌≡◌, ℕ, true, false, List, Contains}
+use Rattle.std.specs.Prelude.{◌≡◌, ℕ, suc, true, false, List, Contains}
 use Rattle.py_names.specs.Names.{is_identifier, is_variable}
+use Rattle.py_heap.specs.References.{IsClosed}
 use Rattle.py_machine.specs.Runs.{Name}
 use Rattle.graph_model.specs.declared.graph.Version.{Version}
 use Rattle.graph_model.specs.declared.graph.Graph.{Graph}
@@ -18,12 +19,14 @@ pub record Fits (r : Run) (c : ℕ) (g : Graph) : Type 0 where
   pub are_absent : (v : ℕ) (x : Version) → IsActive g v x → x.absent ≡ true → (name : Name) → Contains x.names name → HasNone (r.state c) name
   pub weights : (v : ℕ) (x : Version) → IsActive g v x → IsWeighed r c x
 
--- states that are the same over some names have one length of the text of their part
+-- closed states that are the same over some names have one length of the text of their part
 pub record TellsParts (r : Run) : Type 0 where
-  pub alike : (c d : ℕ) (names : List Name) → Same (Contains names) (r.state c) (r.state d) → r.size c names ≡ r.size d names
+  pub alike : (c d : ℕ) (names : List Name) → IsClosed (r.state c) → IsClosed (r.state d) → Same (Contains names) (r.state c) (r.state d)
+      → r.size c names ≡ r.size d names
 
 -- what the meaning gives of the one cell after cell c
 pub record IsStep (r : Run) (c : ℕ) : Type 0 where
   pub spares : Spares r c
+  pub closed : IsClosed (r.state (suc c))
   pub bound : (x : Name) → Binds r c x → is_variable x ≡ true
   pub looked : (x : Name) → Looks r c x → is_identifier x ≡ true

@@ -87,7 +87,7 @@ pub fn histories_grow()
 {}
 
 /// A graph without a fault, whose active versions are the parts of the state, stays one with the next cell; it need not be
-/// the history of a run. The second is so where states that are the same tell one length of a part's text.
+/// the history of a run. The second is so where closed states that are the same tell one length of a part's text.
 pub fn a_graph_that_fits_grows_to_one()
     ensures checks { (r : Run) (c : ℕ) (g k : Graph) → IsNext r c g k → IsGraph g → length g.cells ≡ c → Fits r c g → IsStep r c
         → c + 1 < 2 ^ 32 → length k.versions < 2 ^ 32 → IsGraph k }

@@ -1,5 +1,5 @@
 -- What a request to move leaves.
-use Rattle.std.proofs.Common.{◌≡◌, ℕ, false, inl, inr, List, [], ◌∷◌, ◌++◌, refl, sym, ap, ◌∙◌, subst, Ok, Err, Some, None, ◌≢◌, ◌<◌}
+use Rattle.std.proofs.Common.{◌≡◌, ℕ, false, inl, inr, List, [], ◌∷◌, ◌++◌, refl, sym, ap, ◌∙◌, subst, append_assoc, Ok, Err, Some, None, ◌≢◌, ◌<◌}
 use Rattle.std.proofs.lemmas.List.{append-nil}
 use Rattle.graph_model.specs.declared.plan.Weights.{Weights}
 use Rattle.graph_model.specs.declared.plan.Certified.{Certified}
@@ -29,6 +29,7 @@ module _ (meaning : Meaning) (hosts : ℕ) where
       → asked_by (progress_of old).phase e ≡ request ∷ [] → (after (progress_of old) e).phase ≡ settled
       → (after (progress_of old) e).served ≡ (progress_of old).served → (after (progress_of old) e).dead ≡ (progress_of old).dead → HasEnded meaning hosts old new request
   ended_by old new e request is may asks phase served dead = let now = ap progress_of is ∙ progress_more old e in record {
+    goes_on = (e ∷ [], is);
     legal = λ legal. subst (IsLegal meaning hosts) (sym is) (legal_more meaning hosts old e legal may);
     answers = ap asked is ∙ asked_more old e ∙ ap (λ z. asked old ++ z) asks;
     phase = ap (λ p. p.phase) now ∙ phase;
@@ -82,6 +83,11 @@ module _ (meaning : Meaning) (hosts : ℕ) where
   away_asked old request to = let e = Sealed (progress_of old).owner request to in
       asked_more (old ++ e ∷ []) (Moved to) ∙ append-nil (asked (old ++ e ∷ [])) ∙ asked_more old e
 
+  away_more : (old : List Entry) (request : Request) (to : ℕ) (e : Entry) → away old request to ++ e ∷ [] ≡ old ++ Sealed (progress_of old).owner request to ∷ Moved to ∷ e ∷ []
+  unfolding away
+  away_more old request to e = let s = Sealed (progress_of old).owner request to in
+      append_assoc (old ++ s ∷ []) (Moved to ∷ []) (e ∷ []) ∙ append_assoc old (s ∷ []) (Moved to ∷ e ∷ [])
+
   -- it ends with an entry that asks nothing
   arrived : (old new : List Entry) (request : Request) (to : ℕ) (weights : Weights) (e : Entry) → request.ask ≡ Migrate to weights → (progress_of old).phase ≡ settled
       → MayGo meaning hosts (progress_of old) to weights → new ≡ away old request to ++ e ∷ []
@@ -92,6 +98,7 @@ module _ (meaning : Meaning) (hosts : ℕ) where
   arrived old new request to weights e ask phase may is comes asks then served dead =
       let gone = away_progress old request to in
       let now = ap progress_of is ∙ progress_more (away old request to) e ∙ ap (λ p. after p e) gone in record {
+        goes_on = (Sealed (progress_of old).owner request to ∷ Moved to ∷ e ∷ [], is ∙ away_more old request to e);
         legal = λ legal. subst (IsLegal meaning hosts) (sym is) (legal_more meaning hosts (away old request to) e (away_legal old request to weights ask phase may legal)
             (subst (λ p. MayCome meaning hosts p e) (sym gone) comes));
         answers = ap asked is ∙ asked_more (away old request to) e ∙ ap (λ (p : Progress). asked (away old request to) ++ asked_by p.phase e) gone

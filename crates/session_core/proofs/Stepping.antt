@@ -9,7 +9,7 @@ use Rattle.session_core.specs.declared.entry.DiedCause.{DiedCause}
 use Rattle.session_core.specs.declared.engine.RunFault.{RunFault}
 use Rattle.session_core.specs.declared.engine.RunFault.TheVariants as run
 use Rattle.session_core.specs.Engines.{RunsOn}
-use Rattle.session_core.specs.Stepping.{cause_of}
+use Rattle.session_core.specs.Stepping.{cause_of, GoesOn}
 use Rattle.session_core.specs.Asks.{is_end}
 use Rattle.session_core.specs.Meanings.{Served, Meaning, more, HasNoEnd}
 use Rattle.session_core.specs.Legal.{Phase, settled, Progress, after, all_after, before_all, progress_of, IsCause, MayCome, IsLegal, if_settled, asked_by, asked}
@@ -90,6 +90,9 @@ module _ (meaning : Meaning) (hosts : ℕ) where
 
   pub ends_legal : (old new : List Entry) (r : Request) → Ends old new r → IsLegal meaning hosts old → IsLegal meaning hosts new
   ends_legal old new r (e, ends, (may, is)) legal = subst (IsLegal meaning hosts) (sym is) (legal_more meaning hosts old e legal may)
+
+  pub ends_goes_on : (old new : List Entry) (r : Request) → Ends old new r → GoesOn old new
+  ends_goes_on old new r (e, ends, (may, is)) = (e ∷ [], is)
 
   pub ends_phase : (old new : List Entry) (r : Request) → Ends old new r → (progress_of old).phase ≡ settled → (progress_of new).phase ≡ settled
   ends_phase old new r (e, ends, (may, is)) phase = ap (λ es. (progress_of es).phase) is ∙ ap (λ p. p.phase) (progress_more old e) ∙ noted_phase (progress_of old) e r phase ends

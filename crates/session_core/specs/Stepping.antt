@@ -46,9 +46,14 @@ HasGone meaning old new to request again certified Holds =
     × (new ≡ ((old ++ Sealed host request to ∷ []) ++ Moved to ∷ []) ++ Adopted host to again certified objects ∷ []))
     ⊎ (Holds host × (new ≡ ((old ++ Sealed host request to ∷ []) ++ Moved to ∷ []) ++ Resumed host again ∷ []))
 
--- A request ended: a legal journal stays legal, it answers this request and no other, and the session is settled, with the
--- same served and no more dead than before.
+-- these entries, and more after them
+abbrev pub GoesOn : List Entry → List Entry → Type 0
+GoesOn old new = (more : List Entry) × (new ≡ old ++ more)
+
+-- A request ended: the journal goes on, a legal one stays legal, it answers this request and no other, and the session is
+-- settled, with the same served and no more dead than before.
 pub record HasEnded (meaning : Meaning) (hosts : ℕ) (old new : List Entry) (request : Request) : Type 0 where
+  pub goes_on : GoesOn old new
   pub legal : IsLegal meaning hosts old → IsLegal meaning hosts new
   pub answers : asked new ≡ asked old ++ request ∷ []
   pub phase : (progress_of new).phase ≡ settled

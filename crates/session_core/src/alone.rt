@@ -2,6 +2,7 @@ ghost use Rattle.std.specs.Prelude.{◌≡◌, ◌<◌, ◌≤◌, ◌++◌, [],
 ghost use Rattle.std.specs.Prelude.{false};
 ghost use Rattle.session_core.specs.Asks.{IsWork};
 ghost use Rattle.session_core.specs.Legal.{asked, IsLegal};
+ghost use Rattle.session_core.specs.Stepping.{GoesOn};
 ghost use Rattle.session_core.specs.Aloneness.{IsAlone};
 
 use crate::engine::Engine;
@@ -81,9 +82,10 @@ impl<E: Engine + Drop> Alone<E> {
     }
 
     /// Answers one request. A cell ran, died or found the session dead; a move was adopted, refused or, for want of memory,
-    /// resumed.
+    /// resumed. The journal goes on by the entries that say so.
     pub fn answer<F: Feed>(self, alloc: Global, feed: &mut F, request: Request) -> Alone<E>
         requires { 3 ≤ self.spare }
+        ensures goes_on { GoesOn self.entries result.entries }
         ensures answered { asked result.entries ≡ asked self.entries ++ request ∷ [] }
         ensures hosts { result.hosts ≡ self.hosts }
     {
@@ -130,6 +132,7 @@ fn served<E: Engine + Drop, F: Feed>(
     requires spare { 1 ≤ journal.spare }
     requires work { IsWork request.ask }
     requires alone { IsAlone E.meaning (E.stands_for engine) (E.host_of engine) hosts false 0 journal.entries }
+    ensures goes_on { GoesOn journal.entries result.entries }
     ensures answered { asked result.entries ≡ asked journal.entries ++ request ∷ [] }
     ensures hosts { result.hosts ≡ hosts }
 {

@@ -1,11 +1,11 @@
 -- A parcel that came to its host.
-use Rattle.std.proofs.Common.{◌≡◌, ℕ, List, [], ◌∷◌, ◌++◌, refl, sym, ap, ◌∙◌, subst, Some, slice_get}
+use Rattle.std.proofs.Common.{ℕ, List, [], refl, sym, ap, ◌∙◌, subst, Some, slice_get}
 use Rattle.session_core.specs.declared.entry.Entry.{Entry}
 use Rattle.session_core.specs.declared.entry.Entry.TheVariants.{Moved}
 use Rattle.session_queues.specs.declared.shared.SharedQueues.{SharedQueues}
 use Rattle.session_queues.specs.Ends.{Held}
 use Rattle.session_gate.specs.Answered.{IsAnswered}
-use Rattle.session_gate.specs.Facts.{Holds, Away, IsIn, OwesNone, IsBare, HasNoted}
+use Rattle.session_gate.specs.Facts.{Away, IsIn, OwesNone, IsBare, HasNoted}
 use Rattle.session_gate.specs.Places.{IsSealedUp}
 use Rattle.session_gate.proofs.Noting.{answered_more}
 

@@ -1,17 +1,15 @@
 -- A move that sets out, and how it ends.
-use Rattle.std.proofs.Common.{◌≡◌, ◌<◌, ◌≤◌, ◌+◌, ℕ, true, false, List, [], ◌∷◌, ◌++◌, refl, sym, ap, ◌∙◌, subst, Ok, append-nil, arith}
-use Rattle.graph_model.specs.declared.plan.Certified.{Certified}
-use Rattle.graph_model.specs.declared.plan.Weights.{Weights}
+use Rattle.std.proofs.Common.{◌≡◌, ◌<◌, ◌≤◌, ◌+◌, ℕ, false, List, [], ◌∷◌, ◌++◌, refl, sym, ap, ◌∙◌, subst, Ok, arith}
 use Rattle.session_core.specs.declared.request.Ask.{Ask}
 use Rattle.session_core.specs.declared.request.Ask.TheVariants.{Execute, Info, Complete, Shutdown, Migrate}
 use Rattle.session_core.specs.declared.request.Request.{Request}
 use Rattle.session_core.specs.declared.entry.Entry.{Entry}
-use Rattle.session_core.specs.declared.entry.Entry.TheVariants.{Sealed, Moved, Adopted, Refused, Resumed}
+use Rattle.session_core.specs.declared.entry.Entry.TheVariants.{Sealed, Moved}
 use Rattle.session_core.specs.declared.engine.Packed.{Packed}
 use Rattle.session_core.specs.Asks.{IsMove}
 use Rattle.session_core.specs.Engines.{Packs}
-use Rattle.session_core.specs.Meanings.{Served, Meaning}
-use Rattle.session_core.specs.Legal.{Phase, settled, sealed, arriving, moved, Progress, after, progress_of, CanGo, MayTry, MayGo, HasPlan, MayCome, MayBeMoved, MayBeAdopted, MayBeResumed, if_settled}
+use Rattle.session_core.specs.Meanings.{Meaning}
+use Rattle.session_core.specs.Legal.{Phase, settled, sealed, arriving, moved, Progress, progress_of, CanGo, MayTry, MayGo, HasPlan, MayBeMoved, MayBeAdopted, MayBeResumed}
 use Rattle.session_core.proofs.Progressing.{progress_more}
 use Rattle.session_gate.specs.Facts.{IsOnItsWay, IsPackFor}
 

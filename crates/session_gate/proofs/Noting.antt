@@ -1,7 +1,7 @@
 -- A journal that is one entry longer, and what its Resident then keeps.
-use Rattle.std.proofs.Common.{◌≡◌, ◌≢◌, ℕ, Bool, true, false, true≢false, ◌||◌, List, [], ◌∷◌, ◌++◌, filter, map, append_assoc, append-nil, refl, sym, ap, ap₂, ◌∙◌, subst, Option, Some, None, Err}
+use Rattle.std.proofs.Common.{◌≡◌, ◌≢◌, ℕ, Bool, true, false, true≢false, ◌||◌, List, [], ◌∷◌, ◌++◌, append_assoc, append-nil, refl, sym, ap, ap₂, ◌∙◌, subst, Err}
 use Rattle.nb_outside.specs.declared.feed.Drawn.{Drawn}
-use Rattle.nb_outside.specs.Feeds.{Seen, HasAll, Fed}
+use Rattle.nb_outside.specs.Feeds.{Seen, Fed}
 use Rattle.nb_outside.proofs.Feeding.{fed_more}
 use Rattle.session_core.specs.declared.request.Request.{Request}
 use Rattle.session_core.specs.declared.reply.Reply.{Reply}
@@ -9,19 +9,19 @@ use Rattle.session_core.specs.declared.entry.DiedCause.{DiedCause}
 use Rattle.session_core.specs.declared.engine.RunFault.{RunFault}
 use Rattle.session_core.specs.declared.engine.RunFault.TheVariants as run
 use Rattle.session_core.specs.declared.entry.Entry.{Entry}
-use Rattle.session_core.specs.declared.entry.Entry.TheVariants.{Opened, Ran, Died, Dead, Sealed, Moved, Adopted, Refused, Resumed}
+use Rattle.session_core.specs.declared.entry.Entry.TheVariants.{Ran, Died}
 use Rattle.session_core.specs.Asks.{is_end, IsWork}
 use Rattle.session_core.specs.Engines.{HasDrawn as HasTaken, RunsOn}
 use Rattle.session_core.specs.Stepping.{cause_of}
 use Rattle.session_core.specs.Meanings.{Served, Meaning, more, HasNoEnd}
-use Rattle.session_core.specs.Legal.{settled, Progress, after, progress_of, MayCome, IsLegal, asked_by, asked}
+use Rattle.session_core.specs.Legal.{settled, after, progress_of, MayCome, IsLegal, asked_by, asked}
 use Rattle.session_core.proofs.Progressing.{progress_more, asked_more, legal_more}
 use Rattle.session_core.proofs.Stepping.{alive_has_no_end, cause_is}
 use Rattle.session_queues.specs.declared.items.MainItem.{MainItem}
 use Rattle.session_queues.specs.Ends.{Held, OnOut}
 use Rattle.session_gate.specs.Answered.{opening_by, opening_of, as_main, as_control, IsAnswered}
-use Rattle.session_gate.specs.Drawing.{draws_for, draws_by, draws_of, loses, has_lost, HasDrawn}
-use Rattle.session_gate.specs.Facts.{IsKept, IsPublished, IsResident}
+use Rattle.session_gate.specs.Drawing.{draws_by, draws_of, loses, has_lost, HasDrawn}
+use Rattle.session_gate.specs.Facts.{IsPublished, IsResident}
 use Rattle.session_gate.specs.Slots.{IsQuiet}
 
 -- ---- what is answered

@@ -1,5 +1,5 @@
 -- What a pop, a join and an admission leave of a Resident.
-use Rattle.std.proofs.Common.{◌≡◌, ◌≢◌, ℕ, Bool, true, false, not, ◌⊎◌, inl, inr, List, [], ◌∷◌, ◌++◌, filter, map, append_assoc, append-nil, refl, sym, ap, ap₂, ◌∙◌, subst, Option, Some, None, MatchOption, Result, Ok, Err, MatchResult, cond}
+use Rattle.std.proofs.Common.{◌≡◌, ◌≢◌, ℕ, Bool, true, false, not, inl, inr, List, [], ◌∷◌, ◌++◌, filter, map, append_assoc, append-nil, refl, sym, ap, ◌∙◌, subst, Option, Some, None, MatchOption, Result, Ok, Err, MatchResult, cond}
 use Rattle.std.proofs.lemmas.List.Elements.{filter-append}
 use Rattle.nb_outside.specs.Feeds.{Seen}
 use Rattle.session_core.specs.declared.request.Request.{Request}
@@ -13,9 +13,9 @@ use Rattle.session_queues.specs.declared.items.MainItem.TheVariants.{Opening, As
 use Rattle.ruled_queue.specs.declared.rule.View.{View}
 use Rattle.ruled_queue.proofs.Keeping.{cons_is_not_nil}
 use Rattle.session_queues.specs.declared.shared.SharedQueues.{SharedQueues}
-use Rattle.session_queues.specs.Ends.{Held, OnOut, FoundNothing, TookRequest, gathered, admitted_main, admitted_control}
+use Rattle.session_queues.specs.Ends.{Held, OnOut, FoundNothing, TookRequest, admitted_main, admitted_control}
 use Rattle.session_gate.specs.Answered.{opening_by, opening_of, as_main, as_control, IsAnswered}
-use Rattle.session_gate.specs.Facts.{IsPublished, IsResident}
+use Rattle.session_gate.specs.Facts.{IsResident}
 
 -- a legal journal has an opening
 opens : (meaning : Meaning) (hosts : ℕ) (e : Entry) (rest : List MainItem) → IsOpening meaning hosts e → opening_by e ++ rest ≢ []

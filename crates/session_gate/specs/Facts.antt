@@ -1,17 +1,15 @@
 -- What contracts see of a Resident, a Lease and a Parcel, and what their types keep.
-use Rattle.std.specs.Prelude.{◌≡◌, ◌⊎◌, ℕ, ◌+◌, ◌≤◌, Bool, true, false, ⊤, List, [], ◌∷◌, ◌++◌, slice_get, Option, Some, None, MatchOption, Ok}
+use Rattle.std.specs.Prelude.{◌≡◌, ℕ, ◌+◌, ◌≤◌, Bool, true, false, List, [], ◌∷◌, ◌++◌, slice_get, Some, Ok}
 use Rattle.nb_outside.specs.Feeds.{Seen}
 use Rattle.graph_model.specs.declared.plan.Certified.{Certified}
-use Rattle.graph_model.specs.declared.plan.Weights.{Weights}
 use Rattle.session_core.specs.declared.request.Ask.{Ask}
 use Rattle.session_core.specs.declared.request.Request.{Request}
 use Rattle.session_core.specs.declared.entry.Entry.{Entry}
-use Rattle.session_core.specs.declared.entry.Entry.TheVariants.{Opened, Ran, Died, Dead, Sealed, Moved, Adopted, Refused, Resumed}
 use Rattle.session_core.specs.declared.engine.Packed.{Packed}
 use Rattle.session_core.specs.Asks.{IsMove}
 use Rattle.session_core.specs.Engines.{Packs}
 use Rattle.session_core.specs.Meanings.{Served, Meaning}
-use Rattle.session_core.specs.Legal.{Phase, settled, sealed, arriving, Progress, progress_of, CanGo, IsLegal}
+use Rattle.session_core.specs.Legal.{Phase, settled, sealed, arriving, progress_of, IsLegal}
 use Rattle.session_queues.specs.declared.shared.SharedQueues.{SharedQueues}
 use Rattle.session_queues.specs.Passes.{KeepsAll}
 use Rattle.session_queues.specs.Ends.{Held, OnOut}

@@ -1,5 +1,5 @@
 -- Where a session's owner stands, and what the calls of a slot do.
-use Rattle.std.specs.Prelude.{◌≡◌, ◌≢◌, ◌==◌, [], ◌∷◌, ◌++◌, MatchOption, MatchResult, ℕ, cond, List, ⊤, Option, Result, Some, None, Ok, Err}
+use Rattle.std.specs.Prelude.{◌≡◌, ◌≢◌, ◌==◌, [], ◌∷◌, MatchOption, ℕ, cond, List, ⊤, Option, Result, None, Ok, Err}
 use Rattle.session_core.specs.declared.request.Header.{Header}
 use Rattle.session_core.specs.declared.request.Channel.{Channel}
 use Rattle.session_core.specs.declared.entry.Entry.TheVariants.{Opened, Moved}

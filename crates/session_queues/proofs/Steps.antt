@@ -1,11 +1,11 @@
 -- What steps leave of a pass on main and control.
-use Rattle.std.proofs.Common.{◌≡◌, ℕ, ◌+◌, ◌<◌, ◌≤◌, ◌%◌, Bool, true, false, List, [], ◌∷◌, ◌++◌, map, refl, sym, ap, ◌∙◌, subst, inl, inr, ⊎_elim, ◌⊎◌, ◌==◌, Result, MatchResult, arith, cond}
+use Rattle.std.proofs.Common.{◌≡◌, ℕ, ◌+◌, ◌<◌, ◌≤◌, ◌%◌, true, false, List, [], ◌∷◌, ◌++◌, refl, sym, ap, ◌∙◌, subst, inl, inr, ⊎_elim, ◌⊎◌, Result, MatchResult, arith}
 use Rattle.std.proofs.lemmas.Bool.{cases_lt}
-use Rattle.std.specs.Prelude.{Ok, Err, Option, Some, None, MatchOption, ◌^◌}
+use Rattle.std.specs.Prelude.{Ok, Err, Option, Some, None, MatchOption}
 use Rattle.session_core.specs.declared.request.Request.{Request}
 use Rattle.session_core.specs.Asks.{is_control}
 use Rattle.ruled_queue.specs.declared.rule.View.{View}
-use Rattle.ruled_queue.specs.Rule.{of, Keeps, knows, first_view, joined, grow, grown, took, Took, MayPush, Waits}
+use Rattle.ruled_queue.specs.Rule.{of, Keeps, knows, joined, grown, took, Took, MayPush, Waits}
 use Rattle.ruled_queue.proofs.Keeping.{grow_keeps, keeps_left, cons_is_not_nil}
 use Rattle.session_queues.specs.declared.items.MainItem.{MainItem}
 use Rattle.session_queues.specs.Items.{number_of, is_opening, IsForMain, frontend_of, IsForControl, opens_control}

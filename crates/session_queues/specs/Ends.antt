@@ -1,10 +1,10 @@
 -- The ends of the queues that the owner of a session has: the consumer's passes on main and control, and the producer's pass on
 -- out; and the reader's end of out.
-use Rattle.std.specs.Prelude.{◌≡◌, ◌≢◌, ℕ, ◌<◌, ◌⊎◌, Bool, true, false, ⊤, List, [], ◌∷◌, ◌++◌, Option, Some, None, length}
+use Rattle.std.specs.Prelude.{◌≡◌, ℕ, ◌⊎◌, true, false, List, [], ◌∷◌}
 use Rattle.std.specs.declared.alloc.Global.{Global}
-use Rattle.crossbeam_queue.specs.SegTies.{SegId, IsSegPassOf}
+use Rattle.crossbeam_queue.specs.SegTies.{SegId}
 use Rattle.ruled_queue.specs.declared.rule.View.{View}
-use Rattle.ruled_queue.specs.Rule.{knows, first_view, grown, joined, Took, Waits}
+use Rattle.ruled_queue.specs.Rule.{knows, grown, joined, Took, Waits}
 use Rattle.session_core.specs.declared.request.Request.{Request}
 use Rattle.session_core.specs.declared.entry.Entry.{Entry}
 use Rattle.session_core.specs.Asks.{is_control}

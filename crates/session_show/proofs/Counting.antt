@@ -1,6 +1,6 @@
 -- The least engine keeps the laws.
 use Rattle.std.proofs.Common.{◌≡◌, ℕ, ◌+◌, ◌<◌, ◌≤◌, List, [], ◌∷◌, refl, sym, ap, ◌∙◌, subst, arith, ◌-◌}
-use Rattle.std.specs.Prelude.{Contains, None, false}
+use Rattle.std.specs.Prelude.{None, false}
 use Rattle.nb_outside.specs.declared.feed.Drawn.{Drawn}
 use Rattle.graph_model.specs.declared.plan.Weights.{Weights}
 use Rattle.graph_model.specs.declared.plan.Certified.{Certified}
@@ -12,7 +12,8 @@ use Rattle.session_core.specs.declared.reply.Reply.{Reply}
 use Rattle.session_core.specs.declared.reply.Reply.TheVariants.{Executed}
 use Rattle.graph_model.specs.declared.plan.Tally.TheVariants.{Count}
 use Rattle.session_core.specs.Meanings.{Served, more}
-use Rattle.session_show.specs.Counting.{added, added_all, total, no_graph, none_at}
+use Rattle.session_show.specs.Counting.{added, added_all, total, no_graph}
+use Rattle.session_show.specs.Graphs.{none_in, none_at}
 
 added_more : (n : ℕ) (served : List Served) (ask : Ask) (draws : List Drawn) → added_all n (more served ask draws) ≡ added (added_all n served) ask
 added_more n [] ask draws = refl
@@ -20,9 +21,6 @@ added_more n (s ∷ served) ask draws = added_more (added n s.ask) served ask dr
 
 pub total_more : (served : List Served) (ask : Ask) (draws : List Drawn) → total (more served ask draws) ≡ added (total served) ask
 total_more served ask draws = added_more 0 served ask draws
-
-none_in : {X : Type 0} (x : X) → Contains [] x → ⊥
-none_in x h = omega (arith, h.1)
 
 pub none_stuck : (version cell : ℕ) → ¬ IsStuck no_graph version cell
 none_stuck version cell h = none_at (version - 1) h.version h.active.0.1

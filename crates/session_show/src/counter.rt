@@ -1,14 +1,17 @@
-//! The least engine: a counter whose every ask adds one, which dies at 4, which a restart sets back, and for which host 2 has no
-//! memory at 3.
+//! The least engine: a counter whose every ask adds one, which dies at 4, which a restart sets back, which holds a handle at 2 and
+//! so can't move, and for which host 2 has no memory at 3.
 
-ghost use Rattle.std.specs.Prelude.{◌≡◌, ◌+◌, ◌<◌, IfOk, [], ◌∷◌, None, false};
+ghost use Rattle.std.specs.Prelude.{◌≡◌, ◌⊎◌, ◌+◌, ◌<◌, codes, IfOk, MatchResult, [], ◌∷◌, None, false};
+ghost use Rattle.graph_model.specs.Plans.{AreAdmitted};
+ghost use Rattle.plan_model.specs.Weighing.{IsWeightFault};
 ghost use Rattle.session_core.specs.declared.reply.Reply.TheVariants.{Executed};
-ghost use Rattle.session_show.specs.Counting.{added};
+ghost use Rattle.session_core.specs.declared.engine.PackFault.TheVariants.{OutOfMemory, Stuck};
+ghost use Rattle.session_show.specs.Counting.{added, no_graph};
 
 use graph_model::{Certified, Graph, Plan, Tally, Weights};
 use nb_outside::{Feed, draws_add_up};
 use plain_data::{Items, Text};
-use plan_model::check_weights;
+use plan_model::{WeightFault, check_weights};
 use session_core::{Ask, Done, Engine, PackFault, Packed, Reply, RunFault};
 use std::alloc::{AllocError, Global};
 
@@ -86,16 +89,15 @@ impl Engine for Counter {
     }
 
     fn pack(&self, alloc: Global, weights: &Weights) -> Result<Packed, PackFault> {
-        let graph = Graph {
-            cells: Items::new(alloc),
-            versions: Items::new(alloc),
-        };
-        if let Err(fault) = check_weights(&graph, weights) {
+        if let Err(fault) = check(alloc, weights) {
             return Err(PackFault::BadWeights(fault));
         }
         // Memory runs out where it is asked to.
         if weights.run_base == 7 {
             return Err(PackFault::OutOfMemory);
+        }
+        if self.total == 2 {
+            return Err(held(alloc));
         }
         let Ok(bytes) = Items::from_slice(alloc, &[self.total as u8]) else {
             return Err(PackFault::OutOfMemory);
@@ -119,7 +121,7 @@ impl Engine for Counter {
 
     ghost use Rattle.std.proofs.Common.{◌∙◌, sym, subst, arith};
     ghost use Rattle.graph_model.specs.Faults.{IsGraph};
-    ghost use Rattle.session_show.specs.Counting.{is_graph};
+    ghost use Rattle.session_show.specs.Graphs.{always_graph};
 
     ghost runs = { λ e served h. h.1 };
 
@@ -127,9 +129,42 @@ impl Engine for Counter {
 
     ghost one_graph = { λ served g h is also. is ∙ sym also };
 
-    ghost graphs = { λ served g is. subst IsGraph (sym is) is_graph };
+    ghost graphs = { λ served g is. subst IsGraph (sym is) (always_graph (total served)) };
 
     ghost passes_none = { λ served ask draws which passes runs. Prim.omega (arith, passes.1, runs) };
+}
+
+/// Whether the weights are admitted. No version and no cell has a weight.
+fn check(alloc: Global, weights: &Weights) -> Result<(), WeightFault>
+    ensures { MatchResult result (λ _. AreAdmitted no_graph weights.now) (IsWeightFault no_graph weights.now) }
+{
+    let graph = Graph {
+        cells: Items::new(alloc),
+        versions: Items::new(alloc),
+    };
+    check_weights(&graph, weights)
+}
+
+fn names_of(alloc: Global, name: &str) -> Result<Items<Text>, AllocError>
+    ensures { IfOk result (λ names. names ≡ name.now ∷ []) }
+{
+    let mut names = Items::new(alloc);
+    names.push(Text::new(alloc, name)?)?;
+    Ok(names)
+}
+
+/// Why a counter that holds a handle isn't packed.
+fn held(alloc: Global) -> PackFault
+    ensures { (result ≡ OutOfMemory) ⊎ (result ≡ Stuck 1 1 (codes "h" ∷ [])) }
+{
+    match names_of(alloc, "h") {
+        Ok(names) => PackFault::Stuck {
+            version: 1,
+            cell: 1,
+            names,
+        },
+        Err(_) => PackFault::OutOfMemory,
+    }
 }
 
 fn nothing(alloc: Global) -> Certified

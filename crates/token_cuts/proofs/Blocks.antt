@@ -1,14 +1,13 @@
 -- The blocks that are open, and what the first token of a line begins and ends of them.
-use Rattle.std.proofs.Common.{◌≡◌, ℕ, zero, suc, pred, ◌+◌, ◌-◌, ◌<◌, Bool, true, false, cond, eqb, ltb, List, [], ◌∷◌, ◌++◌, Option, Some, None, Result, Ok, Err, refl, sym, ap, ◌∙◌, subst, arith}
+use Rattle.std.proofs.Common.{◌≡◌, ℕ, suc, pred, ◌+◌, ◌-◌, ◌<◌, Bool, true, false, cond, eqb, ltb, List, [], ◌∷◌, ◌++◌, Some, None, Result, Ok, Err, refl, sym, ap, ◌∙◌, subst, arith}
 use Rattle.std.specs.Prelude.{is_some}
 use Rattle.std.specs.List.{AllByRecursion}
 use Rattle.std.proofs.lemmas.Bool.Decides.{nat_tests}
 use Rattle.py_token.specs.declared.faults.TokenFault.{TokenFault}
 use Rattle.py_token.specs.declared.kinds.Kind.{Kind}
-use Rattle.py_token.specs.declared.kinds.Kind.TheVariants.{Newline, Indent, Dedent, End}
+use Rattle.py_token.specs.declared.kinds.Kind.TheVariants.{Newline, Indent, Dedent}
 use Rattle.py_token.specs.declared.kinds.Token.{Token}
 use Rattle.py_token.specs.declared.lines.Depths.{Depths}
-use Rattle.py_token.specs.declared.lines.Line.{Line}
 use Rattle.py_token.specs.declared.lines.Spot.{Spot}
 use Rattle.py_token.specs.declared.lines.Spot.TheVariants.{Start, Inside}
 use Rattle.py_token.specs.Lines.{token, ends_block, shallower, is_deeper, indented, begun, closing}

@@ -1,15 +1,12 @@
 -- The bytes from one word to another, as a text alone, have the same tokens.
-use Rattle.std.proofs.Common.{◌≡◌, ℕ, zero, suc, pred, ◌+◌, ◌-◌, ◌<◌, ◌≤◌, Bool, true, false, cond, eqb, List, [], ◌∷◌, ◌++◌, length, take, drop, Result, Ok, Err, None, refl, sym, ap, ◌∙◌, subst, arith, append_assoc, length-append}
+use Rattle.std.proofs.Common.{◌≡◌, ℕ, zero, suc, pred, ◌+◌, ◌-◌, ◌<◌, ◌≤◌, true, List, [], ◌∷◌, ◌++◌, length, take, drop, Ok, None, refl, sym, ap, ◌∙◌, subst, arith, append_assoc}
 use Rattle.std.specs.List.{slice_range}
 use Rattle.std.proofs.lemmas.List.{drop_at}
 use Rattle.std.proofs.Math.Seq.{take-append_seam}
 use Rattle.py_token.specs.declared.kinds.Kind.{Kind}
-use Rattle.py_token.specs.declared.kinds.Kind.TheVariants.{Newline, Indent, Dedent, End}
+use Rattle.py_token.specs.declared.kinds.Kind.TheVariants.{Newline, End}
 use Rattle.py_token.specs.declared.kinds.Token.{Token}
-use Rattle.py_token.specs.declared.faults.TokenFault.{TokenFault}
-use Rattle.py_token.specs.declared.lines.Depths.{Depths}
 use Rattle.py_token.specs.declared.lines.Line.{Line}
-use Rattle.py_token.specs.declared.lines.Spot.{Spot}
 use Rattle.py_token.specs.declared.lines.Spot.TheVariants.{Start, Inside}
 use Rattle.py_token.specs.Lexemes.{lexeme_at}
 use Rattle.py_token.specs.Lines.{token, brackets_after, shallower, indented, begun, closing, last_newline, ended, turn, read, start, tokens_of}
@@ -17,7 +14,7 @@ use Rattle.py_token.proofs.Bounds.{lexeme_bounds}
 use Rattle.token_cuts.specs.Cuts.{kinds, is_word, level, begins_line, dedents, AreCut}
 use Rattle.token_cuts.proofs.Lexemes.{lexeme_cut}
 use Rattle.token_cuts.proofs.Blocks.{opened, none_open, steps_of, closing_kinds, level-append, begins-append, kinds-append}
-use Rattle.token_cuts.proofs.Turning.{is_start, IsLine, AreSame, IsFirstByte, after_word, turn_word, first_byte_cut, level_word}
+use Rattle.token_cuts.proofs.Turning.{IsLine, AreSame, IsFirstByte, after_word, turn_word, first_byte_cut, level_word}
 use Rattle.token_cuts.proofs.Reading.{ended_layout, next_read, IsCut, cut_read}
 use Rattle.token_cuts.proofs.Reaching.{IsReached, reached, free_line}
 

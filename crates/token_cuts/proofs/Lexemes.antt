@@ -1,7 +1,5 @@
 -- A lexeme is read the same of bytes that end after it, at any place.
-use Rattle.std.proofs.Common.{◌≡◌, ℕ, zero, suc, ◌+◌, ◌<◌, ◌≤◌, ◌^◌, pos, min, Bool, true, false, cond, eqb, ltb, leb, ◌&&◌, ◌||◌, List, [], ◌∷◌, ◌++◌, length, take, drop, Option, Some, None, Result, Ok, Err, refl, sym, ap, ◌∙◌, subst, arith, length-take, length-append}
-use Rattle.std.proofs.Math.Numerals.{one-add}
-use Rattle.std.proofs.lemmas.List.{append-nil}
+use Rattle.std.proofs.Common.{◌≡◌, ℕ, zero, suc, ◌+◌, ◌<◌, ◌≤◌, ◌^◌, pos, min, Bool, true, false, cond, eqb, ltb, leb, ◌&&◌, ◌||◌, List, [], ◌∷◌, ◌++◌, length, take, drop, Option, Some, None, Result, Ok, Err, refl, sym, ap, ◌∙◌, subst, arith, length-take}
 use Rattle.std.specs.Prelude.{nat_eq, find, encode_utf8}
 use Rattle.std.specs.List.{prefix_len, starts_with}
 use Rattle.std.specs.Char.{is_ascii_digit}
@@ -9,7 +7,6 @@ use Rattle.std.specs.Cmp.Lexicographic.{pointwise}
 use Rattle.py_names.specs.Names.{begins_name, continues_name}
 use Rattle.py_token.specs.declared.faults.TokenFault.{TokenFault}
 use Rattle.py_token.specs.declared.faults.TokenFault.TheVariants.{BadChar}
-use Rattle.py_token.specs.declared.kinds.Kind.{Kind}
 use Rattle.py_token.specs.declared.kinds.Kind.TheVariants.{Number, Text}
 use Rattle.py_token.specs.declared.kinds.Symbol as operator
 use Rattle.py_token.specs.declared.lines.Lexeme.{Lexeme}
@@ -21,8 +18,8 @@ use Rattle.py_token.specs.declared.pieces.Piece.TheVariants.{Quote, LineEnd, Bad
 use Rattle.py_token.specs.Spellings.{sign, operators, decimal, is_quote, hexadecimal, escape}
 use Rattle.py_token.specs.Lexemes.{next_is, keyword_of, named, name_at, belongs, digits_after, follows_no_number, number_width, number_at, ends_line, escaped, piece, after, spoil, follow, body, text_of, text_at, operator_lexeme, operator_at, lexeme_at}
 use Rattle.py_token.specs.Bodies.{IsWithin}
-use Rattle.py_token.proofs.Bounds.{same_bytes, lexeme_bounds}
-use Rattle.py_token.proofs.Escapes.{IsEscape, escape_is}
+use Rattle.py_token.proofs.Bounds.{same_bytes}
+use Rattle.py_token.proofs.Escapes.{escape_is}
 use Rattle.py_token.proofs.Quoted.{body_within}
 
 -- ---- fronts of lists

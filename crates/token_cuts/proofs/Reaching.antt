@@ -1,14 +1,12 @@
 -- Reading up to the turn of a word, and up to the end of a line.
-use Rattle.std.proofs.Common.{◌≡◌, ℕ, zero, suc, pred, ◌+◌, ◌<◌, ◌≤◌, Bool, true, false, cond, eqb, List, [], ◌∷◌, ◌++◌, length, Result, Ok, Err, refl, sym, ap, ◌∙◌, subst, arith, append_assoc}
-use Rattle.py_token.specs.declared.kinds.Kind.{Kind}
+use Rattle.std.proofs.Common.{◌≡◌, ℕ, zero, suc, pred, ◌+◌, ◌≤◌, Bool, true, false, cond, eqb, List, [], ◌∷◌, ◌++◌, length, Result, Ok, refl, sym, ap, ◌∙◌, subst, arith, append_assoc}
 use Rattle.py_token.specs.declared.kinds.Kind.TheVariants.{Newline, Dedent, End}
 use Rattle.py_token.specs.declared.kinds.Token.{Token}
 use Rattle.py_token.specs.declared.faults.TokenFault.{TokenFault}
 use Rattle.py_token.specs.declared.lines.Depths.{Depths}
 use Rattle.py_token.specs.declared.lines.Lexeme.{Lexeme}
 use Rattle.py_token.specs.declared.lines.Line.{Line}
-use Rattle.py_token.specs.declared.lines.Spot.{Spot}
-use Rattle.py_token.specs.declared.lines.Spot.TheVariants.{Start, Inside}
+use Rattle.py_token.specs.declared.lines.Spot.TheVariants.{Inside}
 use Rattle.py_token.specs.declared.lines.Turn.{Turn}
 use Rattle.py_token.specs.Lexemes.{lexeme_at}
 use Rattle.py_token.specs.Lines.{token, begun, at_spot, with_tab, without_tab, closing, last_newline, ended, turn, read}
@@ -16,7 +14,7 @@ use Rattle.py_token.proofs.Ends.{followed_ok}
 use Rattle.py_token.proofs.Escapes.{eqb_is}
 use Rattle.token_cuts.specs.Cuts.{kinds, is_word, level, begins_line}
 use Rattle.token_cuts.proofs.Blocks.{opened, steps_of, level-append, begins-append, kinds-append}
-use Rattle.token_cuts.proofs.Turning.{is_start, IsLine, after_word, IsFirstByte, Turns, blank, tabbed, comment, feed, return, word, turned, Tells, tells, fed, Feeds, passes, ends, within, lexeme_word}
+use Rattle.token_cuts.proofs.Turning.{is_start, IsLine, after_word, IsFirstByte, Turns, blank, tabbed, comment, feed, return, word, turned, tells, fed, Feeds, passes, ends, within, lexeme_word}
 use Rattle.token_cuts.proofs.Reading.{split_layout, all_layout, ended_layout, same_list, Gives, layout, one_word, gives, Splits, is_this, is_later, splits, turn_fits}
 
 -- where a word's turn begins, and what is known there

@@ -1,7 +1,6 @@
 -- Reading up to a word, and the same reading of the bytes up to its end alone, at another place.
-use Rattle.std.proofs.Common.{◌≡◌, ℕ, zero, suc, pred, ◌+◌, ◌<◌, ◌≤◌, Bool, true, false, cond, eqb, List, [], ◌∷◌, ◌++◌, length, take, drop, Result, Ok, Err, refl, sym, ap, ◌∙◌, subst, arith, append_assoc, take-append-drop, length-take-le}
+use Rattle.std.proofs.Common.{◌≡◌, ℕ, zero, suc, pred, ◌+◌, ◌<◌, ◌≤◌, Bool, true, false, cond, eqb, List, [], ◌∷◌, ◌++◌, length, take, drop, Result, Ok, refl, sym, ap, ◌∙◌, subst, arith, append_assoc, take-append-drop, length-take-le}
 use Rattle.std.proofs.lemmas.List.{append-nil}
-use Rattle.py_token.specs.declared.kinds.Kind.{Kind}
 use Rattle.py_token.specs.declared.kinds.Kind.TheVariants.{Newline, Dedent, End}
 use Rattle.py_token.specs.declared.kinds.Token.{Token}
 use Rattle.py_token.specs.declared.faults.TokenFault.{TokenFault}
@@ -15,11 +14,11 @@ use Rattle.py_token.specs.Lexemes.{lexeme_at}
 use Rattle.py_token.specs.Lines.{token, brackets_after, begun, closing, last_newline, ended, before, followed, turn, read}
 use Rattle.py_token.proofs.Bounds.{lexeme_bounds}
 use Rattle.py_token.proofs.Ends.{followed_ok}
-use Rattle.py_token.proofs.Reading.{IsTurn, turn_is as turn_bounds}
-use Rattle.token_cuts.specs.Cuts.{kinds, is_word, level, begins_line}
+use Rattle.py_token.proofs.Reading.{turn_is as turn_bounds}
+use Rattle.token_cuts.specs.Cuts.{kinds, is_word, level}
 use Rattle.token_cuts.proofs.Lexemes.{lexeme_cut}
-use Rattle.token_cuts.proofs.Blocks.{opened, Steps, steps_of, same_begun, level-append, begins-append, kinds-append}
-use Rattle.token_cuts.proofs.Turning.{IsLayout, AreLayout, is_start, IsLine, AreSame, after_word, IsFirstByte, Turns, blank, tabbed, comment, feed, return, word, turned, turn_word, first_byte_cut, Tells, tells, fed, Feeds, passes, ends, within, level_word, lexeme_word, SameTurn, same_turn}
+use Rattle.token_cuts.proofs.Blocks.{opened, steps_of, same_begun, level-append, kinds-append}
+use Rattle.token_cuts.proofs.Turning.{IsLayout, AreLayout, IsLine, AreSame, after_word, IsFirstByte, Turns, blank, tabbed, comment, feed, return, word, turned, turn_word, first_byte_cut, Tells, tells, fed, Feeds, passes, ends, within, level_word, lexeme_word, same_turn}
 
 -- ---- a word among tokens
 

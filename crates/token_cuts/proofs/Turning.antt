@@ -1,11 +1,10 @@
 -- One turn of reading: what it says of words and blocks, and the same turn of bytes that are cut after it, at another place.
-use Rattle.std.proofs.Common.{◌&&◌, ⊎_elim, ◌≡◌, ℕ, zero, suc, pred, ◌+◌, ◌-◌, ◌<◌, ◌≤◌, Bool, true, false, cond, eqb, List, [], ◌∷◌, ◌++◌, length, take, drop, Option, Some, None, Result, Ok, Err, refl, sym, ap, ◌∙◌, subst, arith, append_assoc}
-use Rattle.std.specs.Prelude.{is_some}
+use Rattle.std.proofs.Common.{◌&&◌, ⊎_elim, ◌≡◌, ℕ, suc, pred, ◌+◌, ◌<◌, ◌≤◌, Bool, true, false, cond, eqb, List, [], ◌∷◌, ◌++◌, length, take, Option, Some, None, Result, Ok, refl, sym, ap, ◌∙◌, subst, arith}
 use Rattle.std.specs.List.{prefix_len, AllByRecursion}
 use Rattle.py_names.specs.Names.{continues_name}
 use Rattle.py_token.specs.declared.faults.TokenFault.{TokenFault}
 use Rattle.py_token.specs.declared.kinds.Kind.{Kind}
-use Rattle.py_token.specs.declared.kinds.Kind.TheVariants.{Name, Keyword, Number, Text, Symbol, Newline, Indent, Dedent, End}
+use Rattle.py_token.specs.declared.kinds.Kind.TheVariants.{Keyword, Newline, Indent, Dedent, End}
 use Rattle.py_token.specs.declared.kinds.Keyword as keyword
 use Rattle.py_token.specs.declared.kinds.Token.{Token}
 use Rattle.py_token.specs.declared.lines.Depths.{Depths}
@@ -14,16 +13,16 @@ use Rattle.py_token.specs.declared.lines.Line.{Line}
 use Rattle.py_token.specs.declared.lines.Spot.{Spot}
 use Rattle.py_token.specs.declared.lines.Spot.TheVariants.{Start, Inside}
 use Rattle.py_token.specs.declared.lines.Turn.{Turn}
-use Rattle.py_token.specs.Lexemes.{next_is, named, keyword_of, ends_line, lexeme_at}
+use Rattle.py_token.specs.Lexemes.{named, keyword_of, ends_line, lexeme_at}
 use Rattle.py_token.specs.Lines.{turn as turning}
-use Rattle.py_token.specs.Lines.{token, brackets_after, begun, placed, passed, at_spot, next_line, line_ended, with_tab, without_tab, in_comment, turn, followed, read}
+use Rattle.py_token.specs.Lines.{token, brackets_after, begun, placed, passed, at_spot, next_line, line_ended, with_tab, without_tab, in_comment, turn}
 use Rattle.py_token.proofs.Bounds.{lexeme_bounds}
 use Rattle.py_token.proofs.Escapes.{eqb_is}
 use Rattle.py_token.proofs.Inverted.{name_ok, number_ok, text_ok, operator_ok, lexeme_ok}
 use Rattle.py_token.proofs.Reading.{placed_ok}
 use Rattle.token_cuts.specs.Cuts.{kinds, is_word, level, begins_line}
 use Rattle.token_cuts.proofs.Lexemes.{prefix_cut, lexeme_cut}
-use Rattle.token_cuts.proofs.Blocks.{opened, IsStack, Steps, steps_of, IsSame, same_begun, level-append, begins-append, kinds-append}
+use Rattle.token_cuts.proofs.Blocks.{opened, IsStack, steps_of, IsSame, same_begun, level-append, begins-append, kinds-append}
 
 -- ---- words
 

@@ -1,24 +1,22 @@
 -- The statements of a cell are allowed, if each function at its top is of a kind: no function stands elsewhere.
-use Rattle.std.proofs.Common.{◌≡◌, ℕ, Bool, true, false, IsTrue, List, [], ◌∷◌, ◌++◌, map, Option, Some, None, refl, sym, ap, ◌∙◌, subst}
+use Rattle.std.proofs.Common.{◌≡◌, ℕ, false, IsTrue, List, [], ◌∷◌, map, Option, Some, None, refl, ap, ◌∙◌, subst}
 use Rattle.std.specs.List.{AllByRecursion}
-use Rattle.py_names.specs.Names.{is_variable}
 use Rattle.py_token.specs.declared.kinds.Kind.{Kind}
 use Rattle.py_token.specs.declared.kinds.Kind.TheVariants as t
 use Rattle.py_tree.specs.declared.expressions.Expr.{Expr}
 use Rattle.py_tree.specs.declared.expressions.Op.{Op}
 use Rattle.py_tree.specs.declared.expressions.Target as tree_of
-use Rattle.py_tree.specs.declared.expressions.Target.TheVariants as target
-use Rattle.py_tree.specs.declared.statements.Arm.{Arm, roll-Arm}
+use Rattle.py_tree.specs.declared.statements.Arm.{Arm}
 use Rattle.py_tree.specs.declared.statements.Def.{Def, roll-Def}
-use Rattle.py_tree.specs.declared.statements.Stmt.{Stmt, roll-Stmt}
+use Rattle.py_tree.specs.declared.statements.Stmt.{Stmt}
 use Rattle.py_tree.specs.declared.statements.Stmt.TheOpen.{Stmt-F, Arm-F, Def-F}
-use Rattle.py_tree.specs.declared.statements.Stmt.TheFolds.{every-Stmt, every-Arm, every-Def, every_made-Stmt, every_made-Arm, every_made-Def}
+use Rattle.py_tree.specs.declared.statements.Stmt.TheFolds.{every-Arm, every-Def, every_made-Stmt, every_made-Arm, every_made-Def}
 use Rattle.py_tree.specs.declared.statements.Stmt.TheVariants as s
 use Rattle.py_grammar.specs.Expressions.{Expression}
-use Rattle.py_grammar.specs.Statements.{Target, to_name, to_item, Names, Word, pass_, break_, continue_, Simple, word, return_, give, declare, delete, assign, augment, show, spell_simple, Params, Statement, simple, compound, Head, choose, otherwise, while_true, for_each, define, Condition, if_true, else_if, Branches, branches, Block, inline, indented, Statements, statements_one, statements_more, spell_statement, spell_head, spell_condition, spell_branches, spell_block, spell_statements, Around, inside, hear, statement_stands, head_stands, condition_stands, branches_stand, block_stands, statements_stand}
-use Rattle.py_grammar.specs.Trees.{tree_expression, tree_target, tree_params, tree_simple, tree_statement, tree_compound, arms_before, arms, tree_block, tree_statements}
+use Rattle.py_grammar.specs.Statements.{Target, to_name, to_item, pass_, break_, continue_, Simple, word, return_, give, declare, delete, assign, augment, show, spell_simple, Params, Statement, simple, compound, Head, choose, otherwise, while_true, for_each, define, Condition, if_true, else_if, Branches, branches, Block, inline, indented, Statements, statements_one, statements_more, spell_statement, spell_head, spell_condition, spell_branches, spell_block, spell_statements, Around, inside, hear, statement_stands, head_stands, condition_stands, branches_stand, block_stands, statements_stand}
+use Rattle.py_grammar.specs.Trees.{tree_expression, tree_target, tree_simple, tree_statement, tree_compound, arms_before, arms, tree_block, tree_statements}
 use Rattle.py_laws.specs.Allowed.{MayBindAt, IsAllowedHere, ArmAny, DefAny, IsAllowed}
-use Rattle.tree_laws.proofs.Named.{push, AreKnown, stated, head, condition, branched, statements, statement}
+use Rattle.tree_laws.proofs.Named.{push, AreKnown, head, condition, statements}
 use Rattle.tree_laws.proofs.Tokens.{Variable}
 
 -- what holds of each is held with each

@@ -1,5 +1,5 @@
 -- The names that stand in a tree that is made of parts.
-use Rattle.std.proofs.Common.{◌≡◌, ℕ, ℤ, Bool, List, [], ◌∷◌, ◌++◌, map, Option, Some, None, sym, subst}
+use Rattle.std.proofs.Common.{ℕ, Bool, List, [], ◌∷◌, ◌++◌, map, Option, Some, None, sym, subst}
 use Rattle.std.specs.List.{AllByRecursion}
 use Rattle.py_tree.specs.declared.expressions.Expr.{Expr, roll-Expr}
 use Rattle.py_tree.specs.declared.expressions.Expr.TheOpen.{Expr-F, Relation-F}
@@ -15,7 +15,7 @@ use Rattle.py_tree.specs.declared.expressions.Target.{Target}
 use Rattle.py_tree.specs.declared.statements.Arm.{Arm}
 use Rattle.py_tree.specs.declared.statements.Def.{Def, roll-Def}
 use Rattle.py_tree.specs.declared.statements.Stmt.{Stmt, roll-Stmt}
-use Rattle.py_tree.specs.declared.statements.Stmt.TheOpen.{Stmt-F, Def-F}
+use Rattle.py_tree.specs.declared.statements.Stmt.TheOpen.{Stmt-F}
 use Rattle.py_tree.specs.declared.statements.Stmt.TheFolds.{map-Stmt, fold-roll-Stmt, fold-roll-Def, fold_out-Arm}
 use Rattle.py_tree.specs.declared.statements.Stmt.TheVariants as s
 use Rattle.py_tree.specs.Locals.{Names, joined}

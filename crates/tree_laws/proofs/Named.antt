@@ -1,20 +1,15 @@
 -- Each name in the tree of a form stands in the tokens that the form spells.
-use Rattle.std.proofs.Common.{◌≡◌, ℕ, List, [], ◌∷◌, ◌++◌, Option, Some, None}
-use Rattle.std.specs.Prelude.{true, false}
+use Rattle.std.proofs.Common.{ℕ, List, [], ◌∷◌, ◌++◌, Some, None}
 use Rattle.std.specs.List.{AllByRecursion}
 use Rattle.py_tree.specs.declared.expressions.Expr.{Expr}
-use Rattle.py_tree.specs.declared.expressions.Expr.TheVariants as e
-use Rattle.py_tree.specs.declared.expressions.Literal.TheVariants as literal
-use Rattle.py_tree.specs.declared.expressions.Relation.TheVariants as relation
-use Rattle.py_tree.specs.declared.expressions.Op.TheVariants as o
 use Rattle.py_tree.specs.declared.statements.Def.{roll-Def}
 use Rattle.py_tree.specs.declared.statements.Stmt.{Stmt}
 use Rattle.py_token.specs.declared.kinds.Kind.{Kind}
 use Rattle.py_token.specs.declared.kinds.Kind.TheVariants as t
-use Rattle.py_grammar.specs.Expressions.{Expression, plain, conditional, Ors, ors_one, ors_more, Ands, ands_one, ands_more, Negation, compared, negated, Compares, compares_one, compares_more, compares_none, compares_not_none, Relational, equal, not_equal, less, at_most, greater, at_least, within, not_within, Sums, sums_one, sums_more, Additive, plus, minus, Products, products_one, products_more, Multiplicative, times, floor, modulo, Signed, unsigned, signed, Primary, name, number, text, nothing, truth, falsity, group, display, dict, call, index, slice, Callee, function, method, Bound, unbounded, bounded, Args, no_args, args, args_comma, Elements, elements_one, elements_more, Entries, no_entries, entries, entries_comma, Pairs, pairs_one, pairs_more, spell_relational, additive_sign, multiplicative_sign, spell_expression, spell_ors, spell_ands, spell_negation, spell_compares, spell_sums, spell_products, spell_signed, spell_primary, spell_callee, spell_bound, spell_args, spell_elements, spell_entries, spell_pairs}
-use Rattle.py_grammar.specs.Statements.{Target, to_name, to_item, Augmentation, by_plus, by_minus, by_times, by_floor, by_modulo, Names, names_one, names_more, Word, pass_, break_, continue_, Simple, word, return_, give, declare, delete, assign, augment, show, spell_target, spell_names, spell_simple, Params, no_params, params, params_comma, Statement, simple, compound, Head, choose, otherwise, while_true, for_each, define, Condition, if_true, else_if, Branches, branches, Block, inline, indented, Statements, statements_one, statements_more, spell_params, spell_statement, spell_head, spell_condition, spell_branches, spell_block, spell_statements}
+use Rattle.py_grammar.specs.Expressions.{Expression, plain, conditional, Ors, ors_one, ors_more, Ands, ands_one, ands_more, Negation, compared, negated, Compares, compares_one, compares_more, compares_none, compares_not_none, Relational, equal, not_equal, less, at_most, greater, at_least, within, not_within, Sums, sums_one, sums_more, Products, products_one, products_more, Signed, unsigned, signed, Primary, name, number, text, nothing, truth, falsity, group, display, dict, call, index, slice, Callee, function, method, Bound, unbounded, bounded, Args, no_args, args, args_comma, Elements, elements_one, elements_more, Entries, no_entries, entries, entries_comma, Pairs, pairs_one, pairs_more, spell_relational, spell_expression, spell_ors, spell_ands, spell_negation, spell_compares, spell_sums, spell_products, spell_signed, spell_primary, spell_callee, spell_bound, spell_args, spell_elements, spell_entries, spell_pairs}
+use Rattle.py_grammar.specs.Statements.{Target, to_name, to_item, Names, names_one, names_more, pass_, break_, continue_, Simple, word, return_, give, declare, delete, assign, augment, show, spell_target, spell_names, spell_simple, Params, no_params, params, params_comma, Statement, simple, compound, Head, choose, otherwise, while_true, for_each, define, Condition, if_true, else_if, Branches, branches, Block, inline, indented, Statements, statements_one, statements_more, spell_params, spell_statement, spell_head, spell_condition, spell_branches, spell_block, spell_statements}
 use Rattle.py_grammar.specs.Trees.{Source, tree_expression, tree_ors, terms_ors, tree_ands, terms_ands, tree_negation, tree_compares, first_compared, relations, tree_sums, first_summed, summed, tree_products, first_multiplied, multiplied, tree_signed, tree_primary, tree_call, tree_bound, tree_args, tree_elements, tree_entries, tree_pairs, tree_target, tree_names, tree_params, tree_simple, tree_statement, tree_compound, arms_before, arms, tree_block, tree_statements, tree_top}
-use Rattle.py_laws.specs.Mentioned.{if_names, names_at, names_of, names_by_arm, names_by_def}
+use Rattle.py_laws.specs.Mentioned.{if_names, names_at, names_of, names_by_def}
 use Rattle.tree_laws.proofs.Made as made
 use Rattle.tree_laws.proofs.Made.{Pass, Named, Nameds, Stated, Stateds, Arms}
 

@@ -1,6 +1,5 @@
 -- Each name in the tree of a cell is one that a program may bind, if its tokens are those of a text.
-use Rattle.std.proofs.Common.{◌≡◌, ℕ, IsTrue, List, [], ◌∷◌, map, Option, Some, None, Result, Ok, Err, refl, sym, subst}
-use Rattle.std.specs.List.{AllByRecursion}
+use Rattle.std.proofs.Common.{◌≡◌, ℕ, IsTrue, List, [], ◌∷◌, Some, None, Ok, subst}
 use Rattle.std.proofs.lemmas.List.Elements.{All-from_recursion}
 use Rattle.py_names.specs.Names.{is_variable}
 use Rattle.py_token.specs.declared.kinds.Kind.{Kind}
@@ -10,13 +9,12 @@ use Rattle.py_token.specs.Spellings.{Spells}
 use Rattle.py_token.specs.Lines.{tokens_of}
 use Rattle.py_token.specs.Laws.{Cover}
 use Rattle.py_token.proofs.Covers.{covers}
-use Rattle.py_tree.specs.declared.statements.Def.{Def, roll-Def}
-use Rattle.py_tree.specs.declared.statements.Stmt.{Stmt}
+use Rattle.py_tree.specs.declared.statements.Def.{roll-Def}
 use Rattle.py_grammar.specs.Statements.{Params, Block, compound, define, statements_one, Cell, IsCell, spell_front}
 use Rattle.py_grammar.specs.Trees.{Source, tree_cell, tree_params, tree_block}
 use Rattle.py_laws.specs.Mentioned.{names_by, names_by_def, names_in, AllPass}
 use Rattle.tree_laws.specs.Kinds.{kinds}
-use Rattle.tree_laws.proofs.Made.{Pass, Stateds, all_joined}
+use Rattle.tree_laws.proofs.Made.{Stateds, all_joined}
 use Rattle.tree_laws.proofs.Named.{IsKnown, AreKnown, top, defined}
 
 abbrev pub Variable : List ℕ → Type 0

@@ -1,5 +1,5 @@
 -- Each cell keeps a state valid, so each state that a session reaches is.
-use Rattle.std.proofs.Common.{◌≡◌, ℕ, List, [], ◌∷◌, Result, Ok, Err, Some, refl, sym, ◌∙◌, arith, IsUtf8}
+use Rattle.std.proofs.Common.{◌≡◌, ℕ, List, [], ◌∷◌, Ok, Err, refl, sym, ◌∙◌, arith, IsUtf8}
 use Rattle.std.specs.FinMap as finite
 use Rattle.std.specs.Ordering.{nat_cmp}
 use Rattle.std.specs.Cmp.Lexicographic.{slice_cmp}
@@ -9,7 +9,7 @@ use Rattle.nb_outside.specs.declared.feed.Drawn.{Drawn}
 use Rattle.py_tree.specs.declared.statements.Stmt.{Stmt}
 use Rattle.py_heap.specs.declared.state.State.{State}
 use Rattle.py_heap.specs.States.{empty}
-use Rattle.py_heap.specs.Valid.{IsValid, IsValidObject}
+use Rattle.py_heap.specs.Valid.{IsValidObject}
 use Rattle.py_heap.proofs.Closed.{empty_closed}
 use Rattle.py_laws.specs.Allowed.{AreAllowed}
 use Rattle.py_laws.proofs.Validity.{valid_after}

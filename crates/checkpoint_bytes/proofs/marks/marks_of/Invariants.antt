@@ -1,6 +1,4 @@
-use Rattle.std.proofs.Common.{◌≡◌, ℕ, ◌<◌, take, length}
-use Rattle.std.specs.Prelude.{slice_index_or, false}
-use Rattle.checkpoint_bytes.specs.Texts.{lists}
+use Rattle.std.proofs.Common.{take}
 use Rattle.checkpoint_bytes.specs.Marks.{AreMarksOf}
 use Rattle.checkpoint_bytes.proofs.marks.marks_of.Given as goal
 

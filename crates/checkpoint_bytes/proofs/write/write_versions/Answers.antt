@@ -1,4 +1,4 @@
-use Rattle.std.proofs.Common.{◌≡◌, ◌+◌, ◌++◌, Bool, false, List, get_or, ap, ◌∙◌, arith}
+use Rattle.std.proofs.Common.{◌+◌, ◌++◌, Bool, false, List, get_or, ap, ◌∙◌, arith}
 use Rattle.checkpoint_bytes.specs.Texts as spec
 use Rattle.checkpoint_bytes.proofs.Pieces.{one_more}
 use Rattle.checkpoint_bytes.proofs.write.write_versions.Goals as goal

@@ -1,4 +1,4 @@
-use Rattle.std.proofs.Common.{◌≡◌, ◌∙◌, ap, refl, sym, subst, List, ℕ, ◌++◌}
+use Rattle.std.proofs.Common.{◌∙◌, ap, refl, sym, subst, List, ℕ, ◌++◌}
 use Rattle.nb_outside.specs.Streams.{Adds}
 use Rattle.reply_frames.specs.declared.outbox.Outbox.{Outbox}
 use Rattle.py_heap.specs.States.{empty}
@@ -6,7 +6,7 @@ use Rattle.reply_frames.specs.Messages.{opened}
 use Rattle.reply_frames.specs.Frames.{kernel_name, frames}
 use Rattle.elastic_notebook.specs.Intake.{cells}
 use Rattle.elastic_notebook.specs.Served as spec
-use Rattle.elastic_notebook.specs.Served.{AddsFront, Draws, most_requests}
+use Rattle.elastic_notebook.specs.Served.{AddsFront, most_requests}
 use Rattle.elastic_notebook.proofs.Serving.{none_added, all_after, some_after, some_before}
 use Rattle.elastic_notebook.proofs.Streaming.{map_ok, map_err}
 use Rattle.elastic_notebook.proofs.serve.serve_session.Goals as goal

@@ -1,4 +1,4 @@
-use Rattle.std.proofs.Common.{◌≡◌, true, false, ◌∙◌, sym}
+use Rattle.std.proofs.Common.{◌≡◌, true, false, ◌∙◌}
 use Rattle.serde_json.specs.View.{view}
 use Rattle.jupyter_messages.proofs.Texts.{message_in-value, message_in-none}
 use Rattle.jupyter_messages.proofs.read.read_message.Goals as goal

@@ -1,6 +1,6 @@
 use Rattle.std.proofs.Common.{◌≡◌, true, false, refl, sym, ap, ◌∙◌}
 use Rattle.session_core.specs.Legal.{progress_of}
-use Rattle.session_core.proofs.Stepping.{ends_legal, ends_phase, ends_owner, ends_asked}
+use Rattle.session_core.proofs.Stepping.{ends_legal, ends_goes_on, ends_phase, ends_owner, ends_asked}
 use Rattle.session_core.proofs.alone.served.Goals as goal
 
 pub invariant_of-result : goal.invariant_of-result
@@ -38,3 +38,11 @@ invariant_of-result-2 g c =
 pub returns-clause-answered : goal.returns-clause-answered
 returns-clause-answered g c =
     ends_asked g.E.Engine.meaning c.args.hosts c.args.journal.entries c.serve.new.journal.entries c.args.request (c.serve.ensures.noted c.args.hosts) c.requires.alone.phase
+
+pub returns-then-not-serve-clause-goes_on : goal.returns-then-not-serve-clause-goes_on
+returns-then-not-serve-clause-goes_on g c =
+    ends_goes_on g.E.Engine.meaning c.args.hosts c.args.journal.entries c.serve.new.journal.entries c.args.request (c.serve.ensures.noted c.args.hosts)
+
+pub returns-clause-goes_on : goal.returns-clause-goes_on
+returns-clause-goes_on g c =
+    ends_goes_on g.E.Engine.meaning c.args.hosts c.args.journal.entries c.serve.new.journal.entries c.args.request (c.serve.ensures.noted c.args.hosts)

@@ -1,5 +1,5 @@
 use Rattle.std.proofs.Common.{◌∙◌, ap}
-use Rattle.ruled_queue.specs.Rule.{first_view, producer_part}
+use Rattle.ruled_queue.specs.Rule.{producer_part}
 use Rattle.session_queues.proofs.Steps.{first_produces}
 use Rattle.session_queues.proofs.queues.part.Goals as goal
 

@@ -1,4 +1,4 @@
-use Rattle.std.proofs.Common.{◌≡◌, ◌-◌, ap, arith}
+use Rattle.std.proofs.Common.{◌≡◌, ap, arith}
 use Rattle.py_machine.specs.Errors.{recursion_error}
 use Rattle.py_meaning.specs.Acts.{run}
 use Rattle.py_meaning.specs.Meaning.{level}

@@ -1,4 +1,4 @@
-use Rattle.std.proofs.Common.{drop, ◌-◌, []}
+use Rattle.std.proofs.Common.{◌-◌}
 use Rattle.py_machine.specs.Runs.{LeadsTo, Grows, Feeding}
 use Rattle.py_meaning.specs.Acts.{run}
 use Rattle.py_meaning.specs.Meaning as spec

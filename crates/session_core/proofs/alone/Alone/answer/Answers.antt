@@ -1,6 +1,7 @@
-use Rattle.std.proofs.Common.{◌≡◌, true, false, ◌++◌, ◌∷◌, [], sym, ap, ◌∙◌}
+use Rattle.std.proofs.Common.{◌≡◌, true, false, ◌++◌, ◌∷◌, [], sym, ap, ◌∙◌, subst}
 use Rattle.session_core.specs.Legal.{asked}
-use Rattle.session_core.proofs.Stepping.{ends_legal, ends_phase, ends_asked, dead_stays, dead_served}
+use Rattle.session_core.specs.Stepping.{GoesOn}
+use Rattle.session_core.proofs.Stepping.{ends_legal, ends_goes_on, ends_phase, ends_asked, dead_stays, dead_served}
 use Rattle.session_core.proofs.alone.Alone.answer.Goals as goal
 
 pub invariant_of-result-then-dead : goal.invariant_of-result-then-dead
@@ -22,3 +23,8 @@ pub returns-then-dead-clause-answered : goal.returns-then-dead-clause-answered
 returns-then-dead-clause-answered g c =
     ends_asked g.E.Engine.meaning c.self.inside.hosts c.self.inside.journal.entries c.answer_dead.new.journal.entries c.args.request (c.answer_dead.ensures.noted c.self.inside.hosts) c.self.invariant.phase
     ∙ ap (λ z. asked z.entries ++ c.args.request ∷ []) c.self.view_is
+
+pub returns-then-dead-clause-goes_on : goal.returns-then-dead-clause-goes_on
+returns-then-dead-clause-goes_on g c =
+    subst (λ z. GoesOn z.entries c.answer_dead.new.journal.entries) c.self.view_is
+    (ends_goes_on g.E.Engine.meaning c.self.inside.hosts c.self.inside.journal.entries c.answer_dead.new.journal.entries c.args.request (c.answer_dead.ensures.noted c.self.inside.hosts))

@@ -1,15 +1,10 @@
-use Rattle.std.proofs.Common.{◌≡◌, ◌<◌, ◌≤◌, ◌+◌, sym, ap, ◌∙◌, refl, subst, ◌∷◌, ◌++◌, [], arith}
-use Rattle.session_core.specs.declared.entry.Entry.TheVariants.{Sealed, Moved, Adopted, Refused, Resumed}
-use Rattle.session_core.specs.declared.request.Request.{Request}
+use Rattle.std.proofs.Common.{sym, refl, subst, ◌∷◌, []}
+use Rattle.session_core.specs.declared.entry.Entry.TheVariants.{Refused}
 use Rattle.session_core.specs.Asks.{IsMove}
-use Rattle.session_core.specs.Legal.{settled, progress_of, after, IsReason, MayTry, CanGo, if_settled}
-use Rattle.session_core.specs.Engines.{Packs}
-use Rattle.session_core.proofs.Progressing.{progress_more}
+use Rattle.session_core.specs.Legal.{progress_of, IsReason}
 use Rattle.session_gate.specs.Answered.{IsAnswered}
-use Rattle.session_gate.specs.Facts.{Holds, HasNoted, owner_of, IsPackFor}
+use Rattle.session_gate.specs.Facts.{Holds, HasNoted, owner_of}
 use Rattle.session_gate.proofs.Noting.{answered_more, settled_more}
-use Rattle.session_gate.proofs.Going.{can_go, is_alive, departs, packs, may_resume, sealed_way}
-use Rattle.std.specs.Prelude.{Ok}
 use Rattle.session_gate.proofs.lease.Lease.refuse.Goals as goal
 
 pub note-requires-clause-may : goal.note-requires-clause-may

@@ -1,10 +1,9 @@
-use Rattle.std.proofs.Common.{◌≡◌, ◌<◌, ◌≤◌, ◌+◌, sym, ap, ◌∙◌, refl, subst, ◌∷◌, ◌++◌, [], arith}
-use Rattle.session_core.specs.declared.entry.Entry.TheVariants.{Sealed, Moved, Adopted, Refused, Resumed}
-use Rattle.session_core.specs.Legal.{settled, sealed, arriving, progress_of, after, moved, asked_by}
-use Rattle.session_core.proofs.Progressing.{progress_more}
-use Rattle.session_gate.specs.Facts.{Holds, Away, HasNoted, IsOnItsWay, IsPackFor}
+use Rattle.std.proofs.Common.{◌≡◌, sym, ap, ◌∙◌, refl, subst, []}
+use Rattle.session_core.specs.declared.entry.Entry.TheVariants.{Adopted}
+use Rattle.session_core.specs.Legal.{arriving, progress_of}
+use Rattle.session_gate.specs.Facts.{Away}
 use Rattle.session_gate.proofs.Noting.{answered_more, settled_now}
-use Rattle.session_gate.proofs.Going.{may_move, may_stay, may_adopt, moved_way, arriving_room, sealed_room}
+use Rattle.session_gate.proofs.Going.{may_adopt, arriving_room}
 use Rattle.session_gate.proofs.parcel.Parcel.adopt.Goals as goal
 
 pub adopt-requires-clause-spare : goal.adopt-requires-clause-spare

@@ -1,10 +1,10 @@
-use Rattle.std.proofs.Common.{◌≡◌, ◌<◌, ◌≤◌, ◌+◌, sym, ap, ◌∙◌, refl, subst, ◌∷◌, ◌++◌, [], arith}
-use Rattle.session_core.specs.declared.entry.Entry.TheVariants.{Sealed, Moved, Adopted, Refused, Resumed}
-use Rattle.session_core.specs.Legal.{settled, sealed, arriving, progress_of, after, moved}
+use Rattle.std.proofs.Common.{◌≡◌, sym, ap, ◌∙◌, refl, subst, [], arith}
+use Rattle.session_core.specs.declared.entry.Entry.TheVariants.{Moved}
+use Rattle.session_core.specs.Legal.{sealed, progress_of, after}
 use Rattle.session_core.proofs.Progressing.{progress_more}
-use Rattle.session_gate.specs.Facts.{Holds, Away, HasNoted, IsOnItsWay, IsPackFor}
+use Rattle.session_gate.specs.Facts.{Away, IsPackFor}
 use Rattle.session_gate.proofs.Noting.{answered_more}
-use Rattle.session_gate.proofs.Going.{may_move, may_stay, may_adopt, moved_way, arriving_room, sealed_room}
+use Rattle.session_gate.proofs.Going.{may_move, moved_way, sealed_room}
 use Rattle.session_gate.proofs.parcel.Parcel.arrive.Goals as goal
 
 pub note-requires-clause-spare : goal.note-requires-clause-spare

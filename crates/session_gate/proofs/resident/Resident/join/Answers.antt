@@ -1,4 +1,4 @@
-use Rattle.std.proofs.Common.{◌≡◌, refl, sym, subst}
+use Rattle.std.proofs.Common.{refl, sym, subst}
 use Rattle.session_queues.specs.Ends.{Held, gathered}
 use Rattle.session_gate.specs.Facts.{IsResident}
 use Rattle.session_gate.proofs.Popping.{resident_same}

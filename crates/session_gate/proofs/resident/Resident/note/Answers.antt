@@ -1,4 +1,4 @@
-use Rattle.std.proofs.Common.{◌≡◌, sym, ap, ◌∙◌, ◌++◌, ◌∷◌, [], subst}
+use Rattle.std.proofs.Common.{sym, ◌++◌, ◌∷◌, [], subst}
 use Rattle.session_core.specs.Legal.{progress_of, MayCome}
 use Rattle.session_gate.specs.Answered.{IsAnswered}
 use Rattle.session_gate.specs.Facts.{Holds}

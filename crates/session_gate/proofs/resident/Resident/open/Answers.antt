@@ -1,4 +1,4 @@
-use Rattle.std.proofs.Common.{◌≡◌, refl, sym, ap, ◌∙◌, subst}
+use Rattle.std.proofs.Common.{ap, ◌∙◌}
 use Rattle.session_core.specs.declared.request.Header.{Header}
 use Rattle.session_core.specs.declared.entry.Entry.TheVariants.{Opened}
 use Rattle.std.specs.Prelude.{[], ◌∷◌}

@@ -1,4 +1,4 @@
-use Rattle.std.proofs.Common.{◌≡◌, true, false, sym, ap, ◌∙◌, refl, subst, ◌∷◌, ◌++◌, []}
+use Rattle.std.proofs.Common.{true, false, sym, ap, ◌∙◌, refl, subst, ◌∷◌, ◌++◌, []}
 use Rattle.session_core.specs.declared.entry.Entry.TheVariants.{Ran, Died, Dead}
 use Rattle.session_core.specs.Legal.{settled, progress_of}
 use Rattle.session_gate.specs.Answered.{IsAnswered}

@@ -1,4 +1,4 @@
-use Rattle.std.proofs.Common.{◌≡◌, sym, ap, ◌∙◌, subst, arith}
+use Rattle.std.proofs.Common.{sym, ap, ◌∙◌, subst}
 use Rattle.session_queues.specs.Ends.{Held}
 use Rattle.ruled_queue.specs.Rule.{Keeps, MayPush}
 use Rattle.session_queues.specs.Items.{frontend_of, IsForControl, opens_control}

@@ -1,4 +1,4 @@
-use Rattle.std.proofs.Common.{◌≡◌, ◌+◌, ◌%◌, refl, sym, ap, ap₂, ◌∙◌, subst}
+use Rattle.std.proofs.Common.{◌+◌, ◌%◌, refl, sym, ap₂, ◌∙◌, subst}
 use Rattle.session_queues.specs.Passes.{Counts}
 use Rattle.session_queues.proofs.Steps.{joins, counts_join}
 use Rattle.session_queues.proofs.pass.Pass.join.Goals as goal

@@ -1,9 +1,7 @@
-use Rattle.std.proofs.Common.{◌≡◌, refl, sym, ap, ◌∙◌, subst, MatchResult, Result, rules}
+use Rattle.std.proofs.Common.{refl, sym, ap, ◌∙◌, subst}
 use Rattle.session_queues.specs.declared.items.MainItem.TheVariants.{Opening}
-use Rattle.session_queues.specs.declared.queues.Opened.{Opened}
-use Rattle.session_queues.specs.declared.shared.SharedQueues.{SharedQueues}
 use Rattle.session_queues.specs.Items.{number_of}
-use Rattle.session_queues.specs.Ends.{pushed_first, opened_ends, first_pass, nothing_on}
+use Rattle.session_queues.specs.Ends.{opened_ends, first_pass, nothing_on}
 use Rattle.ruled_queue.specs.Rule.{grown}
 use Rattle.session_queues.proofs.Steps.{IsOpened}
 use Rattle.session_queues.proofs.queues.Queues.open.Goals as goal

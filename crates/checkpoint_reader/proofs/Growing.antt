@@ -1,0 +1,57 @@
+-- A turn that reads a cell or a version adds it.
+use Rattle.std.proofs.Common.{◌≡◌, ℕ, ◌+◌, ◌≤◌, Bool, true, false, List, Ok, Err, ap, subst, arith}
+use Rattle.graph_model.specs.declared.graph.CellRecord.{CellRecord}
+use Rattle.graph_model.specs.declared.graph.Version.{Version}
+use Rattle.part_bytes.specs.declared.part.PartValue.{PartValue}
+use Rattle.checkpoint_reader.specs.declared.fields.Cells.{Cells}
+use Rattle.checkpoint_reader.specs.declared.fields.Versions.{Versions}
+use Rattle.checkpoint_reader.specs.Reads.{Answer, pure, after}
+use Rattle.checkpoint_reader.specs.Fields.{with_cell, with_version, with_copy, cell, version, part, next_cell, kept, next_version}
+use Rattle.checkpoint_reader.specs.Numbered.{AreCells, AreVersions}
+use Rattle.checkpoint_reader.proofs.Numbers.{cells_grow, versions_grow, copies_grow}
+
+abbrev read_of : {A : Type 0} → A → Answer A → A
+read_of none (Ok read) = read.0
+read_of none (Err fault) = none
+
+cells_from : (n : ℕ) (before now : Cells) (next : ℕ) (answer : Answer (CellRecord × Bool)) → AreCells n before
+    → after answer (λ c. pure (with_cell before c)) ≡ Ok (now, next) → AreCells (n + 1) now
+cells_from n before now next (Ok read) a e =
+    let same : with_cell before read.0 ≡ now = ap (read_of now) e in
+    subst (AreCells (n + 1)) same (cells_grow n before read.0 a)
+cells_from n before now next (Err fault) a e = absurd (let is = e in cc)
+
+pub cells_turn : (bytes : List ℕ) (n : ℕ) (before now : Cells) (at next : ℕ) → AreCells n before → next_cell bytes before at ≡ Ok (now, next) → AreCells (n + 1) now
+unfolding next_cell
+cells_turn bytes n before now at next a e = cells_from n before now next (cell bytes at) a e
+
+copies_from : (n : ℕ) (before now : Versions) (x : Version) (next : ℕ) (answer : Answer (PartValue × ℕ)) → AreVersions n before
+    → after answer (λ copy. pure (with_copy before x copy)) ≡ Ok (now, next) → AreVersions (n + 1) now
+copies_from n before now x next (Ok read) a e =
+    let same : with_copy before x read.0 ≡ now = ap (read_of now) e in
+    subst (AreVersions (n + 1)) same (copies_grow n before x read.0 a)
+copies_from n before now x next (Err fault) a e = absurd (let is = e in cc)
+
+versions_kept : (bytes : List ℕ) (n : ℕ) (before now : Versions) (x : Version) (copied : Bool) (at next : ℕ) → AreVersions n before
+    → kept bytes before x copied at ≡ Ok (now, next) → AreVersions (n + 1) now
+unfolding kept
+versions_kept bytes n before now x true at next a e = copies_from n before now x next (part bytes at) a e
+versions_kept bytes n before now x false at next a e =
+    let same : with_version before x ≡ now = ap (read_of now) e in
+    subst (AreVersions (n + 1)) same (versions_grow n before x a)
+
+versions_from : (bytes : List ℕ) (n : ℕ) (before now : Versions) (next : ℕ) (answer : Answer (Version × Bool)) → AreVersions n before
+    → after answer (λ x. kept bytes before x.0 x.1) ≡ Ok (now, next) → AreVersions (n + 1) now
+versions_from bytes n before now next (Ok read) a e = versions_kept bytes n before now read.0.0 read.0.1 read.1 next a e
+versions_from bytes n before now next (Err fault) a e = absurd (let is = e in cc)
+
+pub versions_turn : (bytes : List ℕ) (n : ℕ) (before now : Versions) (at next : ℕ) → AreVersions n before → next_version bytes before at ≡ Ok (now, next) → AreVersions (n + 1) now
+unfolding next_version
+versions_turn bytes n before now at next a e = versions_from bytes n before now next (version bytes at) a e
+
+-- so many turns were made
+pub all_cells : (n i : ℕ) (cells : Cells) → n ≤ i → i ≤ n → AreCells i cells → AreCells n cells
+all_cells n i cells low high a = let e : i ≡ n = omega arith in subst (λ k. AreCells k cells) e a
+
+pub all_versions : (n i : ℕ) (versions : Versions) → n ≤ i → i ≤ n → AreVersions i versions → AreVersions n versions
+all_versions n i versions low high a = let e : i ≡ n = omega arith in subst (λ k. AreVersions k versions) e a

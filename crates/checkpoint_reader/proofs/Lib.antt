@@ -1,0 +1,5 @@
+pub mod Turns
+pub mod Numbers
+pub mod Growing
+pub mod Plans
+pub mod Sizes

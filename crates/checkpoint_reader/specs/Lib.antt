@@ -1,0 +1,4 @@
+pub mod Reads
+pub mod Fields
+pub mod Numbered
+pub mod Judging

@@ -1,0 +1,57 @@
+use graph_model::GraphFault;
+use part_reader::PartFault;
+use plan_model::Item;
+use std::alloc::AllocError;
+use std::error::Error;
+use std::fmt;
+
+/// Why bytes are no checkpoint. Places are byte offsets.
+#[derive(Clone, Copy, Debug, PartialEq, Eq)]
+pub enum CheckpointFault {
+    OutOfMemory,
+    /// The bytes don't begin with `ENCK`, and `ENCK` doesn't begin with them.
+    BadMagic,
+    /// The version of the format, which isn't 1. It stands at 4.
+    BadVersion(u16),
+    /// The bytes end within the field at that place.
+    Cut(usize),
+    /// The part that begins at that place is none. The places in its fault count from there.
+    Part { at: usize, fault: PartFault },
+    /// The graph is none.
+    Graph(GraphFault),
+    /// A copied version that isn't as its part, or a version or cell at which the plan isn't feasible.
+    PlanDisagrees(Item),
+    /// The first byte after the last version.
+    Trailing(usize),
+    /// A field whose value is none that it can have.
+    BadField(usize),
+}
+
+impl From<AllocError> for CheckpointFault {
+    ghost use Rattle.std.specs.Prelude.{◌≡◌};
+    ghost use Rattle.checkpoint_reader.specs.declared.fault.CheckpointFault.TheVariants.{OutOfMemory};
+
+    ghost from_gives = { λ _ e. e ≡ OutOfMemory };
+
+    fn from(_: AllocError) -> CheckpointFault {
+        CheckpointFault::OutOfMemory
+    }
+}
+
+impl fmt::Display for CheckpointFault {
+    fn fmt<W: fmt::Write>(&self, f: &mut fmt::Formatter<W>) -> fmt::Result {
+        match *self {
+            CheckpointFault::OutOfMemory => write!(f, "out of memory"),
+            CheckpointFault::BadMagic => write!(f, "no checkpoint"),
+            CheckpointFault::BadVersion(version) => write!(f, "unsupported version {version}"),
+            CheckpointFault::Cut(at) => write!(f, "cut at byte {at}"),
+            CheckpointFault::Part { at, fault } => write!(f, "in the part at byte {at}: {fault}"),
+            CheckpointFault::Graph(_) => write!(f, "the graph has a fault"),
+            CheckpointFault::PlanDisagrees(_) => write!(f, "the plan disagrees"),
+            CheckpointFault::Trailing(at) => write!(f, "bytes after the end, at byte {at}"),
+            CheckpointFault::BadField(at) => write!(f, "bad field at byte {at}"),
+        }
+    }
+}
+
+impl Error for CheckpointFault {}

@@ -1,0 +1,52 @@
+ghost use Rattle.std.specs.Prelude.{◌≡◌, true};
+ghost use Rattle.checkpoint_reader.specs.Reads.{tells};
+ghost use Rattle.checkpoint_reader.specs.Numbered.{AreFields};
+ghost use Rattle.checkpoint_reader.specs.Judging.{IsJudged};
+
+use crate::checkpoint::Checkpoint;
+use crate::fault::CheckpointFault;
+use crate::fields::{Cells, Fields, Versions};
+use graph_model::{Graph, Plan};
+use plan_model::{Item, feasible};
+use std::alloc::Global;
+
+/// What was read as a checkpoint, if its graph is one and its plan agrees with it and with the parts.
+pub(crate) fn judged(alloc: Global, read: Fields) -> Result<Checkpoint, CheckpointFault>
+    requires { AreFields read }
+    ensures { tells result ≡ true → IsJudged read result }
+{
+    let Fields {
+        count,
+        meter,
+        cells,
+        versions,
+    } = read;
+    let Cells { records, rerun } = cells;
+    let Versions {
+        records: all,
+        copied,
+        parts,
+        unlike,
+    } = versions;
+    let graph = Graph {
+        cells: records,
+        versions: all,
+    };
+    let plan = Plan { copied, rerun };
+    if let Err(fault) = graph.check(alloc)? {
+        return Err(CheckpointFault::Graph(fault));
+    }
+    if let Some(v) = unlike {
+        return Err(CheckpointFault::PlanDisagrees(Item::Version(v)));
+    }
+    if let Err(item) = feasible(&graph, &plan) {
+        return Err(CheckpointFault::PlanDisagrees(item));
+    }
+    Ok(Checkpoint {
+        count,
+        meter,
+        graph,
+        plan,
+        parts,
+    })
+}

@@ -1,0 +1,10 @@
+/// How far a part was read.
+#[derive(Clone, Copy, Debug)]
+pub struct Spot {
+    /// The place of the next byte.
+    pub at: usize,
+    /// How many objects were referred to.
+    pub met: usize,
+    /// How many may be.
+    pub most: usize,
+}
