@@ -164,10 +164,15 @@ def run(session, code):
     return cell
 
 
-def graph(codes):
-    """The lines of the graph of a session."""
-    session, records, versions, kept_alive = cells.Session(), [], [], []
+def new_session():
+    session = cells.Session()
     session.words = [7, 8, 9]
+    return session
+
+
+def history(codes):
+    """A session after these cells, with the records of its cells and its versions."""
+    session, records, versions, kept_alive = new_session(), [], [], []
     before = []
     for number, code in enumerate(codes, 1):
         meter = session.meter
@@ -194,6 +199,12 @@ def graph(codes):
                 it["replaced"] = number
         versions += sorted(new, key=lambda it: it["names"][0].encode())
         before = now
+    return session, records, versions
+
+
+def graph(codes):
+    """The lines of the graph of a session."""
+    _, records, versions = history(codes)
     return [*map(record_line, range(1, len(records) + 1), records), *map(version_line, range(1, len(versions) + 1), versions)]
 
 

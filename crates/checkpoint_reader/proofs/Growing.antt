@@ -1,41 +1,44 @@
 -- A turn that reads a cell or a version adds it.
-use Rattle.std.proofs.Common.{◌≡◌, ℕ, ◌+◌, ◌≤◌, Bool, true, false, List, Ok, Err, ap, subst, arith}
+use Rattle.std.proofs.Common.{◌≡◌, ℕ, ◌+◌, ◌≤◌, Bool, true, false, List, Result, Ok, Err, drop, refl, ap, subst, arith}
 use Rattle.graph_model.specs.declared.graph.CellRecord.{CellRecord}
 use Rattle.graph_model.specs.declared.graph.Version.{Version}
 use Rattle.part_bytes.specs.declared.part.PartValue.{PartValue}
+use Rattle.part_reader.specs.declared.fault.PartFault.{PartFault}
+use Rattle.part_reader.specs.Reading.{part_read}
 use Rattle.checkpoint_reader.specs.declared.fields.Cells.{Cells}
 use Rattle.checkpoint_reader.specs.declared.fields.Versions.{Versions}
 use Rattle.checkpoint_reader.specs.Reads.{Answer, pure, after}
-use Rattle.checkpoint_reader.specs.Fields.{with_cell, with_version, with_copy, cell, version, part, next_cell, kept, next_version}
-use Rattle.checkpoint_reader.specs.Numbered.{AreCells, AreVersions}
+use Rattle.checkpoint_reader.specs.Fields.{with_cell, with_version, with_copy, cell, version, part_of, part, next_cell, kept, next_version}
+use Rattle.checkpoint_reader.specs.Numbered.{BeganWithin, AreCells, AreVersions}
 use Rattle.checkpoint_reader.proofs.Numbers.{cells_grow, versions_grow, copies_grow}
+use Rattle.checkpoint_reader.proofs.Bounds.{Has, cell_began}
 
 abbrev read_of : {A : Type 0} → A → Answer A → A
 read_of none (Ok read) = read.0
 read_of none (Err fault) = none
 
-cells_from : (n : ℕ) (before now : Cells) (next : ℕ) (answer : Answer (CellRecord × Bool)) → AreCells n before
+cells_from : (n : ℕ) (before now : Cells) (next : ℕ) (answer : Answer (CellRecord × Bool)) → AreCells n before → Has (λ c. BeganWithin c.0) answer
     → after answer (λ c. pure (with_cell before c)) ≡ Ok (now, next) → AreCells (n + 1) now
-cells_from n before now next (Ok read) a e =
+cells_from n before now next (Ok read) a within e =
     let same : with_cell before read.0 ≡ now = ap (read_of now) e in
-    subst (AreCells (n + 1)) same (cells_grow n before read.0 a)
-cells_from n before now next (Err fault) a e = absurd (let is = e in cc)
+    subst (AreCells (n + 1)) same (cells_grow n before read.0 a within)
+cells_from n before now next (Err fault) a within e = absurd (let is = e in cc)
 
 pub cells_turn : (bytes : List ℕ) (n : ℕ) (before now : Cells) (at next : ℕ) → AreCells n before → next_cell bytes before at ≡ Ok (now, next) → AreCells (n + 1) now
 unfolding next_cell
-cells_turn bytes n before now at next a e = cells_from n before now next (cell bytes at) a e
+cells_turn bytes n before now at next a e = cells_from n before now next (cell bytes at) a ((cell_began bytes).has at) e
 
-copies_from : (n : ℕ) (before now : Versions) (x : Version) (next : ℕ) (answer : Answer (PartValue × ℕ)) → AreVersions n before
-    → after answer (λ copy. pure (with_copy before x copy)) ≡ Ok (now, next) → AreVersions (n + 1) now
-copies_from n before now x next (Ok read) a e =
-    let same : with_copy before x read.0 ≡ now = ap (read_of now) e in
-    subst (AreVersions (n + 1)) same (copies_grow n before x read.0 a)
-copies_from n before now x next (Err fault) a e = absurd (let is = e in cc)
+copies_from : (n : ℕ) (before now : Versions) (x : Version) (at next : ℕ) (front : List ℕ) (answer : Result (PartValue × ℕ) PartFault) → part_read front ≡ answer → AreVersions n before
+    → after (part_of at answer) (λ copy. pure (with_copy before x copy)) ≡ Ok (now, next) → AreVersions (n + 1) now
+copies_from n before now x at next front (Ok copy) was a e =
+    let same : with_copy before x copy ≡ now = ap (read_of now) e in
+    subst (AreVersions (n + 1)) same (copies_grow n before x copy front was a)
+copies_from n before now x at next front (Err fault) was a e = absurd (let is = e in cc)
 
 versions_kept : (bytes : List ℕ) (n : ℕ) (before now : Versions) (x : Version) (copied : Bool) (at next : ℕ) → AreVersions n before
     → kept bytes before x copied at ≡ Ok (now, next) → AreVersions (n + 1) now
-unfolding kept
-versions_kept bytes n before now x true at next a e = copies_from n before now x next (part bytes at) a e
+unfolding kept part
+versions_kept bytes n before now x true at next a e = copies_from n before now x at next (drop at bytes) (part_read (drop at bytes)) refl a e
 versions_kept bytes n before now x false at next a e =
     let same : with_version before x ≡ now = ap (read_of now) e in
     subst (AreVersions (n + 1)) same (versions_grow n before x a)

@@ -1,17 +1,20 @@
 -- The numbers of what the plan runs again or copies ascend, and what is copied holds at the end.
 use Rattle.std.proofs.Common.{◌≡◌, ℕ, zero, suc, ◌+◌, ◌-◌, ◌<◌, Bool, true, false, List, [], ◌∷◌, ◌++◌, length, Option, Some, None, refl, sym, ap, ◌∙◌, subst, inl, inr, arith}
-use Rattle.std.specs.Prelude.{slice_get, not, nat_eq}
+use Rattle.std.specs.Prelude.{slice_get, not, nat_eq, All, Result, Ok}
+use Rattle.std.specs.List.{AllZip}
 use Rattle.std.proofs.lemmas.Bool.{or_parts, not-false, eqb-true}
 use Rattle.std.proofs.lemmas.List.{length-append}
-use Rattle.std.proofs.lemmas.List.Elements.{Contains-push_cases}
+use Rattle.std.proofs.lemmas.List.Elements.{Contains-push_cases, All-nil, All-cons, All-append}
 use Rattle.graph_model.specs.declared.graph.CellRecord.{CellRecord}
 use Rattle.graph_model.specs.declared.graph.Version.{Version}
 use Rattle.graph_model.proofs.Ascending.{ascends-push}
 use Rattle.part_bytes.specs.declared.part.PartValue.{PartValue}
+use Rattle.part_reader.specs.declared.fault.PartFault.{PartFault}
+use Rattle.part_reader.specs.Reading.{part_read}
 use Rattle.checkpoint_reader.specs.declared.fields.Cells.{Cells}
 use Rattle.checkpoint_reader.specs.declared.fields.Versions.{Versions}
-use Rattle.checkpoint_reader.specs.Fields.{marked, with_cell, with_version, with_copy, first_found, is_unlike}
-use Rattle.checkpoint_reader.specs.Numbered.{AreNumbers, AreCells, AreVersions, IsKeptActive}
+use Rattle.checkpoint_reader.specs.Fields.{marked, with_cell, with_version, with_copy, first_found, is_unlike, no_cells, no_versions}
+use Rattle.checkpoint_reader.specs.Numbered.{AreNumbers, BeganWithin, AreCells, AreVersions, IsKeptActive, IsCopyOf, IsCopyAt}
 
 numbers_stay : (n : ℕ) (xs : List ℕ) → AreNumbers n xs → AreNumbers (n + 1) xs
 numbers_stay n xs a = record { ascend = a.ascend; within = λ m c. let p = a.within m c in (p.0, omega (arith, p.1)) }
@@ -32,12 +35,19 @@ numbers_marked n xs false a = numbers_stay n xs a
 pub no_numbers : AreNumbers 0 []
 no_numbers = record { ascend = tt; within = λ m c. absurd (let l = c.1 in omega (arith, l)) }
 
+pub cells_begin : AreCells 0 no_cells
+cells_begin = record { size = refl; rerun = no_numbers; meters = All-nil BeganWithin }
+
+pub versions_begin : AreVersions 0 no_versions
+versions_begin = record { size = refl; copied = no_numbers; active = λ u v c. absurd (let l = c.1 in omega (arith, l)); copies = λ u. tt }
+
 one_longer : {X : Type 0} (n : ℕ) (xs : List X) (x : X) → length xs ≡ n → length (xs ++ x ∷ []) ≡ n + 1
 one_longer n xs x e = length-append xs (x ∷ []) ∙ ap (λ k. k + 1) e
 
-pub cells_grow : (n : ℕ) (before : Cells) (cell : CellRecord × Bool) → AreCells n before → AreCells (n + 1) (with_cell before cell)
-cells_grow n before cell a = record {
+pub cells_grow : (n : ℕ) (before : Cells) (cell : CellRecord × Bool) → AreCells n before → BeganWithin cell.0 → AreCells (n + 1) (with_cell before cell)
+cells_grow n before cell a within = record {
   size = one_longer n before.records cell.0 a.size;
+  meters = All-append BeganWithin before.records (cell.0 ∷ []) a.meters (All-cons BeganWithin cell.0 [] within (All-nil BeganWithin));
   rerun = subst (λ k. AreNumbers (n + 1) (marked before.rerun (k + 1) cell.1)) (sym a.size) (numbers_marked n before.rerun cell.1 a.rerun);
 }
 
@@ -54,11 +64,31 @@ stands_last (y ∷ xs) x = stands_last xs x
 active_stays : (records : List Version) (x : Version) (v : ℕ) → IsKeptActive records v → IsKeptActive (records ++ x ∷ []) v
 active_stays records x v a = (a.0, stays_at records (x ∷ []) (v - 1) a.0 a.1, a.2)
 
+-- ---- what was read for a version
+
+module _ {A B : Type 0} (R S : A → B → Type 0) (on : (a : A) (b : B) → R a b → S a b) where
+  zip_weaker : (xs : List A) (ys : List B) → AllZip R xs ys → AllZip S xs ys
+  zip_weaker [] [] h = tt
+  zip_weaker (x ∷ xs) (y ∷ ys) h = (on x y h.0, zip_weaker xs ys h.1)
+  zip_weaker [] (y ∷ ys) h = absurd h
+  zip_weaker (x ∷ xs) [] h = absurd h
+
+zip_put : {A B : Type 0} (R : A → B → Type 0) (xs : List A) (ys : List B) (x : A) (y : B) → AllZip R xs ys → R x y → AllZip R (xs ++ x ∷ []) (ys ++ y ∷ [])
+zip_put R [] [] x y h k = (k, tt)
+zip_put R (a ∷ xs) (b ∷ ys) x y h k = (h.0, zip_put R xs ys x y h.1 k)
+zip_put R [] (b ∷ ys) x y h k = absurd h
+zip_put R (a ∷ xs) [] x y h k = absurd h
+
+copies_stay : (records : List Version) (x : Version) (copied : List ℕ) (parts : List PartValue) → AllZip (IsCopyAt records) copied parts → AllZip (IsCopyAt (records ++ x ∷ [])) copied parts
+copies_stay records x copied parts h =
+    zip_weaker (IsCopyAt records) (IsCopyAt (records ++ x ∷ [])) (λ v part c. (c.0, stays_at records (x ∷ []) (v - 1) c.0 c.1, c.2)) copied parts h
+
 pub versions_grow : (n : ℕ) (before : Versions) (x : Version) → AreVersions n before → AreVersions (n + 1) (with_version before x)
 versions_grow n before x a = record {
   size = one_longer n before.records x a.size;
   copied = numbers_stay n before.copied a.copied;
   active = λ u v c. active_stays before.records x v (a.active u v c);
+  copies = λ u. copies_stay before.records x before.copied before.parts (a.copies u);
 }
 
 none_found : (o : Option ℕ) (n : ℕ) (b : Bool) → first_found o n b ≡ None → (o ≡ None) × (b ≡ false)
@@ -73,8 +103,13 @@ copy_active : (n : ℕ) (records : List Version) (x : Version) (v : ℕ) → len
 copy_active n records x v size e r = let at : length records ≡ v - 1 = omega (arith, size, e) in
     (x, ap (λ (i : ℕ). slice_get (records ++ x ∷ []) i) (sym at) ∙ stands_last records x, r)
 
-pub copies_grow : (n : ℕ) (before : Versions) (x : Version) (copy : PartValue × ℕ) → AreVersions n before → AreVersions (n + 1) (with_copy before x copy)
-copies_grow n before x copy a = record {
+last_copy : (records : List Version) (x : Version) (copy : PartValue × ℕ) (front : List ℕ) → part_read front ≡ Ok copy → is_unlike x copy.0 copy.1 ≡ false → IsCopyAt (records ++ x ∷ []) (length records + 1) copy.0
+last_copy records x copy front was like =
+    let at : length records + 1 - 1 ≡ length records = omega arith in
+    (x, ap (slice_get (records ++ x ∷ [])) at ∙ stands_last records x, record { bytes = front; size = copy.1; was_read = was; agrees = like })
+
+pub copies_grow : (n : ℕ) (before : Versions) (x : Version) (copy : PartValue × ℕ) (front : List ℕ) → part_read front ≡ Ok copy → AreVersions n before → AreVersions (n + 1) (with_copy before x copy)
+copies_grow n before x copy front was a = record {
   size = one_longer n before.records x a.size;
   copied = subst (λ k. AreNumbers (n + 1) (before.copied ++ (k + 1) ∷ [])) (sym a.size) (numbers_put n before.copied a.copied);
   active = λ u v c. let none = none_found before.unlike (length before.records + 1) (is_unlike x copy.0 copy.1) u in
@@ -82,4 +117,7 @@ copies_grow n before x copy a = record {
         | inl old ↦ active_stays before.records x v (a.active none.0 v old)
         | inr e ↦ copy_active n before.records x v a.size (ap (λ k. k + 1) (sym a.size) ∙ e) (like_is_active x copy.0 copy.1 none.1)
       ];
+  copies = λ u. let none = none_found before.unlike (length before.records + 1) (is_unlike x copy.0 copy.1) u in
+      zip_put (IsCopyAt (before.records ++ x ∷ [])) before.copied before.parts (length before.records + 1) copy.0 (copies_stay before.records x before.copied before.parts (a.copies none.0))
+      (last_copy before.records x copy front was none.1);
 }

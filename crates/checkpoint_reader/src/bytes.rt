@@ -1,4 +1,4 @@
-ghost use Rattle.std.specs.Prelude.{◌≡◌, true, length, drop, IfOk, MatchResult, Ok, Err};
+ghost use Rattle.std.specs.Prelude.{◌≡◌, ◌≤◌, true, length, drop, IfOk, MatchResult, Ok, Err};
 ghost use Rattle.checkpoint_reader.specs.Reads.{Is};
 ghost use Rattle.checkpoint_reader.specs.Fields as spec;
 
@@ -61,7 +61,8 @@ pub(crate) fn read_at_most(
     spot: &mut usize,
     most: u32,
 ) -> Result<u32, CheckpointFault>
-    ensures { Is (spec.at_most bytes.now most spot.old) result spot.new }
+    ensures exact { Is (spec.at_most bytes.now most spot.old) result spot.new }
+    ensures bound { IfOk result (λ n. n ≤ most) }
 {
     let at = *spot;
     let n = read_four(bytes, spot)?;

@@ -11,7 +11,7 @@ pub enum CheckpointFault {
     OutOfMemory,
     /// The bytes don't begin with `ENCK`, and `ENCK` doesn't begin with them.
     BadMagic,
-    /// The version of the format, which isn't 1. It stands at 4.
+    /// The version of the format, which isn't 1. It is at byte 4.
     BadVersion(u16),
     /// The bytes end within the field at that place.
     Cut(usize),
@@ -46,8 +46,8 @@ impl fmt::Display for CheckpointFault {
             CheckpointFault::BadVersion(version) => write!(f, "unsupported version {version}"),
             CheckpointFault::Cut(at) => write!(f, "cut at byte {at}"),
             CheckpointFault::Part { at, fault } => write!(f, "in the part at byte {at}: {fault}"),
-            CheckpointFault::Graph(_) => write!(f, "the graph has a fault"),
-            CheckpointFault::PlanDisagrees(_) => write!(f, "the plan disagrees"),
+            CheckpointFault::Graph(fault) => write!(f, "in the graph: {fault}"),
+            CheckpointFault::PlanDisagrees(item) => write!(f, "the plan disagrees at {item}"),
             CheckpointFault::Trailing(at) => write!(f, "bytes after the end, at byte {at}"),
             CheckpointFault::BadField(at) => write!(f, "bad field at byte {at}"),
         }

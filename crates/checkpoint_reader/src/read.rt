@@ -1,7 +1,7 @@
 ghost use Rattle.std.specs.Prelude.{◌≡◌, true, IfOk, MatchResult, Ok, Err};
 ghost use Rattle.checkpoint_reader.specs.Reads.{Is, tells};
 ghost use Rattle.checkpoint_reader.specs.Fields as spec;
-ghost use Rattle.checkpoint_reader.specs.Numbered.{AreFields};
+ghost use Rattle.checkpoint_reader.specs.Numbered.{AreFields, IsRestorable};
 ghost use Rattle.checkpoint_reader.specs.Judging.{IsAnswer};
 
 use crate::bytes::{read_at_most, read_four, read_two, take_bytes};
@@ -82,7 +82,9 @@ fn read_fields(alloc: Global, bytes: &[u8], spot: &mut usize) -> Result<Fields, 
 /// Reads a checkpoint: its value, or the first of its faults. The fields come first, in their order, and then any byte that is
 /// left; then the graph; then the plan.
 pub fn read_checkpoint(alloc: Global, bytes: &[u8]) -> Result<Checkpoint, CheckpointFault>
-    ensures { tells result ≡ true → IsAnswer (spec.fields bytes.now 0) result }
+    ensures exact { tells result ≡ true → IsAnswer (spec.fields bytes.now 0) result }
+    // What its text brings: its meters are within the limit, and each version that its plan copies has its part.
+    ensures restorable { IfOk result IsRestorable }
 {
     let mut spot = 0;
     let read = read_fields(alloc, bytes, &mut spot)?;

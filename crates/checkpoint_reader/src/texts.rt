@@ -12,7 +12,7 @@ use std::str::from_utf8;
 /// The most bytes that a cell's code has.
 const LONGEST: usize = 262_148;
 
-/// The text with these bytes, whose field stands at that place.
+/// The text with these bytes, whose field is at that place.
 fn text_of(xs: &[u8], at: usize) -> Result<&str, CheckpointFault>
     ensures { MatchResult result (λ text. (text.now ≡ xs.now) × (is_utf8 xs.now ≡ true)) (λ e. (e ≡ CheckpointFault.BadField at) × (is_utf8 xs.now ≡ false)) }
 {

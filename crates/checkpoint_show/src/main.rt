@@ -57,7 +57,7 @@ fn graph_line(alloc: Global, fault: GraphFault) -> Result<Text> {
     }
 }
 
-/// A part's fault stands at the part's first byte.
+/// A fault in a part is at the part's first byte.
 fn fault_line(alloc: Global, fault: CheckpointFault) -> Result<Text> {
     match fault {
         CheckpointFault::OutOfMemory => bail!("out of memory"),

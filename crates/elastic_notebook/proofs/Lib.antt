@@ -1,3 +1,3 @@
 pub mod Streaming
 pub mod Serving
-pub mod Words
+pub mod Telling

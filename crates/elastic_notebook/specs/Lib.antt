@@ -1,3 +1,4 @@
 pub mod Intake
 pub mod Served
+pub mod Saying
 pub mod Reading

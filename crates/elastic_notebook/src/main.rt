@@ -7,6 +7,7 @@
 mod fault;
 mod intake;
 pub mod run;
+mod say;
 mod serve;
 mod streams;
 #[cfg(test)]

@@ -23,3 +23,5 @@ pub use history::History;
 pub use laws::{
     a_checked_graph_stays_one, a_history_stays_one, checked_graphs_have_cells, histories_have_cells,
 };
+pub use sets::{add_names, is_in};
+pub use written::by_least;

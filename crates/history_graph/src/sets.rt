@@ -6,7 +6,7 @@ use plain_data::{Text, TextMap};
 use std::alloc::{AllocError, Global};
 
 /// Whether the name is in the set.
-pub(crate) fn is_in(names: &TextMap<()>, name: &Text) -> bool
+pub fn is_in(names: &TextMap<()>, name: &Text) -> bool
     ensures { result ≡ has_member names.now name.now }
 {
     names.look(name).is_some()
@@ -24,12 +24,8 @@ pub(crate) fn has_one_of(set: &TextMap<()>, names: &[Text]) -> bool
     false
 }
 
-/// Puts the names into the set.
-pub(crate) fn add_names(
-    alloc: Global,
-    set: &mut TextMap<()>,
-    names: &[Text],
-) -> Result<(), AllocError>
+/// Puts the names into the set. After an error some of them may be there.
+pub fn add_names(alloc: Global, set: &mut TextMap<()>, names: &[Text]) -> Result<(), AllocError>
     ensures { OnOk result (IsWith set.old names.now set.new) }
 {
     for name in names {

@@ -22,8 +22,8 @@ pub(crate) fn first_name(alloc: Global, names: &[Text]) -> Result<Text, AllocErr
     }
 }
 
-/// The parts by their least names.
-pub(crate) fn by_least(alloc: Global, parts: &Parts) -> Result<TextMap<usize>, AllocError>
+/// The numbers of the parts, counted from 0, by their least names.
+pub fn by_least(alloc: Global, parts: &Parts) -> Result<TextMap<usize>, AllocError>
     ensures { IfOk result (λ index. IsByLeast parts.now (length parts.now.list) index) }
 {
     let list = parts.list.as_slice();

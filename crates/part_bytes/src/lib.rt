@@ -14,6 +14,7 @@ mod values;
 mod write;
 
 pub use laws::{the_order_is_that_of_first_reach, the_text_of_a_small_part};
+pub use numbers::Numbers;
 pub use part::PartValue;
 pub use values::{write_count, write_four, write_text};
 pub use write::{write_names, write_part};

@@ -8,13 +8,13 @@ use std::alloc::{AllocError, Global};
 
 /// The objects that names reach, in the order in which they are reached first, with their numbers.
 #[derive(Drop)]
-pub(crate) struct Numbers {
+pub struct Numbers {
     /// The addresses.
-    pub(crate) order: Items<u32>,
+    pub order: Items<u32>,
     /// How many there are.
-    pub(crate) total: u32,
+    pub total: u32,
     /// The number at each address of a reached object, and `total` at the others.
-    pub(crate) places: Items<u32>,
+    pub places: Items<u32>,
     ghost counted: { total ≡ length order },
     ghost placed: { (at : ℕ) → slice_index_or places at total ≡ number_in order at },
 }
@@ -50,8 +50,8 @@ fn places_of(
 }
 
 impl Numbers {
-    /// Those of the objects that these names reach.
-    pub(crate) fn new(alloc: Global, state: &State, names: &[Text]) -> Result<Numbers, AllocError>
+    /// Those of the objects that these names reach. With 2^32 of them or more it is want of memory.
+    pub fn new(alloc: Global, state: &State, names: &[Text]) -> Result<Numbers, AllocError>
         requires { IsClosed state.now }
         ensures order { IfOk result (λ numbers. numbers.order ≡ order state.now names.now) }
         ensures live { IfOk result (λ numbers. AreLive state.now.heap numbers.order) }
@@ -67,7 +67,7 @@ impl Numbers {
     }
 
     /// The number of the object at an address: how many stand before it, which is all of them if it isn't one of them.
-    pub(crate) fn number(&self, at: u32) -> u32
+    pub fn number(&self, at: u32) -> u32
         ensures { result ≡ number_in self.now.order at }
     {
         match self.places.get(at as usize) {

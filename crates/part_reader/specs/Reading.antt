@@ -34,7 +34,7 @@ abbrev pub stands_after : Option (List ℕ) → List ℕ → Bool
 stands_after None name = true
 stands_after (Some last) name = is_lt (slice_cmp nat_cmp last name)
 
--- the name stands after the last of the names, by the bytes
+-- the name is after the last of the names, by the bytes
 unfoldable pub follows : List (List ℕ) → List ℕ → Bool
 follows names name = stands_after (slice_get names (length names - 1)) name
 
@@ -104,7 +104,7 @@ module _ (bytes : List ℕ) where
     xs ← taken n
     name_of at before xs
 
-  -- a key with this tag, which stands at that place
+  -- a key with this tag, which is at that place
   unfoldable pub key_by : ℕ → ℕ → Read Key
   key_by at tag = if tag == 0 then pure the_key.Nothing else (if tag == 1 then pure (the_key.Bool false) else (if tag == 2 then pure (the_key.Bool true)
       else (if tag == 3 then (sixteen >>= λ n. pure (the_key.Number n)) else (if tag == 4 then (text >>= λ t. pure (the_key.Text t)) else fail (BadTag at)))))

@@ -53,7 +53,7 @@ pub(crate) fn read_sixteen(bytes: &[u8], spot: &mut Spot) -> Result<i128, PartFa
     Ok(BigEndian::read_i128(xs))
 }
 
-/// The text with these bytes, whose length stands at that place.
+/// The text with these bytes, whose length is at that place.
 fn text_of(xs: &[u8], at: usize) -> Result<&str, PartFault>
     ensures { MatchResult result (λ text. (text.now ≡ xs.now) × (is_utf8 xs.now ≡ true)) (λ e. (e ≡ PartFault.BadText at) × (is_utf8 xs.now ≡ false)) }
 {

@@ -8,14 +8,14 @@ pub enum PartFault {
     OutOfMemory,
     /// The bytes end within the part.
     Cut,
-    /// A tag that can't stand there, or a byte that no built-in function has.
+    /// A tag that can't be there, or a byte that no built-in function has.
     BadTag(usize),
     /// A reference that is no number of an object referred to before and not the next one, an object that nothing before it
     /// refers to, or fewer objects than were referred to.
     BadRef(usize),
     /// A key equal to an earlier one of its dict.
     BadKey(usize),
-    /// No names, or a name that a program can't bind or that doesn't stand after the one before it.
+    /// No names, or a name that a program can't bind or that isn't after the one before it.
     BadName(usize),
     /// A text that isn't UTF-8, or a source that is no function.
     BadText(usize),

@@ -66,7 +66,7 @@ fn read_dict(alloc: Global, bytes: &[u8], spot: &mut Spot) -> Result<Object, Par
     Ok(Object::Dict(dict))
 }
 
-/// The function with that source, whose length stands at that place.
+/// The function with that source, whose length is at that place.
 fn function_of(alloc: Global, source: &str, at: usize, spot: Spot) -> Result<Object, PartFault>
     ensures { Is (spec.function_of at (verdict_alone source.now) spot) result spot }
 {
@@ -106,7 +106,7 @@ fn read_content(alloc: Global, bytes: &[u8], spot: &mut Spot, tag: u8) -> Result
     read_function(alloc, bytes, spot)
 }
 
-/// An object of that number with this tag, which stands at that place.
+/// An object of that number with this tag, which is at that place.
 #[tactic(auto, using(std::proofs::lemmas::Bool::Decides::nat_tests), unfolding(crate::specs::Reading::object_by))]
 fn read_object_by(
     alloc: Global,

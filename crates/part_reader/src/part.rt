@@ -16,7 +16,7 @@ use std::alloc::Global;
 use std::cmp::Ordering;
 use std::str::from_utf8;
 
-/// Whether a name stands after the last of the names.
+/// Whether a name is after the last of the names.
 #[tactic(auto, unfolding(crate::specs::Reading::follows))]
 fn follows(names: &Items<Text>, name: &Text) -> bool
     ensures { result ≡ spec.follows names.now name.now }
@@ -32,7 +32,7 @@ fn follows(names: &Items<Text>, name: &Text) -> bool
     }
 }
 
-/// The name with this text, whose length stands at that place.
+/// The name with this text, whose length is at that place.
 fn variable_of(
     alloc: Global,
     before: &Items<Text>,
@@ -54,7 +54,7 @@ fn variable_of(
     Ok(name)
 }
 
-/// The name with these bytes, whose length stands at that place.
+/// The name with these bytes, whose length is at that place.
 fn name_of(
     alloc: Global,
     before: &Items<Text>,

@@ -9,7 +9,7 @@ use plain_data::{Items, SharedText};
 use py_value::{Builtin, Key, Value};
 use std::alloc::Global;
 
-/// A key with this tag, which stands at that place.
+/// A key with this tag, which is at that place.
 #[tactic(auto, using(std::proofs::lemmas::Bool::Decides::nat_tests), unfolding(crate::specs::Reading::key_by))]
 pub(crate) fn read_key(
     alloc: Global,
@@ -36,7 +36,7 @@ pub(crate) fn read_key(
     }
 }
 
-/// A reference whose tag stands at that place.
+/// A reference whose tag is at that place.
 #[tactic(auto, using(std::proofs::lemmas::Bool::Decides::nat_tests), unfolding(crate::specs::Reading::reference))]
 fn read_reference(bytes: &[u8], spot: &mut Spot, at: usize) -> Result<Value, PartFault>
     ensures { Is (spec.reference bytes.now at spot.old) result spot.new }
@@ -83,7 +83,7 @@ fn read_builtin(bytes: &[u8], spot: &mut Spot) -> Result<Value, PartFault>
     }
 }
 
-/// A value with this tag, which stands at that place.
+/// A value with this tag, which is at that place.
 #[tactic(auto, using(std::proofs::lemmas::Bool::Decides::nat_tests), unfolding(crate::specs::Reading::value_by))]
 pub(crate) fn read_value_by(
     alloc: Global,

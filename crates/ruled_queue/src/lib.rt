@@ -8,5 +8,8 @@
 mod queue;
 mod rule;
 
-pub use queue::{Queue, Seat, join, make, one_consumer, pop, push, split_consumer, split_number};
+pub use queue::{
+    Queue, Seat, join, make, one_consumer, pop, pop_and_drop, push, push_or_drop, split_consumer,
+    split_number,
+};
 pub use rule::{Numbering, View};

@@ -1,4 +1,4 @@
-ghost use Rattle.std.specs.Prelude.{◌≡◌, ◌<◌, [], true, false, IfOk, MatchOption, MatchResult};
+ghost use Rattle.std.specs.Prelude.{◌≡◌, ◌<◌, [], true, false, IfOk, MatchBool, MatchOption, MatchResult};
 ghost use Rattle.crossbeam_queue.specs.SegTies.{IsSegPassOf};
 ghost use Rattle.ruled_queue.specs.Rule.{first_view, producer_part, consumer_part, gave_number, next_number, joined, impossible, grown, Took, MayPush, Waits};
 
@@ -51,6 +51,42 @@ pub fn pop<T: Drop, N: Numbering<T>, R: Wait>(
     queue.pop_as::<Popped<N>, R>(rt, seat)
 }
 
+/// Pushes an item under its number, or lets it go for want of memory.
+pub fn push_or_drop<T: Drop, N: Numbering<T>, R: Wait>(
+    rt: &R,
+    queue: &Queue<T, N>,
+    seat: &mut Seat<T>,
+    item: T,
+) -> Result<(), AllocError>
+    requires queue { IsSegPassOf queue.now seat.old }
+    requires may { MayPush N.number N.is_fit N.opens seat.old.me.view.client item }
+    ensures queue { IsSegPassOf queue.now seat.new }
+    ensures done { MatchResult result (λ _. seat.new.me.view.client ≡ grown N.number seat.old.me.view.client item) (λ _. seat.new.me.view.client ≡ seat.old.me.view.client) }
+{
+    match push(rt, queue, seat, item) {
+        Ok(()) => Ok(()),
+        Err(_item) => Err(AllocError),
+    }
+}
+
+/// Pops the front and lets it go. Whether there was one; if not, the queue was found empty at a step of this call.
+pub fn pop_and_drop<T: Drop, N: Numbering<T>, R: Wait>(
+    rt: &R,
+    queue: &Queue<T, N>,
+    seat: &mut Seat<T>,
+) -> bool
+    requires queue { IsSegPassOf queue.now seat.old }
+    requires consumer { seat.old.me.view.client.pops ≡ true }
+    ensures queue { IsSegPassOf queue.now seat.new }
+    ensures done { MatchBool result ((x : T) × Took N.number N.is_fit N.opens seat.old.me.view.client x seat.new.me.view.client)
+        ((seat.new.me.view.client ≡ seat.old.me.view.client) × Waits N.number seat.old.me.view.client []) }
+{
+    match pop(rt, queue, seat) {
+        Some(_item) => true,
+        None => false,
+    }
+}
+
 /// Splits off the consumer's part.
 pub fn split_consumer<T, N: Numbering<T>>(queue: &Queue<T, N>, seat: &mut Seat<T>) -> Seat<T>
     requires queue { IsSegPassOf queue.now seat.old }
@@ -87,14 +123,13 @@ pub fn join<T, N: Numbering<T>>(queue: &Queue<T, N>, seat: &mut Seat<T>, other: 
 pub fn one_consumer<T: Drop, N: Numbering<T>, R: Wait>(
     rt: &R,
     queue: &Queue<T, N>,
-    seat: Seat<T>,
+    seat: &mut Seat<T>,
     other: Seat<T>,
 )
-    requires queue { IsSegPassOf queue.now seat × IsSegPassOf queue.now other }
-    requires consumers { (seat.me.view.client.pops ≡ true) × (other.me.view.client.pops ≡ true) }
+    requires queue { IsSegPassOf queue.now seat.old × IsSegPassOf queue.now other }
+    requires consumers { (seat.old.me.view.client.pops ≡ true) × (other.me.view.client.pops ≡ true) }
     ensures { ⊥ }
 {
-    let mut seat = seat;
-    queue.absorb::<Consumers>(&mut seat, other);
-    let _ = queue.pop_as::<Never, R>(rt, &mut seat);
+    queue.absorb::<Consumers>(seat, other);
+    let _ = queue.pop_as::<Never, R>(rt, seat);
 }

@@ -1,17 +1,21 @@
 -- A parcel that came to its host.
-use Rattle.std.proofs.Common.{ℕ, List, [], refl, sym, ap, ◌∙◌, subst, Some, slice_get}
+use Rattle.std.proofs.Common.{◌≡◌, ℕ, List, [], refl, sym, ap, ap₂, ◌∙◌, subst, Some, slice_get}
 use Rattle.session_core.specs.declared.entry.Entry.{Entry}
 use Rattle.session_core.specs.declared.entry.Entry.TheVariants.{Moved}
 use Rattle.session_queues.specs.declared.shared.SharedQueues.{SharedQueues}
 use Rattle.session_queues.specs.Ends.{Held}
 use Rattle.session_gate.specs.Answered.{IsAnswered}
-use Rattle.session_gate.specs.Facts.{Away, IsIn, OwesNone, IsBare, HasNoted}
-use Rattle.session_gate.specs.Places.{IsSealedUp}
+use Rattle.session_core.specs.Legal.{arriving, moved, progress_of}
+use Rattle.session_core.proofs.Progressing.{progress_more}
+use Rattle.session_gate.specs.Facts.{Away, HasNoted}
+use Rattle.session_gate.specs.Places.{IsSealedUp, IsCollected}
 use Rattle.session_gate.proofs.Noting.{answered_more}
 
-pub arrived : {E F : Type 0} → (hosts : ℕ) (queues : List SharedQueues) (p q : Away E F) → IsSealedUp hosts queues p → HasNoted p.held q.held (Moved p.to) → IsIn hosts queues q.held × OwesNone q.held × IsBare q.held
-arrived hosts queues p q h n = let same = n.4 in (
+pub arrived : {E F : Type 0} → (hosts : ℕ) (queues : List SharedQueues) (p q : Away E F) → IsSealedUp hosts queues p → HasNoted p.held q.held (Moved p.to) → q ≡ record p { held = q.held } → IsCollected hosts queues q
+arrived {E = E} {F = F} hosts queues p q h n is = let same = n.4 in (
   (ap (slice_get queues) same.2 ∙ (h.0.0 ∙ ap (λ (e : Held). Some e.queues) (sym same.0)), same.3 ∙ h.0.1),
+  ap (λ (es : List Entry). (progress_of es).phase) n.2 ∙ ap (λ p. p.phase) (progress_more p.held.entries (Moved p.to)) ∙ ap moved h.1
+      ∙ ap₂ (λ again to. arriving again to) (sym (ap (λ (x : Away E F). x.again) is)) (sym (ap (λ (x : Away E F). x.to) is)),
   subst (λ (e : Held). IsAnswered q.held.entries e []) (sym same.0) (subst (λ (es : List Entry). IsAnswered es p.held.ends []) (sym n.2) (answered_more p.held.entries (Moved p.to) p.held.ends [] refl h.2 refl)),
   (
     ap (λ (e : Held). e.main.lists) same.0 ∙ h.3.0,

@@ -1,4 +1,5 @@
 -- A move that sets out, and how it ends.
+use Rattle.std.specs.Prelude.{Result, Err, IfOk}
 use Rattle.std.proofs.Common.{◌≡◌, ◌<◌, ◌≤◌, ◌+◌, ℕ, false, List, [], ◌∷◌, ◌++◌, refl, sym, ap, ◌∙◌, subst, Ok, arith}
 use Rattle.session_core.specs.declared.request.Ask.{Ask}
 use Rattle.session_core.specs.declared.request.Ask.TheVariants.{Execute, Info, Complete, Shutdown, Migrate}
@@ -8,9 +9,10 @@ use Rattle.session_core.specs.declared.entry.Entry.TheVariants.{Sealed, Moved}
 use Rattle.session_core.specs.declared.engine.Packed.{Packed}
 use Rattle.session_core.specs.Asks.{IsMove}
 use Rattle.session_core.specs.Engines.{Packs}
-use Rattle.session_core.specs.Meanings.{Meaning}
+use Rattle.session_core.specs.Meanings.{Served, Meaning, HasNoEnd, IsPacked}
 use Rattle.session_core.specs.Legal.{Phase, settled, sealed, arriving, moved, Progress, progress_of, CanGo, MayTry, MayGo, HasPlan, MayBeMoved, MayBeAdopted, MayBeResumed}
 use Rattle.session_core.proofs.Progressing.{progress_more}
+use Rattle.session_core.proofs.Going.{pack_of}
 use Rattle.session_gate.specs.Facts.{IsOnItsWay, IsPackFor}
 
 module _ (meaning : Meaning) (hosts : ℕ) where
@@ -50,6 +52,13 @@ module _ (meaning : Meaning) (hosts : ℕ) where
   has_plan p packed (Shutdown restart) h = absurd h
   has_plan p packed (Migrate to weights) h = let (g, of, admitted, free, certified, text) = h in (g, of, certified)
 
+  pub is_packed : (served : List Served) (packed : Packed) (ask : Ask) → IsPackFor meaning served packed ask → meaning.IsRun served → HasNoEnd served → IsPacked meaning served packed.certified.plan packed.bytes
+  is_packed served packed (Execute code silent store) h runs open_ = absurd h
+  is_packed served packed Info h runs open_ = absurd h
+  is_packed served packed (Complete code) h runs open_ = absurd h
+  is_packed served packed (Shutdown restart) h runs open_ = absurd h
+  is_packed served packed (Migrate to weights) h runs open_ = pack_of meaning served weights packed runs open_ h
+
   pub may_resume : (p : Progress) (phase : Phase) (host : ℕ) (request : Request) → phase ≡ settled → host ≡ p.owner → IsMove (MayTry meaning hosts p) request.ask → MayBeResumed meaning hosts p phase host request
   may_resume p phase host request is own h = subst (λ z. MayBeResumed meaning hosts p z host request) (sym is) (own, h)
 
@@ -80,3 +89,8 @@ arriving_room phase again to spare is h = (subst (λ z. IsOnItsWay z again to sp
 
 pub sealed_room : (phase : Phase) (again : Request) (to spare : ℕ) → phase ≡ sealed again to → IsOnItsWay phase again to spare → 2 ≤ spare
 sealed_room phase again to spare is h = (subst (λ z. IsOnItsWay z again to spare) is h).2
+
+-- what follows of an answer that is Ok
+pub if_ok_more : {A B : Type 0} → (P Q : A → Type 0) (r : Result A B) → IfOk r P → ((a : A) → P a → Q a) → IfOk r Q
+if_ok_more P Q (Ok a) h f = f a h
+if_ok_more P Q (Err e) h f = tt

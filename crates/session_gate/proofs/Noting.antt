@@ -1,5 +1,5 @@
 -- A journal that is one entry longer, and what its Resident then keeps.
-use Rattle.std.proofs.Common.{◌≡◌, ◌≢◌, ℕ, Bool, true, false, true≢false, ◌||◌, List, [], ◌∷◌, ◌++◌, append_assoc, append-nil, refl, sym, ap, ap₂, ◌∙◌, subst, Err}
+use Rattle.std.proofs.Common.{◌≡◌, ℕ, Bool, true, false, true≢false, ◌||◌, List, [], ◌∷◌, ◌++◌, append_assoc, append-nil, refl, sym, ap, ap₂, ◌∙◌, subst, Option, Some, None, Err}
 use Rattle.nb_outside.specs.declared.feed.Drawn.{Drawn}
 use Rattle.nb_outside.specs.Feeds.{Seen, Fed}
 use Rattle.nb_outside.proofs.Feeding.{fed_more}
@@ -18,7 +18,7 @@ use Rattle.session_core.specs.Legal.{settled, after, progress_of, MayCome, IsLeg
 use Rattle.session_core.proofs.Progressing.{progress_more, asked_more, legal_more}
 use Rattle.session_core.proofs.Stepping.{alive_has_no_end, cause_is}
 use Rattle.session_queues.specs.declared.items.MainItem.{MainItem}
-use Rattle.session_queues.specs.Ends.{Held, OnOut}
+use Rattle.session_queues.specs.Ends.{Held, Outgoing, AreFirst, IsTakenOf}
 use Rattle.session_gate.specs.Answered.{opening_by, opening_of, as_main, as_control, IsAnswered}
 use Rattle.session_gate.specs.Drawing.{draws_by, draws_of, loses, has_lost, HasDrawn}
 use Rattle.session_gate.specs.Facts.{IsPublished, IsResident}
@@ -114,14 +114,23 @@ drawn_died seen now es host request count (run.TooMany which draws) h alive take
 
 -- ---- what was pushed on out
 
-published_more : (es : List Entry) (e : Entry) (ends : Held) (out : OnOut) → IsPublished es ends out → IsPublished (es ++ e ∷ []) ends out
-published_more es e ends out (queue, (rest, is)) = (queue, (rest ++ e ∷ [], ap (λ l. l ++ e ∷ []) is ∙ append_assoc out.entries rest (e ∷ [])))
+first_more : (pushed : Option (List Entry)) (es : List Entry) (e : Entry) → AreFirst pushed es → AreFirst pushed (es ++ e ∷ [])
+first_more None es e h = tt
+first_more (Some pushed) es e h = (h.0 ++ e ∷ [], ap (λ l. l ++ e ∷ []) h.1 ∙ append_assoc pushed h.0 (e ∷ []))
+
+published_more : (es : List Entry) (e : Entry) (ends : Held) (out : Outgoing) → IsPublished es ends out → IsPublished (es ++ e ∷ []) ends out
+published_more es e ends out h = (h.0, first_more out.pushed es e h.1)
+
+-- what a reader took are the journal's first
+pub taken_first : (pushed : Option (List Entry)) (taken es : List Entry) → AreFirst pushed es → IsTakenOf pushed taken → (rest : List Entry) × (es ≡ taken ++ rest)
+taken_first None taken es h is = absurd is
+taken_first (Some pushed) taken es h is = (is.0 ++ h.0, h.1 ∙ ap (λ l. l ++ h.0) is.1 ∙ append_assoc taken is.0 h.0)
 
 -- ---- a Resident
 
 module _ (meaning : Meaning) (hosts : ℕ) where
   -- a quiet entry, perhaps with another engine that stands for the same on the owner then
-  pub noted_by : (Stands Stood : List Served → Type 0) (host was : ℕ) (seen : Seen) (dead : Bool) (count : ℕ) (es fs : List Entry) (ends : Held) (out : OnOut) (e : Entry)
+  pub noted_by : (Stands Stood : List Served → Type 0) (host was : ℕ) (seen : Seen) (dead : Bool) (count : ℕ) (es fs : List Entry) (ends : Held) (out : Outgoing) (e : Entry)
       → IsResident meaning Stood was seen hosts dead count es ends out → fs ≡ es ++ e ∷ [] → MayCome meaning hosts (progress_of es) e
       → (after (progress_of es) e).served ≡ (progress_of es).served → (after (progress_of es) e).dead ≡ (progress_of es).dead → draws_by e ≡ [] → loses e ≡ false
       → (dead ≡ false → Stands (progress_of es).served × (host ≡ (after (progress_of es) e).owner)) → IsAnswered (es ++ e ∷ []) ends []
@@ -140,14 +149,14 @@ module _ (meaning : Meaning) (hosts : ℕ) where
         published = subst (λ l. IsPublished l ends out) (sym is) (published_more es e ends out h.published);
       }
 
-  pub noted : (Stands : List Served → Type 0) (host : ℕ) (seen : Seen) (dead : Bool) (count : ℕ) (es fs : List Entry) (ends : Held) (out : OnOut) (e : Entry)
+  pub noted : (Stands : List Served → Type 0) (host : ℕ) (seen : Seen) (dead : Bool) (count : ℕ) (es fs : List Entry) (ends : Held) (out : Outgoing) (e : Entry)
       → IsResident meaning Stands host seen hosts dead count es ends out → fs ≡ es ++ e ∷ [] → MayCome meaning hosts (progress_of es) e → IsQuiet (progress_of es) e
       → IsAnswered (es ++ e ∷ []) ends [] → IsResident meaning Stands host seen hosts dead count fs ends out
   noted Stands host seen dead count es fs ends out e h is may quiet answered =
       noted_by Stands Stands host host seen dead count es fs ends out e h is may quiet.0 quiet.1 quiet.3 quiet.4 (λ alive. ((h.kept.alive alive).0, (h.kept.alive alive).1 ∙ sym quiet.2)) answered
 
   -- a request ran
-  pub ran : (Stood Stands : List Served → Type 0) (was host : ℕ) (seen now : Seen) (dead is_dead : Bool) (count counted : ℕ) (es fs : List Entry) (ends : Held) (out : OnOut) (owner : ℕ) (request : Request) (draws : List Drawn) (reply : Reply)
+  pub ran : (Stood Stands : List Served → Type 0) (was host : ℕ) (seen now : Seen) (dead is_dead : Bool) (count counted : ℕ) (es fs : List Entry) (ends : Held) (out : Outgoing) (owner : ℕ) (request : Request) (draws : List Drawn) (reply : Reply)
       → IsResident meaning Stood was seen hosts dead count es ends out → dead ≡ false → fs ≡ es ++ Ran owner request draws reply ∷ [] → IsAnswered es ends (request ∷ [])
       → (progress_of es).phase ≡ settled → owner ≡ (progress_of es).owner → IsWork request.ask
       → ((served : List Served) → Stood served → HasNoEnd served → (reply ≡ meaning.answer served request.ask draws) × meaning.IsRun (more served request.ask draws))
@@ -173,7 +182,7 @@ module _ (meaning : Meaning) (hosts : ℕ) where
       }
 
   -- a session died
-  pub died : (Stood Stands : List Served → Type 0) (was host : ℕ) (seen now : Seen) (dead : Bool) (count counted : ℕ) (es fs : List Entry) (ends : Held) (out : OnOut) (owner : ℕ) (request : Request) (fault : RunFault) (cause : DiedCause)
+  pub died : (Stood Stands : List Served → Type 0) (was host : ℕ) (seen now : Seen) (dead : Bool) (count counted : ℕ) (es fs : List Entry) (ends : Held) (out : Outgoing) (owner : ℕ) (request : Request) (fault : RunFault) (cause : DiedCause)
       → IsResident meaning Stood was seen hosts dead count es ends out → dead ≡ false → fs ≡ es ++ Died owner request counted cause ∷ [] → cause ≡ cause_of fault → IsAnswered es ends (request ∷ [])
       → (progress_of es).phase ≡ settled → owner ≡ (progress_of es).owner → IsWork request.ask
       → ((served : List Served) → Stood served → HasNoEnd served → RunsOn meaning served request.ask (Err fault)) → HasTaken (Err fault) seen now

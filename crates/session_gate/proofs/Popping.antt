@@ -13,7 +13,7 @@ use Rattle.session_queues.specs.declared.items.MainItem.TheVariants.{Opening, As
 use Rattle.ruled_queue.specs.declared.rule.View.{View}
 use Rattle.ruled_queue.proofs.Keeping.{cons_is_not_nil}
 use Rattle.session_queues.specs.declared.shared.SharedQueues.{SharedQueues}
-use Rattle.session_queues.specs.Ends.{Held, OnOut, FoundNothing, TookRequest, admitted_main, admitted_control}
+use Rattle.session_queues.specs.Ends.{Held, Outgoing, FoundNothing, TookRequest, admitted_main, admitted_control}
 use Rattle.session_gate.specs.Answered.{opening_by, opening_of, as_main, as_control, IsAnswered}
 use Rattle.session_gate.specs.Facts.{IsResident}
 
@@ -45,17 +45,17 @@ map_more [] ss = refl
 map_more (r ∷ rs) ss = ap (λ l. Asked r ∷ l) (map_more rs ss)
 
 -- of the control list
-as_main_control : (rs : List Request) (r : Request) → is_control r ≡ true → as_main (rs ++ r ∷ []) ≡ as_main rs
+pub as_main_control : (rs : List Request) (r : Request) → is_control r ≡ true → as_main (rs ++ r ∷ []) ≡ as_main rs
 as_main_control rs r is = ap (λ l. map (λ x. Asked x) l) (filter_one is_main false rs r (ap not is) ∙ append-nil (filter is_main rs))
 
-as_control_control : (rs : List Request) (r : Request) → is_control r ≡ true → as_control (rs ++ r ∷ []) ≡ as_control rs ++ r ∷ []
+pub as_control_control : (rs : List Request) (r : Request) → is_control r ≡ true → as_control (rs ++ r ∷ []) ≡ as_control rs ++ r ∷ []
 as_control_control rs r is = filter_one is_control true rs r is
 
 -- of the main list
-as_main_main : (rs : List Request) (r : Request) → is_control r ≡ false → as_main (rs ++ r ∷ []) ≡ as_main rs ++ Asked r ∷ []
+pub as_main_main : (rs : List Request) (r : Request) → is_control r ≡ false → as_main (rs ++ r ∷ []) ≡ as_main rs ++ Asked r ∷ []
 as_main_main rs r is = ap (λ l. map (λ x. Asked x) l) (filter_one is_main true rs r (ap not is)) ∙ map_more (filter is_main rs) (r ∷ [])
 
-as_control_main : (rs : List Request) (r : Request) → is_control r ≡ false → as_control (rs ++ r ∷ []) ≡ as_control rs
+pub as_control_main : (rs : List Request) (r : Request) → is_control r ≡ false → as_control (rs ++ r ∷ []) ≡ as_control rs
 as_control_main rs r is = filter_one is_control false rs r is ∙ append-nil (filter is_control rs)
 
 -- what was popped last is owed
@@ -82,7 +82,7 @@ popped_queues : (old new : Held) (r : Request) → TookRequest old r new → new
 popped_queues old new r (inl t) = ap (λ (e : Held). e.queues) t.2
 popped_queues old new r (inr t) = ap (λ (e : Held). e.queues) t.3
 
-module _ (meaning : Meaning) (Stands : List Served → Type 0) (host : ℕ) (seen : Seen) (hosts : ℕ) (dead : Bool) (count : ℕ) (es : List Entry) (out : OnOut) where
+module _ (meaning : Meaning) (Stands : List Served → Type 0) (host : ℕ) (seen : Seen) (hosts : ℕ) (dead : Bool) (count : ℕ) (es : List Entry) (out : Outgoing) where
   abbrev Is : Held → Type 0
   Is ends = IsResident meaning Stands host seen hosts dead count es ends out
 

@@ -12,7 +12,7 @@ use Rattle.session_core.specs.Meanings.{Served, Meaning}
 use Rattle.session_core.specs.Legal.{Phase, settled, sealed, arriving, progress_of, IsLegal}
 use Rattle.session_queues.specs.declared.shared.SharedQueues.{SharedQueues}
 use Rattle.session_queues.specs.Passes.{KeepsAll}
-use Rattle.session_queues.specs.Ends.{Held, OnOut}
+use Rattle.session_queues.specs.Ends.{Held, Outgoing, AreFirst}
 use Rattle.session_gate.specs.Answered.{IsAnswered}
 use Rattle.session_gate.specs.Drawing.{HasDrawn}
 
@@ -25,7 +25,7 @@ pub record Holds (E F : Type 0) : Type 0 where
   pub spare : ℕ
   pub ends : Held
   -- what was pushed on out
-  pub out : OnOut
+  pub out : Outgoing
   pub number : ℕ
   pub hosts : ℕ
 
@@ -37,12 +37,12 @@ pub record IsKept (meaning : Meaning) (Stands : List Served → Type 0) (host ho
   pub alive : is_dead ≡ false → Stands (progress_of entries).served × (host ≡ (progress_of entries).owner)
   pub counts : is_dead ≡ true → count ≡ meaning.count (progress_of entries).served
 
--- what was pushed on the session's out queue is the beginning of the journal
-abbrev pub IsPublished : List Entry → Held → OnOut → Type 0
-IsPublished entries ends published = (published.out_queue ≡ ends.queues.out) × ((rest : List Entry) × (entries ≡ published.entries ++ rest))
+-- What was pushed on the session's out queue are the journal's first entries. Once the reader is closed nothing is known of it.
+abbrev pub IsPublished : List Entry → Held → Outgoing → Type 0
+IsPublished entries ends out = (out.out_queue ≡ ends.queues.out) × AreFirst out.pushed entries
 
 -- all that a Resident keeps
-pub record IsResident (meaning : Meaning) (Stands : List Served → Type 0) (host : ℕ) (seen : Seen) (hosts : ℕ) (is_dead : Bool) (count : ℕ) (entries : List Entry) (ends : Held) (out : OnOut) : Type 0 where
+pub record IsResident (meaning : Meaning) (Stands : List Served → Type 0) (host : ℕ) (seen : Seen) (hosts : ℕ) (is_dead : Bool) (count : ℕ) (entries : List Entry) (ends : Held) (out : Outgoing) : Type 0 where
   pub kept : IsKept meaning Stands host hosts is_dead count entries
   pub answered : (owed : List Request) × IsAnswered entries ends owed
   pub drawn : HasDrawn seen entries

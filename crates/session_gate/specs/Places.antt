@@ -1,13 +1,13 @@
 -- Where a session's owner stands, and what the calls of a slot do.
-use Rattle.std.specs.Prelude.{◌≡◌, ◌≢◌, ◌==◌, [], ◌∷◌, MatchOption, ℕ, cond, List, ⊤, Option, Result, None, Ok, Err}
+use Rattle.std.specs.Prelude.{◌≡◌, ◌≢◌, ◌==◌, [], ◌∷◌, MatchOption, ℕ, cond, Bool, false, List, ⊤, Option, Result, None, Ok, Err}
 use Rattle.session_core.specs.declared.request.Header.{Header}
 use Rattle.session_core.specs.declared.request.Channel.{Channel}
 use Rattle.session_core.specs.declared.entry.Entry.TheVariants.{Opened, Moved}
-use Rattle.session_core.specs.Legal.{progress_of, sealed}
+use Rattle.session_core.specs.Legal.{progress_of, sealed, arriving}
 use Rattle.session_queues.specs.declared.items.MainItem.TheVariants.{Opening}
 use Rattle.session_queues.specs.declared.shared.SharedQueues.{SharedQueues}
-use Rattle.session_queues.specs.Passes.{Producer}
-use Rattle.session_queues.specs.Ends.{opened_ends, nothing_on, gathered}
+use Rattle.session_queues.specs.Passes.{Producer, IsPassOf}
+use Rattle.session_queues.specs.Ends.{opened_ends, nothing_pushed, gathered}
 use Rattle.session_gate.specs.Facts.{Holds, Away, IsIn, IsSettled, OwesNone, IsBare, owner_of, HasNoted}
 use Rattle.session_gate.specs.declared.slot.State.{State}
 use Rattle.session_gate.specs.declared.slot.State.TheVariants.{Unopened, In, Out, Sealed}
@@ -28,6 +28,44 @@ module _ {E F : Type 0} where
   Stands hosts queues (In h) = IsAtRest hosts queues h
   Stands hosts queues Out = ⊤
   Stands hosts queues (Sealed p) = IsSealedUp hosts queues p
+
+  -- the session of this number stands there, sealed or not
+  abbrev pub is_of : State E F → ℕ → Bool
+  is_of Unopened number = false
+  is_of (In h) number = h.number == number
+  is_of Out number = false
+  is_of (Sealed p) number = p.held.number == number
+
+  -- of the queues of who stands there this holds
+  abbrev pub HasQueues : (SharedQueues → Type 0) → State E F → Type 0
+  HasQueues P Unopened = ⊤
+  HasQueues P (In h) = P h.ends.queues
+  HasQueues P Out = ⊤
+  HasQueues P (Sealed p) = P p.held.ends.queues
+
+  -- an owner of whom this holds stands there
+  abbrev pub StandsIn : (Holds E F → Type 0) → State E F → Type 0
+  StandsIn P Unopened = ⊥
+  StandsIn P (In h) = P h
+  StandsIn P Out = ⊥
+  StandsIn P (Sealed p) = ⊥
+
+  -- if an owner stands there, the pass is of its session
+  abbrev pub IsPassHere : State E F → Producer → Type 0
+  IsPassHere Unopened pass = ⊤
+  IsPassHere (In h) pass = IsPassOf h.ends.queues pass
+  IsPassHere Out pass = ⊤
+  IsPassHere (Sealed p) pass = ⊤
+
+  -- the parcel came to its host, and owes nothing; the producers' lists are elsewhere
+  abbrev pub IsCollected : ℕ → List SharedQueues → Away E F → Type 0
+  IsCollected hosts queues p = IsIn hosts queues p.held × ((progress_of p.held.entries).phase ≡ arriving p.again p.to) × OwesNone p.held × IsBare p.held
+
+  -- what stands at the end: it is at rest, of the session with these queues and this number, and has the lists of this pass
+  abbrev pub IsFinished : ℕ → SharedQueues → ℕ → Producer → Holds E F → Type 0
+  IsFinished hosts queues number pass h = IsSettled h × OwesNone h × (h.ends.queues ≡ queues) × (h.number ≡ number) × (h.hosts ≡ hosts)
+      × (h.ends.main.lists ≡ pass.main.lists) × (h.ends.main.given ≡ pass.main.given)
+      × (h.ends.control.lists ≡ pass.control.lists) × (h.ends.control.given ≡ pass.control.given)
 
   -- nobody stands there
   abbrev pub IsFree : State E F → Type 0
@@ -72,6 +110,6 @@ pub record IsNew {E F : Type 0} (engine : E) (feed : F) (queues : SharedQueues) 
   pub feed_is : h.feed ≡ feed
   pub entries_are : h.entries ≡ Opened host request channel ∷ []
   pub ends_are : h.ends ≡ opened_ends queues (Opening host request channel)
-  pub out_is : h.out ≡ nothing_on queues
+  pub out_is : h.out ≡ nothing_pushed queues
   pub number_is : h.number ≡ number
   pub hosts_are : h.hosts ≡ hosts

@@ -1,14 +1,18 @@
-ghost use Rattle.std.specs.Prelude.{◌≡◌, ◌+◌, ◌<◌, ◌^◌, [], ◌∷◌, ◌++◌, Some, slice_get, IfOk, MatchOption, MatchResult};
-ghost use Rattle.session_core.specs.Legal.{progress_of, sealed};
-ghost use Rattle.session_queues.specs.Passes.{IsPassOf, admitted_by, parted, next_pass, taking_in};
-ghost use Rattle.session_gate.specs.Facts.{OwesNone, IsBare, owner_of};
-ghost use Rattle.session_gate.specs.Places.{OnTaken};
+ghost use Rattle.std.specs.Prelude.{◌≡◌, ◌+◌, ◌<◌, ◌^◌, [], ◌∷◌, ◌++◌, Some, slice_get, IfOk, IfSome, MatchOption, MatchResult};
+ghost use Rattle.nb_outside.specs.Feeds.{HasAll};
+ghost use Rattle.session_core.specs.Legal.{progress_of, sealed, arriving};
+ghost use Rattle.session_queues.specs.declared.items.MainItem.{MainItem};
+ghost use Rattle.session_queues.specs.Passes.{IsPassOf, HoldsAll, admitted_by, parted, next_pass, taking_in};
+ghost use Rattle.session_queues.specs.Ends.{first_pass, nothing_on, gathered};
+ghost use Rattle.session_gate.specs.Facts.{OwesNone, IsBare, IsWhole, owner_of};
+ghost use Rattle.session_gate.specs.Places.{OnTaken, IsFinished};
 
 use crate::lease::Lease;
 use crate::parcel::Parcel;
+use crate::resident::Resident;
 use crate::slot::{Name, Slot, Take};
 use nb_outside::Feed;
-use session_core::{Engine, Entry, Request};
+use session_core::{Channel, Engine, Entry, Header, Request};
 use session_queues::{Pass, Queues, Reader, SharedQueues};
 use std::alloc::{AllocError, Global};
 use std::marker::Model;
@@ -81,6 +85,47 @@ impl<E: Engine + Drop, F: Feed, N: Name> SessionCell<E, F, N> {
         reader.read(rt, &self.shared)
     }
 
+    /// One hold in which the session is opened: the first pass and the one reader. The queues come back for want of memory alone.
+    pub fn open<R: Wait>(
+        &self,
+        rt: &R,
+        alloc: Global,
+        queues: Queues,
+        hosts: u32,
+        engine: E,
+        feed: F,
+        host: u32,
+        request: Header,
+        channel: Channel,
+    ) -> Result<(Pass, Reader), Queues>
+        requires name { (queues ≡ self.now.0) × (hosts ≡ N.hosts) }
+        requires host { host < hosts }
+        requires engine { E.stands_for engine [] × (E.host_of engine ≡ host) }
+        requires feed { HasAll (F.seen feed) }
+        ensures { MatchResult result
+            (λ made. (made.0 ≡ first_pass queues (MainItem.Opening host request channel)) × (made.1 ≡ nothing_on queues))
+            (λ back. back ≡ queues) }
+    {
+        let mut queues = queues;
+        let mut guard = self.slot.lock(rt);
+        let slot = &mut *guard;
+        if let Some(ends) = slot.clear(self.number) {
+            queues.meets(rt, ends);
+        }
+        slot.open(
+            rt,
+            alloc,
+            queues,
+            self.number,
+            hosts,
+            engine,
+            feed,
+            host,
+            request,
+            channel,
+        )
+    }
+
     /// One hold in which the session is taken for this host. A lease that it gives is this cell's, and its host owns the session.
     pub fn take<R: Wait>(&self, rt: &R, host: u32) -> Take<E, F>
         ensures { OnTaken (λ lease. (owner_of lease ≡ host) × (lease.ends.queues ≡ self.now.0) × (lease.number ≡ self.now.1) × (lease.hosts ≡ N.hosts) × OwesNone lease × IsBare lease) result }
@@ -92,7 +137,7 @@ impl<E: Engine + Drop, F: Feed, N: Name> SessionCell<E, F, N> {
                 if lease.number() == self.number {
                     Take::Taken(lease)
                 } else {
-                    slot.give(lease).discard();
+                    slot.give(lease);
                     Take::Out
                 }
             }
@@ -100,25 +145,125 @@ impl<E: Engine + Drop, F: Feed, N: Name> SessionCell<E, F, N> {
         }
     }
 
-    /// One hold in which a lease is put back. What stands there is let go: in no run does anything.
+    /// One hold in which a lease is put back. No owner of its session stands there.
     pub fn give<R: Wait>(&self, rt: &R, lease: Lease<E, F>)
         requires { (lease.ends.queues ≡ self.now.0) × (lease.number ≡ self.now.1) × (lease.hosts ≡ N.hosts) × OwesNone lease × IsBare lease }
     {
         let _ = &self.number;
+        let mut lease = lease;
         let mut guard = self.slot.lock(rt);
         let slot = &mut *guard;
-        slot.give(lease).discard();
+        lease.make_way(rt, slot);
+        slot.give(lease);
     }
 
-    /// One hold in which a sealed session is put there. What stands there is let go: in no run does anything.
+    /// One hold in which a sealed session is put there. No owner of it stands there.
     pub fn seal<R: Wait>(&self, rt: &R, parcel: Parcel<E, F>)
         requires here { (parcel.held.ends.queues ≡ self.now.0) × (parcel.held.number ≡ self.now.1) × (parcel.held.hosts ≡ N.hosts) }
         requires sealed { (progress_of parcel.held.entries).phase ≡ sealed parcel.again parcel.to }
         requires rest { OwesNone parcel.held × IsBare parcel.held }
     {
         let _ = &self.number;
+        let mut parcel = parcel;
         let mut guard = self.slot.lock(rt);
         let slot = &mut *guard;
-        slot.seal(parcel).discard();
+        parcel.make_way(rt, slot);
+        slot.seal(parcel);
+    }
+
+    /// One hold in which a sealed session is given to this host. A parcel that it gives is this cell's, is for this host, and came
+    /// there.
+    pub fn collect<R: Wait>(&self, rt: &R, host: u32) -> Option<Parcel<E, F>>
+        ensures { IfSome result (λ parcel. (parcel.to ≡ host) × ((progress_of parcel.held.entries).phase ≡ arriving parcel.again parcel.to)
+            × (parcel.held.ends.queues ≡ self.now.0) × (parcel.held.number ≡ self.now.1) × (parcel.held.hosts ≡ N.hosts) × OwesNone parcel.held × IsBare parcel.held) }
+    {
+        let mut guard = self.slot.lock(rt);
+        let slot = &mut *guard;
+        if !slot.is_of(self.number) {
+            return None;
+        }
+        slot.collect(host)
+    }
+
+    /// One hold in which the lease of a session that was collected, and then adopted or resumed, is put back. No owner of it stands
+    /// there.
+    pub fn settle<R: Wait>(&self, rt: &R, lease: Lease<E, F>)
+        requires { (lease.ends.queues ≡ self.now.0) × (lease.number ≡ self.now.1) × (lease.hosts ≡ N.hosts) × OwesNone lease × IsBare lease }
+    {
+        let _ = &self.number;
+        let mut lease = lease;
+        let mut guard = self.slot.lock(rt);
+        let slot = &mut *guard;
+        lease.make_way(rt, slot);
+        slot.settle(lease);
+    }
+
+    /// The owner at the end, with what the pass holds joined into its own: whole if the pass holds all passes. Cell and pass come
+    /// back if no owner stands there, or it is sealed.
+    pub fn finish(self, pass: Pass) -> Result<Resident<E, F>, (SessionCell<E, F, N>, Pass)>
+        requires { IsPassOf self.0 pass }
+        ensures finished { MatchResult result (IsFinished N.hosts self.0 self.1 pass) (λ back. (back.0 ≡ self) × (back.1 ≡ pass)) }
+        ensures whole { HoldsAll pass → IfOk result IsWhole }
+    {
+        let SessionCell {
+            shared,
+            number,
+            slot,
+        } = self;
+        let slot = slot.into_inner();
+        if !slot.is_of(number) {
+            return Err((closed(shared, number, slot), pass));
+        }
+        slot.has_queues(number);
+        match slot.finish(pass) {
+            Ok(resident) => Ok(resident),
+            Err((slot, pass)) => Err((closed(shared, number, slot), pass)),
+        }
+    }
+
+    /// A lease of this cell, with what the pass holds joined into its own: whole if the pass holds all passes.
+    pub fn gather<R: Wait>(self, rt: &R, lease: Lease<E, F>, pass: Pass) -> Lease<E, F>
+        requires lease { (lease.ends.queues ≡ self.0) × (lease.number ≡ self.1) × (lease.hosts ≡ N.hosts) × OwesNone lease × IsBare lease }
+        requires pass { IsPassOf self.0 pass }
+        ensures same { result ≡ record lease { ends = gathered lease.ends pass } }
+        ensures whole { HoldsAll pass → IsWhole result }
+    {
+        let SessionCell {
+            shared: _,
+            number: _,
+            slot,
+        } = self;
+        let mut slot = slot.into_inner();
+        let mut lease = lease;
+        lease.make_way(rt, &mut slot);
+        slot.discard();
+        lease.join(pass);
+        lease
+    }
+
+    /// Lets the cell go, with whoever stands there.
+    pub fn discard(self) {
+        let SessionCell {
+            shared: _,
+            number: _,
+            slot,
+        } = self;
+        slot.into_inner().discard();
+    }
+}
+
+/// A cell again, at the end.
+fn closed<E: Engine, F: Feed, N: Name>(
+    shared: Arc<SharedQueues, Global>,
+    number: u32,
+    slot: Slot<E, F, N>,
+) -> SessionCell<E, F, N>
+    requires { slice_get N.queues number ≡ Some shared.value }
+    ensures { result ≡ (shared.value, number) }
+{
+    SessionCell {
+        shared,
+        number,
+        slot: Mutex::new(slot),
     }
 }

@@ -1,17 +1,22 @@
-ghost use Rattle.std.specs.Prelude.{◌≡◌, ◌≢◌, ◌<◌, ◌≤◌, ◌+◌, [], ◌∷◌, ◌++◌, cond, List, IfOk, MatchOption, MatchResult, Ok};
+ghost use Rattle.std.specs.Prelude.{◌≡◌, ◌≢◌, ◌<◌, ◌≤◌, ◌+◌, [], ◌∷◌, ◌++◌, None, false, cond, length, List, IfOk, MatchOption, MatchResult, Ok};
 ghost use Rattle.session_core.specs.declared.entry.Entry.{Entry};
 ghost use Rattle.session_core.specs.Asks.{IsWork, IsMove, is_control};
 ghost use Rattle.session_core.specs.Engines.{Packs};
 ghost use Rattle.session_core.specs.Legal.{progress_of, IsLegal, IsReason, MayTry, CanGo};
-ghost use Rattle.session_queues.specs.Ends.{FoundNothing, TookRequest, admitted_main, admitted_control};
-ghost use Rattle.session_gate.specs.Facts.{OwesNone, Owes, IsSettled, IsWhole, HasSame, HasNoted, owner_of};
+ghost use Rattle.session_queues.specs.Passes.{IsPassOf};
+ghost use Rattle.session_queues.specs.Ends.{FoundNothing, TookRequest, admitted_main, admitted_control, gathered, all_of, GoesOn};
+ghost use Rattle.session_gate.specs.Facts.{OwesNone, Owes, IsSettled, IsWhole, IsIn, HasSame, HasNoted, owner_of};
 ghost use Rattle.session_gate.specs.Slots.{IsServed};
+ghost use Rattle.session_gate.specs.Places.{is_of, IsFree};
 
 use crate::parcel::Parcel;
 use crate::resident::Resident;
 use crate::served::ServedAs;
+use crate::slot::{Name, Slot};
+use graph_model::Weights;
 use nb_outside::Feed;
-use session_core::{Ask, Engine, Entry, Journal, MoveRefusal, Packed, Request};
+use session_core::{Ask, Engine, Entry, Journal, MoveRefusal, PackFault, Packed, Request};
+use session_queues::{Pass, Reader};
 use std::alloc::{AllocError, Global};
 use std::marker::Model;
 use std::sync::Wait;
@@ -78,6 +83,21 @@ impl<E: Engine, F: Feed> Lease<E, F> {
         &self.resident.engine
     }
 
+    /// Whether the session is dead.
+    pub fn is_dead(&self) -> bool
+        ensures { result ≡ (progress_of self.now.entries).dead }
+    {
+        self.resident.is_dead()
+    }
+
+    /// A pack of the engine under these weights, or why there is none.
+    pub fn pack(&self, alloc: Global, weights: &Weights) -> Result<Packed, PackFault>
+        requires { (progress_of self.now.entries).dead ≡ false }
+        ensures { Packs E.meaning (progress_of self.now.entries).served weights.now result }
+    {
+        self.resident.pack(alloc, weights)
+    }
+
     /// Makes room for so many more entries.
     pub fn reserve(&mut self, more: u32) -> Result<(), AllocError>
         ensures same { (self.new.engine ≡ self.old.engine) × (self.new.feed ≡ self.old.feed) × (self.new.entries ≡ self.old.entries) × HasSame self.old self.new }
@@ -119,6 +139,26 @@ impl<E: Engine, F: Feed> Lease<E, F> {
             (λ r. (r ≡ request) × (self.new ≡ self.old)) }
     {
         self.resident.admit(rt, request)
+    }
+
+    /// Pushes on out, in order, a copy of each entry of the journal that was not pushed yet; nothing once the reader is closed.
+    /// After an error some more of them were pushed.
+    pub fn publish<R: Wait>(&mut self, rt: &R, alloc: Global) -> Result<(), AllocError>
+        ensures same { self.new ≡ record self.old { out = self.new.out } }
+        ensures all { IfOk result (λ _. self.new.out ≡ record self.old.out { pushed = all_of self.old.out.pushed self.old.entries }) }
+        ensures goes_on { GoesOn self.old.out.pushed self.new.out.pushed }
+    {
+        self.resident.publish(rt, alloc)
+    }
+
+    /// Closes the reader: how many entries it took, which are the journal's first. What is still queued for it is dropped.
+    pub fn close_reader<R: Wait>(&mut self, rt: &R, reader: Reader) -> u32
+        requires { reader.out_queue ≡ self.old.ends.queues.out }
+        ensures closed { self.new ≡ record self.old { out = record self.old.out { pushed = None } } }
+        ensures count { result ≡ length reader.entries }
+        ensures first { (rest : List Entry) × (self.old.entries ≡ reader.entries ++ rest) }
+    {
+        self.resident.close_reader(rt, reader)
     }
 
     /// Notes that the owed request to move is refused, and why.
@@ -165,6 +205,7 @@ impl<E: Engine, F: Feed> Lease<E, F> {
         ensures to { IsMove (λ to weights. result.to ≡ to) request.ask }
         ensures from { result.from ≡ owner_of self }
         ensures kept { (result.bytes ≡ packed.bytes) × (result.certified ≡ packed.certified) × (result.again ≡ again) }
+        ensures owes { OwesNone result.held }
     {
         let Lease { resident } = self;
         let mut resident = resident;
@@ -197,13 +238,36 @@ impl<E: Engine, F: Feed> Lease<E, F> {
             feed: _,
             journal,
             ends: _,
-            publisher: _,
+            outlet: _,
             number: _,
             hosts: _,
             dead: _,
             count: _,
         } = resident;
         journal
+    }
+}
+
+impl<E: Engine + Drop, F: Feed> Lease<E, F> {
+    /// Makes sure that nobody stands in a slot, before the lease is put there. An owner of its session never does; one of another
+    /// session, which in no run does, would be let go.
+    pub(crate) fn make_way<N: Name, R: Wait>(&mut self, rt: &R, slot: &mut Slot<E, F, N>)
+        requires { IsIn N.hosts N.queues self.old }
+        ensures free { IsFree slot.new }
+        ensures same { self.new ≡ self.old }
+        ensures before { is_of slot.old self.old.number ≡ false }
+    {
+        if let Some(ends) = slot.clear(self.number()) {
+            self.resident.meets(rt, ends);
+        }
+    }
+
+    /// Takes in what a producer's pass holds.
+    pub(crate) fn join(&mut self, pass: Pass)
+        requires { IsPassOf self.old.ends.queues pass }
+        ensures { self.new ≡ record self.old { ends = gathered self.old.ends pass } }
+    {
+        self.resident.join(pass);
     }
 }
 

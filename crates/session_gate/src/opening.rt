@@ -55,14 +55,14 @@ fn begin<E: Engine, F: Feed>(
     engine: E,
     feed: F,
 ) -> (Resident<E, F>, Pass, Reader)
-    requires new { IsResident E.meaning (E.stands_for engine) (E.host_of engine) (F.seen feed) hosts false 0 journal.entries opened.ends opened.publisher }
-    ensures resident { result.0 ≡ record { engine = engine; feed = feed; entries = journal.entries; spare = journal.spare; ends = opened.ends; out = opened.publisher; number = number; hosts = hosts } }
+    requires new { IsResident E.meaning (E.stands_for engine) (E.host_of engine) (F.seen feed) hosts false 0 journal.entries opened.ends opened.outlet }
+    ensures resident { result.0 ≡ record { engine = engine; feed = feed; entries = journal.entries; spare = journal.spare; ends = opened.ends; out = opened.outlet; number = number; hosts = hosts } }
     ensures pass { result.1 ≡ opened.pass }
     ensures reader { result.2 ≡ opened.reader }
 {
     let Opened {
         ends,
-        publisher,
+        outlet,
         pass,
         reader,
     } = opened;
@@ -71,7 +71,7 @@ fn begin<E: Engine, F: Feed>(
         feed,
         journal,
         ends,
-        publisher,
+        outlet,
         number,
         hosts,
         dead: false,

@@ -1,15 +1,19 @@
-ghost use Rattle.std.specs.Prelude.{◌≡◌, ◌≤◌, ◌+◌, [], ◌∷◌, ◌++◌};
+ghost use Rattle.std.specs.Prelude.{◌≡◌, ◌≤◌, ◌+◌, [], ◌∷◌, ◌++◌, false, IfOk};
 ghost use Rattle.session_core.specs.declared.entry.Entry.{Entry};
 ghost use Rattle.session_core.specs.Legal.{progress_of, sealed, arriving};
-ghost use Rattle.session_gate.specs.Facts.{OwesNone, HasSame, HasNoted};
+ghost use Rattle.session_gate.specs.Facts.{OwesNone, IsIn, HasSame, HasNoted};
+ghost use Rattle.session_gate.specs.Places.{is_of, IsFree};
 
 use crate::lease::Lease;
 use crate::resident::Resident;
+use crate::slot::{Name, Slot};
 use graph_model::Certified;
 use nb_outside::Feed;
 use plain_data::Items;
 use session_core::{Engine, Entry, Request};
+use std::alloc::{AllocError, Global};
 use std::marker::Model;
+use std::sync::Wait;
 
 /// A session that is sealed for another host: its Resident, with the old engine, and the pack.
 pub struct Parcel<E: Engine, F: Feed> {
@@ -73,6 +77,17 @@ impl<E: Engine, F: Feed> Parcel<E, F> {
         }
     }
 
+    /// What the bytes restore on the new host, and how many objects it has: an engine with which the session may go on.
+    pub fn unpack(&self, alloc: Global) -> Result<(E, u32), AllocError>
+        ensures image { IfOk result (λ made. E.is_image made.0 self.now.bytes self.now.to) }
+        ensures host { IfOk result (λ made. E.host_of made.0 ≡ self.now.to) }
+        ensures stands { IfOk result (λ made. E.stands_for made.0 (progress_of self.now.held.entries).served) }
+        ensures objects { IfOk result (λ made. E.meaning.HasObjects (progress_of self.now.held.entries).served made.1) }
+    {
+        self.resident.stands();
+        E::unpack(alloc, self.bytes.as_slice(), self.to)
+    }
+
     /// Goes on with the old engine, on the old host.
     pub fn resume(self) -> Lease<E, F>
         requires { (progress_of self.held.entries).phase ≡ arriving self.again self.to }
@@ -127,5 +142,20 @@ impl<E: Engine, F: Feed> Parcel<E, F> {
         };
         resident.adopt(engine, entry);
         Lease { resident }
+    }
+}
+
+impl<E: Engine + Drop, F: Feed> Parcel<E, F> {
+    /// Makes sure that nobody stands in a slot, before the parcel is put there. An owner of its session never does; one of another
+    /// session, which in no run does, would be let go.
+    pub(crate) fn make_way<N: Name, R: Wait>(&mut self, rt: &R, slot: &mut Slot<E, F, N>)
+        requires { IsIn N.hosts N.queues self.old.held }
+        ensures free { IsFree slot.new }
+        ensures same { self.new ≡ self.old }
+        ensures before { is_of slot.old self.old.held.number ≡ false }
+    {
+        if let Some(ends) = slot.clear(self.resident.number()) {
+            self.resident.meets(rt, ends);
+        }
     }
 }

@@ -2,17 +2,19 @@ ghost use Rattle.std.specs.Prelude.{◌≡◌, ◌≢◌, ◌<◌, ◌≤◌, �
 ghost use Rattle.session_core.specs.declared.entry.Entry.{Entry};
 ghost use Rattle.session_core.specs.declared.entry.DiedCause.{DiedCause};
 ghost use Rattle.session_core.specs.Asks.{IsWork, is_control};
+ghost use Rattle.session_core.specs.Engines.{Packs};
 ghost use Rattle.session_core.specs.Legal.{progress_of, after, MayCome};
 ghost use Rattle.session_core.specs.Stepping.{cause_of};
 ghost use Rattle.session_queues.specs.Passes.{IsPassOf, KeepsAll};
-ghost use Rattle.session_queues.specs.Ends.{FoundNothing, TookRequest, gathered, admitted_main, admitted_control};
+ghost use Rattle.session_queues.specs.Ends.{FoundNothing, TookRequest, gathered, admitted_main, admitted_control, all_of, GoesOn};
 ghost use Rattle.session_gate.specs.Facts.{OwesNone, Owes, IsSettled, IsWhole, HasSame, HasNoted, owner_of};
 ghost use Rattle.session_gate.specs.Slots.{IsQuiet, IsStill, IsServed};
 
 use crate::served::ServedAs;
+use graph_model::Weights;
 use nb_outside::Feed;
-use session_core::{DiedCause, Done, Engine, Entry, Journal, Request, RunFault};
-use session_queues::{Ends, Pass, Publisher};
+use session_core::{DiedCause, Done, Engine, Entry, Journal, PackFault, Packed, Request, RunFault};
+use session_queues::{Ends, Outlet, Pass, Reader};
 use std::alloc::{AllocError, Global};
 use std::marker::Model;
 use std::sync::Wait;
@@ -24,7 +26,7 @@ pub struct Resident<E: Engine, F: Feed> {
     pub(crate) feed: F,
     pub(crate) journal: Journal,
     pub(crate) ends: Ends,
-    pub(crate) publisher: Publisher,
+    pub(crate) outlet: Outlet,
     pub(crate) number: u32,
     pub(crate) hosts: u32,
     pub(crate) dead: bool,
@@ -37,9 +39,9 @@ impl<E: Engine, F: Feed> Model for Resident<E, F> {
 
     ghost Value = { Holds E F };
 
-    ghost view = { λ r. record { engine = r.engine; feed = r.feed; entries = r.journal.entries; spare = r.journal.spare; ends = r.ends; out = r.publisher; number = r.number; hosts = r.hosts } };
+    ghost view = { λ r. record { engine = r.engine; feed = r.feed; entries = r.journal.entries; spare = r.journal.spare; ends = r.ends; out = r.outlet; number = r.number; hosts = r.hosts } };
 
-    ghost invariant = { λ r. IsResident E.meaning (E.stands_for r.engine) (E.host_of r.engine) (F.seen r.feed) r.hosts r.dead r.count r.journal.entries r.ends r.publisher };
+    ghost invariant = { λ r. IsResident E.meaning (E.stands_for r.engine) (E.host_of r.engine) (F.seen r.feed) r.hosts r.dead r.count r.journal.entries r.ends r.outlet };
 }
 
 impl<E: Engine, F: Feed> Resident<E, F> {
@@ -63,6 +65,29 @@ impl<E: Engine, F: Feed> Resident<E, F> {
         ensures { result ≡ self.now.hosts }
     {
         self.hosts
+    }
+
+    /// Whether the session is dead.
+    pub(crate) fn is_dead(&self) -> bool
+        ensures { result ≡ (progress_of self.now.entries).dead }
+    {
+        self.dead
+    }
+
+    /// While the session is alive its engine stands for what was served.
+    pub(crate) fn stands(&self)
+        ensures { (progress_of self.now.entries).dead ≡ false → E.stands_for self.now.engine (progress_of self.now.entries).served }
+    {
+        let _ = &self.dead;
+    }
+
+    /// A pack of the engine under these weights, or why there is none.
+    pub(crate) fn pack(&self, alloc: Global, weights: &Weights) -> Result<Packed, PackFault>
+        requires { (progress_of self.now.entries).dead ≡ false }
+        ensures { Packs E.meaning (progress_of self.now.entries).served weights.now result }
+    {
+        let _ = &self.dead;
+        self.engine.pack(alloc, weights)
     }
 
     /// Makes room for so many more entries.
@@ -163,6 +188,35 @@ impl<E: Engine, F: Feed> Resident<E, F> {
     {
         self.engine = engine;
         self.journal.push(entry);
+    }
+
+    /// Pushes on out, in order, a copy of each entry that was not pushed yet; nothing once the reader is closed. After an error
+    /// some more of them were pushed.
+    pub(crate) fn publish<R: Wait>(&mut self, rt: &R, alloc: Global) -> Result<(), AllocError>
+        ensures same { self.new ≡ record self.old { out = self.new.out } }
+        ensures all { IfOk result (λ _. self.new.out ≡ record self.old.out { pushed = all_of self.old.out.pushed self.old.entries }) }
+        ensures goes_on { GoesOn self.old.out.pushed self.new.out.pushed }
+    {
+        self.outlet
+            .publish_all(rt, alloc, self.ends.shared(), self.journal.entries())
+    }
+
+    /// Closes the reader: how many entries it took, which are the journal's first.
+    pub(crate) fn close_reader<R: Wait>(&mut self, rt: &R, reader: Reader) -> u32
+        requires { reader.out_queue ≡ self.old.ends.queues.out }
+        ensures closed { self.new ≡ record self.old { out = record self.old.out { pushed = None } } }
+        ensures count { result ≡ length reader.entries }
+        ensures first { (rest : List Entry) × (self.old.entries ≡ reader.entries ++ rest) }
+    {
+        self.outlet.close(rt, self.ends.shared(), reader)
+    }
+
+    /// Two owners of one session never meet.
+    pub(crate) fn meets<R: Wait>(&mut self, rt: &R, other: Ends)
+        requires { other.queues ≡ self.old.ends.queues }
+        ensures { ⊥ }
+    {
+        self.ends.meets(rt, other);
     }
 
     /// Takes in what a producer's pass holds.

@@ -1,16 +1,21 @@
-ghost use Rattle.std.specs.Prelude.{◌≡◌, Some, slice_get, IfSome};
-ghost use Rattle.session_queues.specs.Passes.{IsPassOf};
+ghost use Rattle.std.specs.Prelude.{◌≡◌, ◌<◌, ◌==◌, [], true, false, Some, slice_get, IfOk, IfSome, MatchOption, MatchResult};
+ghost use Rattle.nb_outside.specs.Feeds.{HasAll};
+ghost use Rattle.session_queues.specs.declared.items.MainItem.{MainItem};
+ghost use Rattle.session_queues.specs.Ends.{first_pass, nothing_on};
 ghost use Rattle.session_gate.specs.Facts.{OwesNone, IsBare, IsIn, IsSettled, owner_of};
-ghost use Rattle.session_gate.specs.Places.{took, OnTaken, Collects, IsFree, IsAtRest, IsSealedUp};
+ghost use Rattle.session_gate.specs.Places.{took, is_of, HasQueues, OnTaken, Stands, StandsIn, Collects, Finishes, IsFree, IsAtRest, IsSealedUp, IsCollected, IsPassHere, IsNew};
 ghost use Rattle.session_gate.specs.declared.slot.State.TheVariants.{Unopened, In, Out, Sealed};
 
 use crate::lease::Lease;
 use crate::parcel::Parcel;
 use crate::resident::Resident;
 use nb_outside::Feed;
-use session_core::Engine;
+use session_core::{Channel, Engine, Header};
+use session_queues::{Ends, Pass, Queues, Reader};
+use std::alloc::Global;
 use std::marker::{Brand, Model, PhantomData};
 use std::mem;
+use std::sync::Wait;
 
 /// The sessions of one run, which are known before its locks are made: the number of hosts, and the queues of each session.
 pub trait Name {
@@ -74,8 +79,16 @@ impl<E: Engine, F: Feed, N: Name> Slot<E, F, N> {
     pub fn new() -> Slot<E, F, N>
         ensures { result ≡ Unopened }
     {
+        Slot::of(State::Unopened)
+    }
+
+    /// A slot in which this stands.
+    fn of(state: State<E, F>) -> Slot<E, F, N>
+        requires { Stands N.hosts N.queues state }
+        ensures { result ≡ state }
+    {
         Slot {
-            state: State::Unopened,
+            state,
             name: PhantomData,
         }
     }
@@ -108,29 +121,76 @@ impl<E: Engine, F: Feed, N: Name> Slot<E, F, N> {
         }
     }
 
-    /// Puts a lease that owes nothing back, and hands out what stood there. Takes no memory.
-    pub fn give(&mut self, lease: Lease<E, F>) -> State<E, F>
-        requires { IsIn N.hosts N.queues lease × OwesNone lease × IsBare lease }
-        ensures before { result ≡ self.old }
-        ensures stands { self.new ≡ In lease }
+    /// Puts a lease that owes nothing where nobody stands. Takes no memory.
+    pub fn give(&mut self, lease: Lease<E, F>)
+        requires free { IsFree self.old }
+        requires ours { IsIn N.hosts N.queues lease × OwesNone lease × IsBare lease }
+        ensures { self.new ≡ In lease }
     {
         let Lease { resident } = lease;
-        mem::replace(&mut self.state, State::In(resident))
+        put(&mut self.state, State::In(resident));
     }
 
-    /// Puts a sealed session there, and hands out what stood there. Takes no memory.
-    pub fn seal(&mut self, parcel: Parcel<E, F>) -> State<E, F>
-        requires { IsSealedUp N.hosts N.queues parcel }
-        ensures before { result ≡ self.old }
-        ensures stands { self.new ≡ Sealed parcel }
+    /// Puts a sealed session where nobody stands. Takes no memory.
+    pub fn seal(&mut self, parcel: Parcel<E, F>)
+        requires free { IsFree self.old }
+        requires ours { IsSealedUp N.hosts N.queues parcel }
+        ensures { self.new ≡ Sealed parcel }
     {
-        mem::replace(&mut self.state, State::Sealed(parcel))
+        put(&mut self.state, State::Sealed(parcel));
+    }
+
+    /// Puts the lease of a session that was collected, and then adopted or resumed, where nobody stands. Takes no memory.
+    pub fn settle(&mut self, lease: Lease<E, F>)
+        requires free { IsFree self.old }
+        requires ours { IsIn N.hosts N.queues lease × OwesNone lease × IsBare lease }
+        ensures { self.new ≡ In lease }
+    {
+        self.give(lease);
+    }
+
+    /// Whether the owner of the session of this number stands here, sealed or not.
+    pub fn is_of(&self, number: u32) -> bool
+        ensures { result ≡ is_of self.now number }
+    {
+        match &self.state {
+            State::Unopened | State::Out => false,
+            State::In(resident) => resident.number() == number,
+            State::Sealed(parcel) => parcel.resident.number() == number,
+        }
+    }
+
+    /// Who stands here under this number has the queues that the name lists there.
+    pub(crate) fn has_queues(&self, number: u32)
+        ensures { is_of self.now number ≡ true → HasQueues (λ queues. slice_get N.queues number ≡ Some queues) self.now }
+    {
+        let _ = &self.state;
+    }
+
+    /// The owner, with what the pass holds joined into its own; or slot and pass as they were, if no owner stands here or it is
+    /// sealed. Takes no memory.
+    pub fn finish(self, pass: Pass) -> Result<Resident<E, F>, (Slot<E, F, N>, Pass)>
+        requires { IsPassHere self pass }
+        ensures finishes { Finishes self pass result }
+        ensures rest { IfOk result (λ _. StandsIn (IsAtRest N.hosts N.queues) self) }
+    {
+        let Slot { state, name: _ } = self;
+        match state {
+            State::In(resident) => {
+                let mut resident = resident;
+                resident.join(pass);
+                Ok(resident)
+            }
+            State::Unopened => Err((Slot::of(State::Unopened), pass)),
+            State::Out => Err((Slot::of(State::Out), pass)),
+            State::Sealed(parcel) => Err((Slot::of(State::Sealed(parcel)), pass)),
+        }
     }
 
     /// Hands a sealed session to the host that it is for, and notes that it came there. Takes no memory.
     pub fn collect(&mut self, host: u32) -> Option<Parcel<E, F>>
         ensures collects { Collects self.old host result self.new }
-        ensures ours { IfSome result (λ parcel. IsIn N.hosts N.queues parcel.held × OwesNone parcel.held × IsBare parcel.held) }
+        ensures ours { IfSome result (λ parcel. IsCollected N.hosts N.queues parcel) }
     {
         match mem::replace(&mut self.state, State::Out) {
             State::Sealed(parcel) => {
@@ -166,37 +226,110 @@ fn put<E: Engine, F: Feed>(place: &mut State<E, F>, state: State<E, F>)
     }
 }
 
-impl<E: Engine + Drop, F: Feed> State<E, F> {
-    /// Lets what stands there go.
-    pub fn discard(self) {
-        match self {
-            State::Unopened | State::Out => (),
-            State::In(resident) => discard_resident(resident),
-            State::Sealed(parcel) => {
-                let Parcel {
-                    resident,
-                    bytes: _,
-                    certified: _,
-                    again: _,
-                    from: _,
-                    to: _,
-                } = parcel;
-                discard_resident(resident);
+impl<E: Engine + Drop, F: Feed, N: Name> Slot<E, F, N> {
+    /// Opens a session where nobody stands: the first pass and the one reader. The queues come back for want of memory alone.
+    pub fn open<R: Wait>(
+        &mut self,
+        rt: &R,
+        alloc: Global,
+        queues: Queues,
+        number: u32,
+        hosts: u32,
+        engine: E,
+        feed: F,
+        host: u32,
+        request: Header,
+        channel: Channel,
+    ) -> Result<(Pass, Reader), Queues>
+        requires free { IsFree self.old }
+        requires name { (slice_get N.queues number ≡ Some queues) × (hosts ≡ N.hosts) }
+        requires host { host < hosts }
+        requires engine { E.stands_for engine [] × (E.host_of engine ≡ host) }
+        requires feed { HasAll (F.seen feed) }
+        ensures { MatchResult result
+            (λ made. StandsIn (IsNew engine feed queues number hosts host request channel) self.new × (made.0 ≡ first_pass queues (MainItem.Opening host request channel)) × (made.1 ≡ nothing_on queues))
+            (λ back. (back ≡ queues) × (self.new ≡ self.old)) }
+    {
+        match Resident::open(
+            rt, alloc, queues, number, hosts, engine, feed, host, request, channel,
+        ) {
+            Ok((resident, pass, reader)) => {
+                put(&mut self.state, State::In(resident));
+                Ok((pass, reader))
             }
+            Err(queues) => Err(queues),
+        }
+    }
+
+    /// Lets whoever stands here go, and gives the ends of the queues that it had, if it was an owner of the session of this
+    /// number.
+    pub(crate) fn clear(&mut self, number: u32) -> Option<Ends>
+        ensures free { IsFree self.new }
+        ensures ends { MatchOption result (is_of self.old number ≡ false) (λ ends. slice_get N.queues number ≡ Some ends.queues) }
+    {
+        match mem::replace(&mut self.state, State::Out) {
+            State::Unopened | State::Out => None,
+            State::In(resident) => own_ends(resident, number),
+            State::Sealed(parcel) => own_ends(resident_of(parcel), number),
+        }
+    }
+
+    /// Lets the slot go, with whoever stands there.
+    pub fn discard(self) {
+        let mut slot = self;
+        let _ = slot.clear(0);
+        let Slot { state, name: _ } = slot;
+        match state {
+            State::Unopened | State::Out => (),
+            State::In(_other) => unreachable!(),
+            State::Sealed(_other) => unreachable!(),
         }
     }
 }
 
-fn discard_resident<E: Engine + Drop, F: Feed>(resident: Resident<E, F>) {
+/// Lets a Resident go, but for its ends of the queues, if it is of the session of this number.
+fn own_ends<E: Engine + Drop, F: Feed>(resident: Resident<E, F>, number: u32) -> Option<Ends>
+    ensures { MatchOption result ((resident.number == number) ≡ false) (λ ends. (resident.number ≡ number) × (ends ≡ resident.ends)) }
+{
+    let own = resident.number();
+    if_own(ends_of(resident), own, number)
+}
+
+fn if_own(ends: Ends, own: u32, number: u32) -> Option<Ends>
+    ensures { MatchOption result ((own == number) ≡ false) (λ e. (own ≡ number) × (e ≡ ends)) }
+{
+    if own == number { Some(ends) } else { None }
+}
+
+/// The ends of the queues. The rest is let go.
+fn ends_of<E: Engine + Drop, F: Feed>(resident: Resident<E, F>) -> Ends
+    ensures { result ≡ resident.ends }
+{
     let Resident {
         engine: _,
         feed: _,
         journal: _,
-        ends: _,
-        publisher: _,
+        ends,
+        outlet: _,
         number: _,
         hosts: _,
         dead: _,
         count: _,
     } = resident;
+    ends
+}
+
+/// Who was sealed. The pack is let go.
+fn resident_of<E: Engine + Drop, F: Feed>(parcel: Parcel<E, F>) -> Resident<E, F>
+    ensures { result ≡ parcel.held }
+{
+    let Parcel {
+        resident,
+        bytes: _,
+        certified: _,
+        again: _,
+        from: _,
+        to: _,
+    } = parcel;
+    resident
 }

@@ -1,5 +1,5 @@
 -- What steps leave of a pass on main and control.
-use Rattle.std.proofs.Common.{◌≡◌, ℕ, ◌+◌, ◌<◌, ◌≤◌, ◌%◌, true, false, List, [], ◌∷◌, ◌++◌, refl, sym, ap, ◌∙◌, subst, inl, inr, ⊎_elim, ◌⊎◌, Result, MatchResult, arith}
+use Rattle.std.proofs.Common.{◌≡◌, ℕ, ◌+◌, ◌<◌, ◌≤◌, ◌%◌, true, false, List, [], ◌∷◌, ◌++◌, refl, sym, ap, ◌∙◌, subst, inl, inr, ⊎_elim, Result, MatchResult, arith}
 use Rattle.std.proofs.lemmas.Bool.{cases_lt}
 use Rattle.std.specs.Prelude.{Ok, Err, Option, Some, None, MatchOption}
 use Rattle.session_core.specs.declared.request.Request.{Request}
@@ -12,7 +12,7 @@ use Rattle.session_queues.specs.Items.{number_of, is_opening, IsForMain, fronten
 use Rattle.session_queues.specs.Passes.{Counts, KeepsAll}
 use Rattle.session_queues.specs.declared.queues.Opened.{Opened}
 use Rattle.session_queues.specs.declared.shared.SharedQueues.{SharedQueues}
-use Rattle.session_queues.specs.Ends.{Held, opened_ends, first_pass, nothing_on}
+use Rattle.session_queues.specs.Ends.{Held, opened_ends, first_pass, nothing_on, nothing_pushed}
 
 module _ {T : Type 0} where
   -- a producer's view, under this number, which gave so many
@@ -74,4 +74,4 @@ first_produces o v w is also = (
 
 -- what an opening gives
 abbrev pub IsOpened : SharedQueues → MainItem → Result Opened SharedQueues → Type 0
-IsOpened queues o result = MatchResult result (λ (opened : Opened). (opened.ends ≡ opened_ends queues o) × (opened.pass ≡ first_pass queues o) × (opened.publisher ≡ nothing_on queues) × (opened.reader ≡ nothing_on queues)) (λ (back : SharedQueues). back ≡ queues)
+IsOpened queues o result = MatchResult result (λ (opened : Opened). (opened.ends ≡ opened_ends queues o) × (opened.pass ≡ first_pass queues o) × (opened.outlet ≡ nothing_pushed queues) × (opened.reader ≡ nothing_on queues)) (λ (back : SharedQueues). back ≡ queues)

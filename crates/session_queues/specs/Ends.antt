@@ -1,6 +1,6 @@
 -- The ends of the queues that the owner of a session has: the consumer's passes on main and control, and the producer's pass on
 -- out; and the reader's end of out.
-use Rattle.std.specs.Prelude.{◌≡◌, ℕ, ◌⊎◌, true, false, List, [], ◌∷◌}
+use Rattle.std.specs.Prelude.{◌≡◌, ℕ, ◌⊎◌, Bool, true, false, ⊤, List, [], ◌∷◌, ◌++◌, Option, Some, None, length}
 use Rattle.std.specs.declared.alloc.Global.{Global}
 use Rattle.crossbeam_queue.specs.SegTies.{SegId}
 use Rattle.ruled_queue.specs.declared.rule.View.{View}
@@ -20,10 +20,15 @@ pub record Held : Type 0 where
   pub main : View MainItem
   pub control : View Request
 
--- what was pushed on out, or what its reader took
+-- what the reader took from out
 pub record OnOut : Type 0 where
   pub out_queue : SegId Global
   pub entries : List Entry
+
+-- what the owner pushed on out; none once the reader is closed
+pub record Outgoing : Type 0 where
+  pub out_queue : SegId Global
+  pub pushed : Option (List Entry)
 
 -- the first of its lists, which is the only one
 abbrev pub first_list : List (ℕ × List Entry) → List Entry
@@ -39,6 +44,53 @@ publishes pushed = knows false [] ((0, pushed) ∷ []) 1
 
 abbrev pub takes : List Entry → View Entry
 takes entries = knows true entries [] 0
+
+-- once the reader's part was taken back
+abbrev pub drains : List Entry → List Entry → View Entry
+drains popped pushed = knows true popped ((0, pushed) ∷ []) 1
+
+-- what was popped are the first of those that were pushed
+abbrev pub AreFirstPushed : View Entry → Type 0
+AreFirstPushed v = (pushed : List Entry) → v ≡ drains v.popped pushed → (rest : List Entry) × (pushed ≡ v.popped ++ rest)
+
+abbrev pub pushed_while : Bool → View Entry → Option (List Entry)
+pushed_while true v = None
+pushed_while false v = Some (pushed_by v)
+
+-- the owner's side of out, by whether the reader is closed, with its count of what was pushed
+abbrev pub IsOutlet : Bool → View Entry → ℕ → Type 0
+IsOutlet true v count = v.pops ≡ true
+IsOutlet false v count = (v ≡ publishes (pushed_by v)) × (count ≡ length (pushed_by v))
+
+-- an entry more, if the reader isn't closed
+abbrev pub one_more : Option (List Entry) → Entry → Option (List Entry)
+one_more None e = None
+one_more (Some pushed) e = Some (pushed ++ e ∷ [])
+
+-- each of these entries was pushed
+abbrev pub all_of : Option (List Entry) → List Entry → Option (List Entry)
+all_of None entries = None
+all_of (Some pushed) entries = Some entries
+
+-- what was pushed are the first of these entries
+abbrev pub AreFirst : Option (List Entry) → List Entry → Type 0
+AreFirst None entries = ⊤
+AreFirst (Some pushed) entries = (rest : List Entry) × (entries ≡ pushed ++ rest)
+
+-- the reader isn't closed
+abbrev pub IsOpen : Option (List Entry) → Type 0
+IsOpen None = ⊥
+IsOpen (Some pushed) = ⊤
+
+-- these entries were pushed, and perhaps more
+abbrev pub GoesOn : Option (List Entry) → Option (List Entry) → Type 0
+GoesOn None new = new ≡ None
+GoesOn (Some pushed) new = (more : List Entry) × (new ≡ Some (pushed ++ more))
+
+-- what a reader took are the first of those that were pushed, and the reader isn't closed
+abbrev pub IsTakenOf : Option (List Entry) → List Entry → Type 0
+IsTakenOf None taken = ⊥
+IsTakenOf (Some pushed) taken = (rest : List Entry) × (pushed ≡ taken ++ rest)
 
 -- ---- what a pop tells
 
@@ -85,6 +137,10 @@ first_pass queues opening = record {
   control = knows false [] ((0, []) ∷ []) 1;
 }
 
--- nothing was pushed or read yet
+-- nothing was read yet
 abbrev pub nothing_on : SharedQueues → OnOut
 nothing_on queues = record { out_queue = queues.out; entries = [] }
+
+-- nothing was pushed yet
+abbrev pub nothing_pushed : SharedQueues → Outgoing
+nothing_pushed queues = record { out_queue = queues.out; pushed = Some [] }

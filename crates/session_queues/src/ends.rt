@@ -87,20 +87,15 @@ impl Ends {
     }
 
     /// Two owners of one session never meet.
-    pub fn meets<R: Wait>(self, rt: &R, other: Ends)
-        requires { other.queues ≡ self.queues }
+    pub fn meets<R: Wait>(&mut self, rt: &R, other: Ends)
+        requires { other.queues ≡ self.old.queues }
         ensures { ⊥ }
     {
-        let Ends {
-            shared,
-            main,
-            control: _,
-        } = self;
         let Ends {
             shared: _,
             main: other,
             control: _,
         } = other;
-        ruled_queue::one_consumer(rt, &shared.main, main, other);
+        ruled_queue::one_consumer(rt, &self.shared.main, &mut self.main, other);
     }
 }

@@ -3,12 +3,12 @@ ghost use Rattle.crossbeam_queue.specs.SegTies.{IsSegPassOf};
 ghost use Rattle.ruled_queue.specs.Rule.{knows, first_view};
 ghost use Rattle.session_queues.specs.Items.{number_of};
 ghost use Rattle.session_queues.specs.declared.items.MainItem.{MainItem};
-ghost use Rattle.session_queues.specs.Ends.{pushed_first, opened_ends, first_pass, nothing_on};
+ghost use Rattle.session_queues.specs.Ends.{pushed_first, opened_ends, first_pass, nothing_on, nothing_pushed};
 
 use crate::ends::Ends;
 use crate::items::{MainItem, MainNumbers};
+use crate::outlet::Outlet;
 use crate::pass::Pass;
-use crate::publisher::Publisher;
 use crate::reader::Reader;
 use crate::shared::SharedQueues;
 use ruled_queue::{Queue, Seat};
@@ -41,11 +41,11 @@ impl Model for Queues {
         × (IsSegPassOf q.shared.value.out q.out × (q.out.me.view.client ≡ first_view)) };
 }
 
-/// What the opening of a session gives: the owner's ends and its publisher, the first pass and the one reader.
+/// What the opening of a session gives: the owner's ends and its outlet, the first pass and the one reader.
 #[derive(Drop)]
 pub struct Opened {
     pub ends: Ends,
-    pub publisher: Publisher,
+    pub outlet: Outlet,
     pub pass: Pass,
     pub reader: Reader,
 }
@@ -79,6 +79,19 @@ impl Queues {
         Arc::try_clone(&self.shared)
     }
 
+    /// Who holds the queues of a session that isn't open yet never meets an owner of that session.
+    pub fn meets<R: Wait>(&mut self, rt: &R, other: Ends)
+        requires { other.queues ≡ self.old }
+        ensures { ⊥ }
+    {
+        let Ends {
+            shared: _,
+            main: other,
+            control: _,
+        } = other;
+        ruled_queue::one_consumer(rt, &self.shared.main, &mut self.main, other);
+    }
+
     /// Pushes the opening as the first item of the main queue and pops it. The queues come back for want of memory alone.
     pub fn open<R: Wait>(
         self,
@@ -87,7 +100,7 @@ impl Queues {
         request: Header,
         channel: Channel,
     ) -> Result<Opened, Queues>
-        ensures { MatchResult result (λ opened. (opened.ends ≡ opened_ends self (MainItem.Opening host request channel)) × (opened.pass ≡ first_pass self (MainItem.Opening host request channel)) × (opened.publisher ≡ nothing_on self) × (opened.reader ≡ nothing_on self)) (λ queues. queues ≡ self) }
+        ensures { MatchResult result (λ opened. (opened.ends ≡ opened_ends self (MainItem.Opening host request channel)) × (opened.pass ≡ first_pass self (MainItem.Opening host request channel)) × (opened.outlet ≡ nothing_pushed self) × (opened.reader ≡ nothing_on self)) (λ queues. queues ≡ self) }
     {
         let Queues {
             shared,
@@ -125,7 +138,7 @@ fn part<R: Wait>(
     requires out { IsSegPassOf shared.value.out out × (out.me.view.client ≡ first_view) }
     ensures ends { (opening : MainItem) → number_of opening ≡ 0 → main.me.view.client ≡ pushed_first opening → result.ends ≡ opened_ends shared.value opening }
     ensures pass { (opening : MainItem) → number_of opening ≡ 0 → main.me.view.client ≡ pushed_first opening → result.pass ≡ first_pass shared.value opening }
-    ensures publisher { result.publisher ≡ nothing_on shared.value }
+    ensures outlet { result.outlet ≡ nothing_pushed shared.value }
     ensures reader { result.reader ≡ nothing_on shared.value }
 {
     let mut main = main;
@@ -141,8 +154,15 @@ fn part<R: Wait>(
         number: 0,
         given: 1,
     };
-    let reader = Reader { out: out_consumer };
-    let publisher = Publisher { out, count: 0 };
+    let reader = Reader {
+        out: out_consumer,
+        taken: 0,
+    };
+    let outlet = Outlet {
+        out,
+        count: 0,
+        closed: false,
+    };
     let ends = Ends {
         shared,
         main: main_consumer,
@@ -150,7 +170,7 @@ fn part<R: Wait>(
     };
     Opened {
         ends,
-        publisher,
+        outlet,
         pass,
         reader,
     }

@@ -10,17 +10,21 @@ use std::sync::Wait;
 #[derive(Drop)]
 pub struct Reader {
     pub(crate) out: Seat<Entry>,
+    /// How many entries it took, right below 2^32.
+    pub(crate) taken: u32,
 }
 
 impl Model for Reader {
-    ghost use Rattle.std.specs.Prelude.{◌≡◌, None};
+    ghost use Rattle.std.specs.Prelude.{◌≡◌, None, length};
+    ghost use Rattle.session_queues.specs.Passes.{Counts};
     ghost use Rattle.session_queues.specs.Ends.{OnOut, takes};
 
     ghost Value = { OnOut };
 
     ghost view = { λ r. record { out_queue = record { web = r.out.web; heap = r.out.heap }; entries = r.out.me.view.client.popped } };
 
-    ghost invariant = { λ r. (r.out.me.hand ≡ None) × (r.out.me.spare ≡ None) × (r.out.me.view.client ≡ takes r.out.me.view.client.popped) };
+    ghost invariant = { λ r. (r.out.me.hand ≡ None) × (r.out.me.spare ≡ None) × (r.out.me.view.client ≡ takes r.out.me.view.client.popped)
+        × Counts r.taken (length r.out.me.view.client.popped) };
 }
 
 impl Reader {
@@ -29,6 +33,12 @@ impl Reader {
         requires { self.old.out_queue ≡ shared.now.out }
         ensures { MatchOption result (self.new ≡ self.old) (λ entry. self.new ≡ record self.old { entries = self.old.entries ++ entry ∷ [] }) }
     {
-        ruled_queue::pop(rt, &shared.out, &mut self.out)
+        match ruled_queue::pop(rt, &shared.out, &mut self.out) {
+            None => None,
+            Some(entry) => {
+                self.taken = self.taken.wrapping_add(1);
+                Some(entry)
+            }
+        }
     }
 }

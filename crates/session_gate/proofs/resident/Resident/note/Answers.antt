@@ -8,7 +8,7 @@ use Rattle.session_gate.proofs.resident.Resident.note.Goals as goal
 
 pub invariant_of-self : goal.invariant_of-self
 invariant_of-self g c = let e = g.E.Engine in let v = c.self.view_is in let i = c.self.inside in let r = c.requires in
-    noted e.meaning i.hosts (e.stands_for i.engine) (e.host_of i.engine) (g.F.Feed.seen i.feed) i.dead i.count i.journal.entries c.push.new.self.entries i.ends i.publisher c.args.entry c.self.invariant c.push.ensures.entries
+    noted e.meaning i.hosts (e.stands_for i.engine) (e.host_of i.engine) (g.F.Feed.seen i.feed) i.dead i.count i.journal.entries c.push.new.self.entries i.ends i.outlet c.args.entry c.self.invariant c.push.ensures.entries
     (subst (λ (h : Holds g.row.E.Denot g.row.F.Denot). MayCome e.meaning h.hosts (progress_of h.entries) c.args.entry) (sym v) r.may)
     (subst (λ (h : Holds g.row.E.Denot g.row.F.Denot). IsQuiet (progress_of h.entries) c.args.entry) (sym v) r.quiet)
     (subst (λ (h : Holds g.row.E.Denot g.row.F.Denot). IsAnswered (h.entries ++ c.args.entry ∷ []) h.ends []) (sym v) r.owes)

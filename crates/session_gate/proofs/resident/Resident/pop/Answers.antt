@@ -11,7 +11,7 @@ pop-requires g c = let i = c.self.inside in
 
 pub invariant_of-self : goal.invariant_of-self
 invariant_of-self g c = let e = g.E.Engine in let i = c.self.inside in
-    resident_popped e.meaning (e.stands_for i.engine) (e.host_of i.engine) (g.F.Feed.seen i.feed) i.hosts i.dead i.count i.journal.entries i.publisher i.ends _ _ c.self.invariant
+    resident_popped e.meaning (e.stands_for i.engine) (e.host_of i.engine) (g.F.Feed.seen i.feed) i.hosts i.dead i.count i.journal.entries i.outlet i.ends _ _ c.self.invariant
     (subst (λ (h : Holds g.row.E.Denot g.row.F.Denot). IsAnswered h.entries h.ends []) (sym c.self.view_is) c.requires) c.pop.ensures
 
 pub returns-clause-popped : goal.returns-clause-popped

@@ -1,6 +1,6 @@
-use Rattle.std.proofs.Common.{true, false, sym, ap, ◌∙◌, refl, subst, ◌∷◌, ◌++◌, []}
+use Rattle.std.proofs.Common.{sym, ap, ◌∙◌, refl, subst, ◌∷◌, ◌++◌, []}
 use Rattle.session_core.specs.declared.entry.Entry.TheVariants.{Ran, Died, Dead}
-use Rattle.session_core.specs.Legal.{settled, progress_of}
+use Rattle.session_core.specs.Legal.{progress_of}
 use Rattle.session_gate.specs.Answered.{IsAnswered}
 use Rattle.session_gate.specs.Facts.{Holds}
 use Rattle.session_gate.proofs.Noting.{answered_more, ran, died, settled_more}
@@ -38,7 +38,7 @@ returns-then-self-clause-entry g c = let v = c.self.view_is in (
 pub invariant_of-self : goal.invariant_of-self
 invariant_of-self g c = let e = g.E.Engine in let f = g.F.Feed in let i = c.self.inside in let v = c.self.view_is in
     ran e.meaning i.hosts (e.stands_for i.engine) (e.stands_for c.run.new.self) (e.host_of i.engine) (e.host_of c.run.new.self) (f.seen i.feed) (f.seen c.run.new.feed) i.dead c.is_end-is_end.result i.count c.count-after.result
-    i.journal.entries c.push.new.self.entries i.ends i.publisher c.owner-host.result c.args.request c.in-Ok.done.draws c.in-Ok.done.reply c.self.invariant c.if-self.false c.push.ensures.entries
+    i.journal.entries c.push.new.self.entries i.ends i.outlet c.owner-host.result c.args.request c.in-Ok.done.draws c.in-Ok.done.reply c.self.invariant c.if-self.false c.push.ensures.entries
     (subst (λ (h : Holds g.row.E.Denot g.row.F.Denot). IsAnswered h.entries h.ends (c.args.request ∷ [])) (sym v) c.requires.owes)
     (ap (λ (h : Holds g.row.E.Denot g.row.F.Denot). (progress_of h.entries).phase) v ∙ c.requires.settled)
     (c.owner-host.ensures ∙ ap (λ (h : Holds g.row.E.Denot g.row.F.Denot). (progress_of h.entries).owner) (sym v))
@@ -66,7 +66,7 @@ returns-in-Ok-clause-entry g c = let v = c.self.view_is in (
 pub invariant_of-self-in-Err : goal.invariant_of-self-in-Err
 invariant_of-self-in-Err g c = let e = g.E.Engine in let f = g.F.Feed in let i = c.self.inside in let v = c.self.view_is in
     died e.meaning i.hosts (e.stands_for i.engine) (e.stands_for c.run.new.self) (e.host_of i.engine) (e.host_of c.run.new.self) (f.seen i.feed) (f.seen c.run.new.feed) i.dead i.count c.count-count.result
-    i.journal.entries c.push-in-Err.new.self.entries i.ends i.publisher c.owner-host.result c.args.request c.in-Err.fault c.died_by-cause.result c.self.invariant c.if-self.false c.push-in-Err.ensures.entries c.died_by-cause.ensures
+    i.journal.entries c.push-in-Err.new.self.entries i.ends i.outlet c.owner-host.result c.args.request c.in-Err.fault c.died_by-cause.result c.self.invariant c.if-self.false c.push-in-Err.ensures.entries c.died_by-cause.ensures
     (subst (λ (h : Holds g.row.E.Denot g.row.F.Denot). IsAnswered h.entries h.ends (c.args.request ∷ [])) (sym v) c.requires.owes)
     (ap (λ (h : Holds g.row.E.Denot g.row.F.Denot). (progress_of h.entries).phase) v ∙ c.requires.settled)
     (c.owner-host.ensures ∙ ap (λ (h : Holds g.row.E.Denot g.row.F.Denot). (progress_of h.entries).owner) (sym v))

@@ -1,0 +1,6 @@
+//! The words of the command line: which command they say, if they say one.
+#![tactic(auto)]
+
+mod words;
+
+pub use words::{Command, command_of};

@@ -1,0 +1,5 @@
+pub mod Places
+pub mod Copied
+pub mod Counting
+pub mod Keeping
+pub mod Written

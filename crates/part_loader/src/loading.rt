@@ -1,0 +1,85 @@
+ghost use Rattle.std.specs.Prelude.{◌≡◌, ◌++◌, map, length, OnOk};
+ghost use Rattle.part_bytes.specs.Parts.{numbered_object};
+ghost use Rattle.replay_laws.specs.Copies.{higher_object, put_name, with_objects};
+ghost use Rattle.part_loader.specs.Loading as spec;
+
+use crate::moving::{Above, moved_object, moved_value};
+use part_bytes::PartValue;
+use plain_data::Text;
+use py_heap::{Object, State};
+use py_value::Value;
+use std::alloc::{AllocError, Global};
+
+// After an error the state stands for nothing, and is only dropped.
+
+/// Puts objects after those that there are, with addresses that are so much higher.
+fn add_objects(
+    alloc: Global,
+    state: &mut State,
+    above: &Above,
+    objects: &[Object],
+) -> Result<(), AllocError>
+    ensures { OnOk result (state.new ≡ with_objects (map (higher_object above.now.base) objects.now) state.old) }
+{
+    for object in objects {
+        state.add(moved_object(alloc, above, object)?)?;
+    }
+    Ok(())
+}
+
+/// Gives a name a value, with addresses that are so much higher, or takes away the one that it has.
+fn put(
+    alloc: Global,
+    state: &mut State,
+    above: &Above,
+    name: &Text,
+    held: &Option<Value>,
+) -> Result<(), AllocError>
+    ensures { OnOk result (state.new ≡ put_name above.now.base state.old name.now held.now) }
+{
+    match held {
+        Some(value) => state.bind(name.copy(alloc)?, moved_value(above, value)?),
+        None => {
+            state.unbind(name);
+            Ok(())
+        }
+    }
+}
+
+/// Gives each name what it has in the part.
+fn put_all(
+    alloc: Global,
+    state: &mut State,
+    above: &Above,
+    names: &[Text],
+    held: &[Option<Value>],
+) -> Result<(), AllocError>
+    ensures { OnOk result (state.new ≡ spec.put_held above.now.base names.now held.now state.old) }
+{
+    let mut rest = names;
+    let mut values = held;
+    while let [name, names @ ..] = rest {
+        let [value, others @ ..] = values else {
+            break;
+        };
+        put(alloc, state, above, name, value)?;
+        rest = names;
+        values = others;
+    }
+    Ok(())
+}
+
+/// Loads a part: puts its objects after those that there are, and gives its names what they have in it.
+pub fn load(alloc: Global, state: &mut State, part: &PartValue) -> Result<(), AllocError>
+    ensures { OnOk result (state.new ≡ spec.loaded part.now state.old) }
+{
+    let above = Above { base: state.len() };
+    add_objects(alloc, state, &above, part.objects.as_slice())?;
+    put_all(
+        alloc,
+        state,
+        &above,
+        part.names.as_slice(),
+        part.values.as_slice(),
+    )
+}

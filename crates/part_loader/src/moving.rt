@@ -1,0 +1,104 @@
+//! Values and objects whose references are to other addresses.
+
+ghost use Rattle.std.specs.Prelude.{ℕ, ◌≡◌, ◌+◌, map, IfOk};
+ghost use Rattle.part_bytes.specs.Parts.{number_in, numbered, numbered_pair, numbered_object};
+
+use part_bytes::Numbers;
+use plain_data::Items;
+use py_heap::{Dict, Object};
+use py_value::Value;
+use std::alloc::{AllocError, Global};
+
+/// The new address of each object.
+pub(crate) trait Places {
+    ghost goes_to: { Self → ℕ → ℕ };
+
+    /// The new address of the object at that one. An address of 2^32 or more is want of memory.
+    fn place(&self, at: u32) -> Result<u32, AllocError>
+        ensures { IfOk result (λ new. new ≡ goes_to self.now at) };
+}
+
+/// After so many other objects.
+#[derive(Debug, Drop)]
+pub(crate) struct Above {
+    pub(crate) base: usize,
+}
+
+impl Places for Above {
+    ghost use Rattle.std.specs.Prelude.{◌+◌};
+
+    ghost goes_to = { λ above at. above.base + at };
+
+    fn place(&self, at: u32) -> Result<u32, AllocError> {
+        if self.base > (u32::MAX - at) as usize {
+            return Err(AllocError);
+        }
+        Ok(self.base as u32 + at)
+    }
+}
+
+impl Places for Numbers {
+    ghost use Rattle.part_bytes.specs.Parts.{number_in};
+
+    ghost goes_to = { λ numbers. number_in numbers.order };
+
+    fn place(&self, at: u32) -> Result<u32, AllocError> {
+        Ok(self.number(at))
+    }
+}
+
+pub(crate) fn moved_value<P: Places>(places: &P, value: &Value) -> Result<Value, AllocError>
+    ensures { IfOk result (λ moved. moved ≡ numbered (P.goes_to places.now) value.now) }
+{
+    match value {
+        Value::Ref(at) => Ok(Value::Ref(places.place(*at)?)),
+        Value::Nothing => Ok(Value::Nothing),
+        Value::Bool(truth) => Ok(Value::Bool(*truth)),
+        Value::Number(number) => Ok(Value::Number(*number)),
+        Value::Text(text) => Ok(Value::Text(text.share()?)),
+        Value::Builtin(builtin) => Ok(Value::Builtin(*builtin)),
+    }
+}
+
+fn moved_items<P: Places>(
+    alloc: Global,
+    places: &P,
+    items: &[Value],
+) -> Result<Items<Value>, AllocError>
+    ensures { IfOk result (λ moved. moved ≡ map (numbered (P.goes_to places.now)) items.now) }
+{
+    let mut moved = Items::new(alloc);
+    for value in items {
+        moved.push(moved_value(places, value)?)?;
+    }
+    Ok(moved)
+}
+
+fn moved_pairs<P: Places>(alloc: Global, places: &P, dict: &Dict) -> Result<Dict, AllocError>
+    ensures { IfOk result (λ moved. moved ≡ map (numbered_pair (P.goes_to places.now)) dict.now) }
+{
+    let mut moved = Dict::new(alloc);
+    for index in 0..dict.len() {
+        let (key, value) = dict.pair_at(index);
+        moved.put(key.copy()?, moved_value(places, value)?)?;
+    }
+    Ok(moved)
+}
+
+pub(crate) fn moved_object<P: Places>(
+    alloc: Global,
+    places: &P,
+    object: &Object,
+) -> Result<Object, AllocError>
+    ensures { IfOk result (λ moved. moved ≡ numbered_object (P.goes_to places.now) object.now) }
+{
+    match object {
+        Object::List(items) => Ok(Object::List(moved_items(alloc, places, items.as_slice())?)),
+        Object::Dict(dict) => Ok(Object::Dict(moved_pairs(alloc, places, dict)?)),
+        Object::Function(function) => Ok(Object::Function(function.share()?)),
+        Object::Handle { name, uses } => Ok(Object::Handle {
+            name: name.share()?,
+            uses: *uses,
+        }),
+    }
+}

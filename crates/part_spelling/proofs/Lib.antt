@@ -1,0 +1,12 @@
+pub mod Offs
+pub mod Values
+pub mod Objects
+pub mod Whole
+pub mod Numbers
+pub mod Found
+pub mod FoundValues
+pub mod FoundObjects
+pub mod FoundWhole
+pub mod InOrder
+pub mod Closed
+pub mod Knot

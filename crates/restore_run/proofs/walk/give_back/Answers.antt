@@ -1,0 +1,71 @@
+use Rattle.std.proofs.Common.{◌-◌, Ok, sym, ap, subst, inl, inr, arith}
+use Rattle.py_heap.specs.declared.state.State.{State}
+use Rattle.replay_laws.specs.Walks.{GivesAllBack}
+use Rattle.restore_run.specs.Restoring.{copies}
+use Rattle.restore_run.proofs.Walking.{before_of, gave_begin, gave_more, gave_all, before_begin, between_more, ends_between, none_after}
+use Rattle.restore_run.proofs.walk.give_back.Goals as goal
+
+pub loop-next-init : goal.loop-next-init
+loop-next-init c =
+    let read = c.args.read.now in
+    let sound = c.requires.sound in
+    let b = c.args.number - 1 in
+    let e = before_of c.args.number c.requires.above in
+    let start = c.requires.between b e in
+    record {
+      gave = gave_begin read sound b c.args.number c.args.from c.args.state.now e start;
+      before = before_begin read sound b c.args.number c.args.from e start;
+      on = omega arith;
+      within = start.within;
+      closed = c.requires.closed;
+    }
+
+pub loop-next-preserved : goal.loop-next-preserved
+loop-next-preserved c =
+    let read = c.args.read.now in
+    let sound = c.requires.sound in
+    let number = c.args.number in
+    let next = c.loop-next.next in
+    let gave = c.loop-next.invariant in
+    let w = c.in_ok-given.ensures.yes (ap (λ b. Ok b) c.if-not-given.false) in
+    let low = gave.on in
+    let size = c.len.ensures in
+    let more = c.loop-next-test.true in
+    record {
+      gave = gave_more read sound number next w.0 w.1 c.args.state.now c.loop-next.state c.give_next.new.state w.2 w.3.0 w.3.1 gave.gave;
+      before = between_more read sound (number - 1) number next w.0 w.1 (before_of number c.requires.above) w.2 w.3.0 gave.before;
+      on = omega (arith, low);
+      within = omega (arith, size, more);
+      closed = c.in_ok-given.ensures.closed;
+    }
+
+pub returns-then-not-given-clause-between : goal.returns-then-not-given-clause-between
+returns-then-not-given-clause-between c =
+    let e = before_of c.args.number c.requires.above in
+    let b = c.args.number - 1 in
+    let gave = c.loop-next.invariant in
+    ends_between c.args.read.now c.requires.sound b c.args.number c.args.from e (c.requires.between b e) c.loop-next.next gave.on gave.within gave.before
+    (inl (c.in_ok-given.ensures.no (ap (λ d. Ok d) c.if-not-given.true)).1)
+
+pub returns-then-not-given-clause-gives : goal.returns-then-not-given-clause-gives
+returns-then-not-given-clause-gives c =
+    let read = c.args.read.now in
+    let sound = c.requires.sound in
+    let number = c.args.number in
+    let next = c.loop-next.next in
+    let e = before_of number c.requires.above in
+    let b = number - 1 in
+    let gave = c.loop-next.invariant in
+    let no = c.in_ok-given.ensures.no (ap (λ d. Ok d) c.if-not-given.true) in
+    let between = ends_between read sound b number c.args.from e (c.requires.between b e) next gave.on gave.within gave.before (inl no.1) in
+    subst (λ (s : State). GivesAllBack (copies read) read.graph number read.plan.copied c.args.state.now s) (sym no.0)
+    (gave_all read sound number next c.args.state.now c.loop-next.state gave.gave (none_after read sound number next between))
+
+pub returns-clause-between : goal.returns-clause-between
+returns-clause-between c =
+    let e = before_of c.args.number c.requires.above in
+    let b = c.args.number - 1 in
+    let gave = c.loop-next.invariant in
+    let size = c.len.ensures in
+    let done = c.loop-next-test.false in
+    ends_between c.args.read.now c.requires.sound b c.args.number c.args.from e (c.requires.between b e) c.loop-next.next gave.on gave.within gave.before (inr (omega (arith, size, done)))

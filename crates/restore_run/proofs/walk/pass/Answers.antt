@@ -1,0 +1,7 @@
+use Rattle.std.proofs.Common.{◌∙◌, ap, Ok}
+use Rattle.restore_run.proofs.Passing.{again_closed}
+use Rattle.restore_run.proofs.walk.pass.Goals as goal
+
+pub returns-in-Ended-clause-closed : goal.returns-in-Ended-clause-closed
+returns-in-Ended-clause-closed c = again_closed c.args.cell.now c.args.kernel.now.state c.run_again.new.kernel.state c.requires.closed
+    (c.run_again.ensures.ended (c.in_ok-run_again.was ∙ ap (λ r. Ok r) c.in-Ended.is)).1

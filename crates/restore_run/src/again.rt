@@ -1,0 +1,54 @@
+ghost use Rattle.std.specs.Prelude.{◌≡◌, ◌≤◌, [], Ok};
+ghost use Rattle.py_meaning.specs.Cells.{outcome, Asks};
+ghost use Rattle.read_runs.specs.Reading as reading;
+ghost use Rattle.replay_laws.specs.Walks.{done_again};
+
+use graph_model::CellRecord;
+use nb_outside::NoFeed;
+use py_kernel::Kernel;
+use py_reader::{ReadError, read_cell};
+use py_tree::Stmt;
+use std::alloc::{AllocError, Global};
+
+/// How a cell ended that was run again.
+#[derive(Clone, Copy, Debug, PartialEq, Eq)]
+pub(crate) enum Ran {
+    /// Without a draw: its state stays.
+    Ended,
+    /// It called `draw()`.
+    Drew,
+}
+
+/// Runs statements without draws. What they print is dropped.
+fn run_body(alloc: Global, kernel: &mut Kernel, body: &[Stmt]) -> Result<Ran, AllocError>
+    ensures ended { result ≡ Ok Ran.Ended → (¬ Asks (outcome body.now kernel.old.state [])) × (kernel.new.state ≡ (outcome body.now kernel.old.state []).1.state) }
+    ensures drew { result ≡ Ok Ran.Drew → Asks (outcome body.now kernel.old.state []) }
+    ensures host { kernel.new.host ≡ kernel.old.host }
+{
+    let mut feed = NoFeed::new();
+    let end = kernel.run_cell(alloc, body, &mut feed)?;
+    if end.draws.is_empty() {
+        Ok(Ran::Ended)
+    } else {
+        Ok(Ran::Drew)
+    }
+}
+
+/// Runs the recorded code of a cell again, from the recorded meter and without draws. A code without a tree runs nothing.
+pub(crate) fn run_again(
+    alloc: Global,
+    kernel: &mut Kernel,
+    cell: &CellRecord,
+) -> Result<Ran, AllocError>
+    requires { cell.now.meter ≤ 16777216 }
+    ensures ended { result ≡ Ok Ran.Ended → (¬ Asks (done_again reading.read cell.now kernel.old.state)) × (kernel.new.state ≡ (done_again reading.read cell.now kernel.old.state).1.state) }
+    ensures drew { result ≡ Ok Ran.Drew → Asks (done_again reading.read cell.now kernel.old.state) }
+    ensures host { kernel.new.host ≡ kernel.old.host }
+{
+    kernel.state.set_meter(cell.meter);
+    match read_cell(alloc, cell.code.as_str()) {
+        Ok(tree) => run_body(alloc, kernel, tree.body.as_slice()),
+        Err(ReadError::Fault(_)) => run_body(alloc, kernel, &[]),
+        Err(ReadError::OutOfMemory) => Err(AllocError),
+    }
+}

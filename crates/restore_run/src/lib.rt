@@ -1,0 +1,15 @@
+//! A checkpoint restored: the walk over its cells and copies, and its end, or the first reason why its bytes are none that a session
+//! was written as.
+//!
+//! docs/REPLAY.md tells the walk, docs/CHECKPOINTS.md the bytes. (Li et al., ElasticNotebook, PVLDB 17(2).)
+#![tactic(auto)]
+
+mod again;
+mod fault;
+mod restored;
+mod run;
+mod walk;
+
+pub use fault::RestoreFault;
+pub use restored::Restored;
+pub use run::restore;

@@ -1,0 +1,77 @@
+ghost use Rattle.std.specs.Prelude.{◌≡◌, ◌≢◌, ◌≤◌, ◌<◌, IfOk, IfErr, length};
+ghost use Rattle.py_heap.specs.References.{IsClosed};
+ghost use Rattle.replay_laws.specs.Tidied.{IsTidied};
+ghost use Rattle.restore_run.specs.Restoring.{IsRestoredOn, IsRestoreFault, IsFinished, IsEndFault};
+
+use crate::fault::RestoreFault;
+use crate::restored::Restored;
+use crate::walk::walk;
+use checkpoint_reader::{Checkpoint, CheckpointFault, read_checkpoint};
+use graph_model::Graph;
+use history_graph::History;
+use linked_parts::parts_of;
+use part_loader::tidied;
+use py_heap::State;
+use py_kernel::Kernel;
+use state_judge::{Disagreement, judge};
+use std::alloc::{AllocError, Global};
+
+/// The state where a walk ended, with the session's count and meter, and with the objects that names reach alone.
+fn finished(alloc: Global, mut last: State, count: u32, meter: u32) -> Result<State, AllocError>
+    requires closed { IsClosed last }
+    requires meter { meter ≤ 16777216 }
+    ensures tidied { IfOk result (IsTidied (record last { count = count; meter = meter })) }
+    ensures closed { IfOk result IsClosed }
+{
+    last.set_count(count);
+    last.set_meter(meter);
+    tidied(alloc, &last)
+}
+
+/// The session with this state and this graph, if they agree.
+fn restored(alloc: Global, state: State, host: u32, graph: Graph) -> Result<Restored, RestoreFault>
+    requires closed { IsClosed state }
+    requires few { length graph.versions < 4294967296 }
+    ensures ok { IfOk result (IsFinished state host graph) }
+    ensures fault { IfErr result (IsEndFault graph state) }
+{
+    let parts = parts_of(alloc, &state)?;
+    match judge(alloc, &graph, &state, &parts) {
+        Ok(()) => {}
+        Err(Disagreement::OutOfMemory) => return Err(RestoreFault::OutOfMemory),
+        Err(Disagreement::Unlike(v)) => return Err(RestoreFault::Unlike(v)),
+        Err(Disagreement::Loose(name)) => return Err(RestoreFault::Loose(name)),
+    }
+    let objects = state.len();
+    Ok(Restored {
+        kernel: Kernel { state, host },
+        history: History { graph, parts },
+        objects,
+    })
+}
+
+/// Restores a session from the bytes of a checkpoint, on a host: the cells that its plan runs again are run, and what it copies is
+/// loaded. The answer is a state that has all that the checkpoint's graph says, or the first fault.
+///
+/// Nothing of what cells print is kept. Memory beside the state: the checkpoint's parts until the walk ends, and the state once more
+/// while its objects are numbered.
+pub fn restore(alloc: Global, bytes: &[u8], host: u32) -> Result<Restored, RestoreFault>
+    ensures restored { IfOk result (IsRestoredOn bytes.now host) }
+    ensures fault { IfErr result (λ f. f ≢ RestoreFault.OutOfMemory → IsRestoreFault bytes.now f) }
+{
+    let read = match read_checkpoint(alloc, bytes) {
+        Ok(read) => read,
+        Err(CheckpointFault::OutOfMemory) => return Err(RestoreFault::OutOfMemory),
+        Err(fault) => return Err(RestoreFault::Checkpoint(fault)),
+    };
+    let kernel = walk(alloc, &read, host)?;
+    let Checkpoint {
+        count,
+        meter,
+        graph,
+        ..
+    } = read;
+    let Kernel { state, .. } = kernel;
+    let state = finished(alloc, state, count, meter)?;
+    restored(alloc, state, host, graph)
+}

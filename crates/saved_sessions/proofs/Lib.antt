@@ -1,0 +1,3 @@
+pub mod Like
+pub mod Copies
+pub mod Restored

@@ -1,0 +1,87 @@
+-- What the passes of two producers leave with the owner.
+use Rattle.std.proofs.Common.{◌≡◌, ◌≢◌, ◌+◌, ℕ, false, List, [], ◌∷◌, ◌++◌, Option, Some, None, refl, sym, ap, ◌∙◌, subst}
+use Rattle.std.specs.Prelude.{IfSome}
+use Rattle.ruled_queue.specs.Rule.{knows}
+use Rattle.session_core.specs.declared.request.Header.{Header}
+use Rattle.session_core.specs.declared.request.Channel.{Channel}
+use Rattle.session_core.specs.declared.request.Request.{Request}
+use Rattle.session_core.specs.declared.entry.Entry.{Entry}
+use Rattle.session_queues.specs.declared.items.MainItem.TheVariants.{Opening}
+use Rattle.session_queues.specs.declared.shared.SharedQueues.{SharedQueues}
+use Rattle.session_queues.specs.Passes.{Producer, IsPassOf, parted, next_pass, taking_in}
+use Rattle.session_queues.specs.Ends.{Held, first_pass}
+use Rattle.session_gate.specs.Answered.{as_main, as_control}
+use Rattle.session_threads.specs.Parts.{HasAdmitted, IsPart, IsServed}
+use Rattle.session_threads.proofs.Parting.{HasThree, opening_alone, first_part, second_part, no_other_part}
+
+-- what follows of an answer that is Some
+pub if_some_more : {A : Type 0} → (P Q : A → Type 0) (r : Option A) → IfSome r P → ((a : A) → P a → Q a) → IfSome r Q
+if_some_more P Q (Some a) h f = f a h
+if_some_more P Q None h f = tt
+
+module _ (q : SharedQueues) (host : ℕ) (request : Header) (channel : Channel) where
+  abbrev start : Producer
+  start = first_pass q (Opening host request channel)
+
+  -- the two passes that were split off, and the first one then
+  pub record Splits (p0 p1 p2 one two : Producer) : Type 0 where
+    pub begins : p0 ≡ start
+    pub once : p1 ≡ parted p0
+    pub first : one ≡ next_pass p0
+    pub twice : p2 ≡ parted p1
+    pub second : two ≡ next_pass p1
+
+  first_is : (p0 p1 p2 one two : Producer) → Splits p0 p1 p2 one two → one ≡ next_pass start
+  first_is p0 p1 p2 one two h = h.first ∙ ap next_pass h.begins
+
+  second_is : (p0 p1 p2 one two : Producer) → Splits p0 p1 p2 one two → two ≡ next_pass (parted start)
+  second_is p0 p1 p2 one two h = h.second ∙ ap next_pass (h.once ∙ ap parted h.begins)
+
+  pub left_is : (p0 p1 p2 one two : Producer) → Splits p0 p1 p2 one two → p2 ≡ parted (parted start)
+  left_is p0 p1 p2 one two h = h.twice ∙ ap parted (h.once ∙ ap parted h.begins)
+
+  pub first_fresh : (p0 p1 p2 one two : Producer) → Splits p0 p1 p2 one two → HasAdmitted q one.number [] one × (one.number ≡ 1)
+  first_fresh p0 p1 p2 one two h = subst (λ p. HasAdmitted q p.number [] p × (p.number ≡ 1)) (sym (first_is p0 p1 p2 one two h)) ((refl, refl, refl, refl, refl), refl)
+
+  pub second_fresh : (p0 p1 p2 one two : Producer) → Splits p0 p1 p2 one two → HasAdmitted q two.number [] two × (two.number ≡ 2)
+  second_fresh p0 p1 p2 one two h = subst (λ p. HasAdmitted q p.number [] p × (p.number ≡ 2)) (sym (second_is p0 p1 p2 one two h)) ((refl, refl, refl, refl, refl), refl)
+
+  pub left_is_here : (p0 p1 p2 one two : Producer) → Splits p0 p1 p2 one two → IsPassOf q p2
+  left_is_here p0 p1 p2 one two h = subst (IsPassOf q) (sym (left_is p0 p1 p2 one two h)) (refl, refl)
+
+  -- both passes are joined, and an owner has their lists
+  pub both_joined : (p0 p1 p2 one0 two0 one two p3 p4 : Producer) (first second : List Request) (ends : Held) → Splits p0 p1 p2 one0 two0
+      → HasAdmitted q one0.number first one → HasAdmitted q two0.number second two → p3 ≡ taking_in p2 one → p4 ≡ taking_in p3 two
+      → ends.main.lists ≡ p4.main.lists → ends.main.given ≡ p4.main.given → ends.control.lists ≡ p4.control.lists → ends.control.given ≡ p4.control.given
+      → HasThree (Opening host request channel) first second ends
+  both_joined p0 p1 p2 one0 two0 one two p3 p4 first second ends h a b e3 e4 main given control also =
+      let n1 = (first_fresh p0 p1 p2 one0 two0 h).1 in
+      let n2 = (second_fresh p0 p1 p2 one0 two0 h).1 in
+      let all : p4 ≡ taking_in (taking_in (parted (parted start)) one) two = e4 ∙ ap (λ p. taking_in p two) (e3 ∙ ap (λ p. taking_in p one) (left_is p0 p1 p2 one0 two0 h)) in
+      let one_main = a.3 ∙ ap (λ n. knows false [] ((n, as_main first) ∷ []) 0) n1 in
+      let two_main = b.3 ∙ ap (λ n. knows false [] ((n, as_main second) ∷ []) 0) n2 in
+      let one_control = a.4 ∙ ap (λ n. knows false [] ((n, as_control first) ∷ []) 0) n1 in
+      let two_control = b.4 ∙ ap (λ n. knows false [] ((n, as_control second) ∷ []) 0) n2 in record {
+        opens = opening_alone host request channel;
+        main = main ∙ ap (λ p. p.main.lists) all ∙ ap (λ v. (start.main.lists ++ v.lists) ++ two.main.lists) one_main ∙ ap (λ v. (start.main.lists ++ (1, as_main first) ∷ []) ++ v.lists) two_main;
+        control = control ∙ ap (λ p. p.control.lists) all ∙ ap (λ v. (start.control.lists ++ v.lists) ++ two.control.lists) one_control ∙ ap (λ v. (start.control.lists ++ (1, as_control first) ∷ []) ++ v.lists) two_control;
+        given = (
+          given ∙ ap (λ p. p.main.given) all ∙ ap (λ v. (3 + v.given) + two.main.given) one_main ∙ ap (λ v. 3 + v.given) two_main,
+          also ∙ ap (λ p. p.control.given) all ∙ ap (λ v. (3 + v.given) + two.control.given) one_control ∙ ap (λ v. 3 + v.given) two_control,
+        );
+      }
+
+  -- each frontend's part of the journal that is kept, once all is answered
+  pub parts : (here : SharedQueues) (p0 p1 p2 one0 two0 one two p3 p4 : Producer) (first second : List Request) (es kept : List Entry) → here ≡ q → Splits p0 p1 p2 one0 two0
+      → HasAdmitted here one0.number first one → HasAdmitted here two0.number second two → p3 ≡ taking_in p2 one → p4 ≡ taking_in p3 two → IsServed es p4 → kept ≡ es
+      → IsPart 1 kept first × IsPart 2 kept second × ((n : ℕ) → n ≢ 1 → n ≢ 2 → IsPart n kept [])
+  parts here p0 p1 p2 one0 two0 one two p3 p4 first second es kept same h a b e3 e4 s is =
+      let a_here = subst (λ z. HasAdmitted z one0.number first one) same a in
+      let b_here = subst (λ z. HasAdmitted z two0.number second two) same b in
+      let o = Opening host request channel in
+      let three = both_joined p0 p1 p2 one0 two0 one two p3 p4 first second s.0 h a_here b_here e3 e4 s.3 s.4 s.5 s.6 in
+      subst (λ z. IsPart 1 z first × IsPart 2 z second × ((n : ℕ) → n ≢ 1 → n ≢ 2 → IsPart n z [])) (sym is) (
+        first_part es s.0 o first second three s.1 s.2,
+        second_part es s.0 o first second three s.1 s.2,
+        no_other_part es s.0 o first second three s.1 s.2,
+      )

@@ -1,0 +1,5 @@
+pub mod Admitting
+pub mod Turning
+pub mod Starting
+pub mod Parting
+pub mod Joining

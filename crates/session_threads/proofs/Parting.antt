@@ -1,0 +1,109 @@
+-- Each frontend's part of the journal that a session ends with.
+use Rattle.std.proofs.Common.{◌≡◌, ◌≢◌, ◌==◌, ℕ, zero, suc, Bool, true, false, cond, List, [], ◌∷◌, ◌++◌, filter, map, refl, sym, ap, ◌∙◌, subst, append_assoc, inl, inr, arith}
+use Rattle.ruled_queue.specs.Rule.{of, Keeps}
+use Rattle.session_core.specs.declared.request.Header.{Header}
+use Rattle.session_core.specs.declared.request.Channel.{Channel}
+use Rattle.session_core.specs.declared.request.Request.{Request}
+use Rattle.session_core.specs.declared.entry.Entry.{Entry}
+use Rattle.session_core.specs.declared.entry.Entry.TheVariants.{Opened, Ran, Died, Dead, Sealed, Moved, Adopted, Refused, Resumed}
+use Rattle.session_core.specs.Asks.{is_main}
+use Rattle.session_core.specs.Legal.{asked, main_asked}
+use Rattle.session_queues.specs.declared.items.MainItem.{MainItem}
+use Rattle.session_queues.specs.declared.items.MainItem.TheVariants.{Opening, Asked}
+use Rattle.session_queues.specs.Items.{number_of, frontend_of}
+use Rattle.session_queues.specs.Ends.{Held, FoundNothing}
+use Rattle.session_gate.specs.Answered.{opening_by, opening_of, as_main, as_control, IsAnswered}
+use Rattle.session_gate.proofs.Gathered.{main_all, control_all, main_none, control_none}
+use Rattle.session_threads.specs.Parts.{IsPart}
+
+-- the requests among what stands in a main queue
+pub requests_in : List MainItem → List Request
+requests_in [] = []
+requests_in (Opening host request channel ∷ items) = requests_in items
+requests_in (Asked r ∷ items) = r ∷ requests_in items
+
+requests_asked : (rs : List Request) → requests_in (map (λ r. Asked r) rs) ≡ rs
+unfolding requests_in
+requests_asked [] = refl
+requests_asked (r ∷ rs) = ap (λ l. r ∷ l) (requests_asked rs)
+
+if_opening : (b : Bool) (o : MainItem) (items : List MainItem) → requests_in (o ∷ items) ≡ requests_in items → requests_in (cond b (o ∷ items) items) ≡ requests_in items
+if_opening true o items is = is
+if_opening false o items is = refl
+
+if_asked : (b : Bool) (r : Request) (items : List MainItem) → requests_in (cond b (Asked r ∷ items) items) ≡ cond b (r ∷ requests_in items) (requests_in items)
+unfolding requests_in
+if_asked true r items = refl
+if_asked false r items = refl
+
+requests_of : (n : ℕ) (items : List MainItem) → requests_in (of number_of n items) ≡ of frontend_of n (requests_in items)
+unfolding requests_in
+requests_of n [] = refl
+requests_of n (Opening host request channel ∷ items) =
+    if_opening (0 == n) (Opening host request channel) (of number_of n items) refl ∙ requests_of n items
+requests_of n (Asked r ∷ items) = if_asked (r.frontend == n) r (of number_of n items) ∙ ap (λ l. cond (r.frontend == n) (r ∷ l) l) (requests_of n items)
+
+opening_skipped : (e : Entry) (items : List MainItem) → requests_in (opening_by e ++ items) ≡ requests_in items
+unfolding requests_in
+opening_skipped (Opened host request channel) items = refl
+opening_skipped (Ran host request draws reply) items = refl
+opening_skipped (Died host request count cause) items = refl
+opening_skipped (Dead host request count) items = refl
+opening_skipped (Sealed host request to) items = refl
+opening_skipped (Moved to) items = refl
+opening_skipped (Adopted from to request certified objects) items = refl
+opening_skipped (Refused host request reason) items = refl
+opening_skipped (Resumed host request) items = refl
+
+openings_skipped : (es : List Entry) (items : List MainItem) → requests_in (opening_of es ++ items) ≡ requests_in items
+openings_skipped [] items = refl
+openings_skipped (e ∷ es) items = ap requests_in (append_assoc (opening_by e) (opening_of es) items) ∙ opening_skipped e (opening_of es ++ items) ∙ openings_skipped es items
+
+pub opening_alone : (host : ℕ) (request : Header) (channel : Channel) → requests_in (Opening host request channel ∷ []) ≡ []
+unfolding requests_in
+opening_alone host request channel = refl
+
+-- the part of main, by what is kept under the number
+part_is : (es : List Entry) (n : ℕ) (l : List MainItem) → l ≡ of number_of n (opening_of es ++ as_main (asked es)) → of frontend_of n (main_asked es) ≡ requests_in l
+part_is es n l is =
+    ap (of frontend_of n) (sym (requests_asked (main_asked es)) ∙ sym (openings_skipped es (as_main (asked es)))) ∙ sym (requests_of n (opening_of es ++ as_main (asked es))) ∙ ap requests_in (sym is)
+
+-- a number whose lists are these
+kept_part : (es : List Entry) (ends : Held) (n : ℕ) (l : List MainItem) (rs : List Request) → IsAnswered es ends [] → FoundNothing ends → Keeps n l ends.main.lists
+    → Keeps n (as_control rs) ends.control.lists → requests_in l ≡ filter is_main rs → IsPart n es rs
+kept_part es ends n l rs h none main control is = (
+  part_is es n l (main_all es ends n l h none main) ∙ is,
+  sym (control_all es ends n (as_control rs) h none control),
+)
+
+-- what two producers and the opening left with the owner
+pub record HasThree (o : MainItem) (first second : List Request) (ends : Held) : Type 0 where
+  pub opens : requests_in (o ∷ []) ≡ []
+  pub main : ends.main.lists ≡ (0, o ∷ []) ∷ (1, as_main first) ∷ (2, as_main second) ∷ []
+  pub control : ends.control.lists ≡ (0, []) ∷ (1, as_control first) ∷ (2, as_control second) ∷ []
+  pub given : (ends.main.given ≡ 3) × (ends.control.given ≡ 3)
+
+module _ (es : List Entry) (ends : Held) (o : MainItem) (first second : List Request) (h : HasThree o first second ends) (answered : IsAnswered es ends []) (none : FoundNothing ends) where
+  pub first_part : IsPart 1 es first
+  first_part = kept_part es ends 1 (as_main first) first answered none
+      (subst (Keeps 1 (as_main first)) (sym h.main) (inr (inl (refl, refl))))
+      (subst (Keeps 1 (as_control first)) (sym h.control) (inr (inl (refl, refl)))) (requests_asked (filter is_main first))
+
+  pub second_part : IsPart 2 es second
+  second_part = kept_part es ends 2 (as_main second) second answered none
+      (subst (Keeps 2 (as_main second)) (sym h.main) (inr (inr (inl (refl, refl)))))
+      (subst (Keeps 2 (as_control second)) (sym h.control) (inr (inr (inl (refl, refl))))) (requests_asked (filter is_main second))
+
+  pub no_other_part : (n : ℕ) → n ≢ 1 → n ≢ 2 → IsPart n es []
+  unfolding requests_in
+  no_other_part zero one two = kept_part es ends 0 (o ∷ []) [] answered none
+      (subst (Keeps 0 (o ∷ [])) (sym h.main) (inl (refl, refl)))
+      (subst (Keeps 0 []) (sym h.control) (inl (refl, refl))) h.opens
+  no_other_part (suc zero) one two = absurd (one refl)
+  no_other_part (suc (suc zero)) one two = absurd (two refl)
+  no_other_part (suc (suc (suc n))) one two =
+      let main = h.given.0 in
+      let control = h.given.1 in (
+        part_is es (suc (suc (suc n))) [] (sym (main_none es ends (suc (suc (suc n))) answered none (omega arith) (omega arith))),
+        control_none es ends (suc (suc (suc n))) answered none (omega arith) (omega arith),
+      )

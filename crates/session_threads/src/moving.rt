@@ -1,0 +1,183 @@
+ghost use Rattle.std.specs.Prelude.{◌≡◌, ◌≤◌, true, MatchOption, Ok, Err};
+ghost use Rattle.graph_model.specs.declared.plan.Weights.{Weights};
+ghost use Rattle.session_core.specs.declared.request.Ask.TheVariants as asks;
+ghost use Rattle.session_core.specs.Asks.{is_move, IsMove};
+ghost use Rattle.session_core.specs.Engines.{Packs};
+ghost use Rattle.session_core.specs.Legal.{progress_of, sealed, arriving, MayTry};
+ghost use Rattle.session_core.specs.Stepping.{IsEarly, IsFree, reason_of};
+ghost use Rattle.session_gate.specs.Facts.{Owes, OwesNone, HasSame, owner_of};
+ghost use Rattle.session_threads.specs.Parts.{HasStarted};
+
+use graph_model::Weights;
+use nb_outside::Feed;
+use session_core::{Ask, Engine, MoveRefusal, PackFault, Packed, Request};
+use session_gate::{Lease, Parcel};
+use std::alloc::Global;
+
+/// What came of a request to move.
+pub enum Started<E: Engine, F: Feed> {
+    /// It was refused or, for want of memory, resumed.
+    Stayed(Lease<E, F>),
+    /// It is sealed for the host that the request asks for.
+    Sealed(Parcel<E, F>),
+}
+
+/// The host and the weights of a move.
+fn aim_of(ask: &Ask) -> (u64, Weights)
+    requires { is_move ask.now ≡ true }
+    ensures { ask.now ≡ asks.Migrate result.0 result.1 }
+{
+    match ask {
+        Ask::Migrate { to, weights } => (*to, *weights),
+        _ => unreachable!(),
+    }
+}
+
+/// The first reason not to plan a move: the session is dead, it is on that host, or there is no such host.
+fn reason_before_planning<E: Engine, F: Feed>(lease: &Lease<E, F>, to: u64) -> Option<MoveRefusal>
+    ensures { MatchOption result (IsFree lease.now.hosts (progress_of lease.now.entries) to) (IsEarly lease.now.hosts (progress_of lease.now.entries) to) }
+{
+    if lease.is_dead() {
+        return Some(MoveRefusal::DeadKernel);
+    }
+    if to == u64::from(lease.host()) {
+        return Some(MoveRefusal::SameHost);
+    }
+    if to >= u64::from(lease.hosts()) {
+        return Some(MoveRefusal::UnknownHost(to));
+    }
+    None
+}
+
+/// Why a pack that failed keeps the session where it is; None for want of memory.
+fn reason_against(fault: PackFault) -> Option<MoveRefusal>
+    ensures { result ≡ reason_of fault }
+{
+    match fault {
+        PackFault::OutOfMemory => None,
+        PackFault::BadWeights(fault) => Some(MoveRefusal::BadWeights(fault)),
+        PackFault::Stuck {
+            version,
+            cell,
+            names,
+        } => Some(MoveRefusal::Stuck {
+            version,
+            cell,
+            names,
+        }),
+    }
+}
+
+/// A move that can't be packed: it is refused or, for want of memory, resumed.
+fn stay_behind<E: Engine, F: Feed>(
+    lease: Lease<E, F>,
+    to: u64,
+    weights: Weights,
+    request: Request,
+    fault: PackFault,
+) -> Lease<E, F>
+    requires owes { Owes lease request }
+    requires spare { 3 ≤ lease.spare }
+    requires asked { request.ask ≡ asks.Migrate to weights }
+    requires free { IsFree lease.hosts (progress_of lease.entries) to }
+    requires fault { Packs E.meaning (progress_of lease.entries).served weights (Err fault) }
+    ensures owes { OwesNone result }
+    ensures same { HasSame lease result }
+{
+    let _ = to;
+    let _ = weights;
+    match reason_against(fault) {
+        Some(reason) => lease.refuse(request, reason),
+        None => lease.resume(request),
+    }
+}
+
+/// A move by this pack: it is sealed or, for want of memory, resumed.
+fn depart<E: Engine, F: Feed>(
+    alloc: Global,
+    lease: Lease<E, F>,
+    to: u64,
+    weights: Weights,
+    request: Request,
+    packed: Packed,
+) -> Started<E, F>
+    requires owes { Owes lease request }
+    requires spare { 3 ≤ lease.spare }
+    requires asked { request.ask ≡ asks.Migrate to weights }
+    requires free { IsFree lease.hosts (progress_of lease.entries) to }
+    requires packed { Packs E.meaning (progress_of lease.entries).served weights (Ok packed) }
+    ensures { HasStarted lease result }
+{
+    let _ = to;
+    let _ = weights;
+    match request.copy(alloc) {
+        Ok(again) => Started::Sealed(lease.depart(request, again, packed)),
+        Err(_) => Started::Stayed(resume_without(lease, request, packed)),
+    }
+}
+
+/// It stays, and the pack is let go.
+fn resume_without<E: Engine, F: Feed>(
+    lease: Lease<E, F>,
+    request: Request,
+    _packed: Packed,
+) -> Lease<E, F>
+    requires owes { Owes lease request }
+    requires spare { 1 ≤ lease.spare }
+    requires may { IsMove (MayTry E.meaning lease.hosts (progress_of lease.entries)) request.ask }
+    ensures owes { OwesNone result }
+    ensures same { HasSame lease result }
+{
+    lease.resume(request)
+}
+
+/// The plan for a move to a host that is there, and the move by it.
+fn plan_and_go<E: Engine, F: Feed>(
+    alloc: Global,
+    lease: Lease<E, F>,
+    to: u64,
+    weights: Weights,
+    request: Request,
+) -> Started<E, F>
+    requires owes { Owes lease request }
+    requires spare { 3 ≤ lease.spare }
+    requires asked { request.ask ≡ asks.Migrate to weights }
+    requires free { IsFree lease.hosts (progress_of lease.entries) to }
+    ensures { HasStarted lease result }
+{
+    match lease.pack(alloc, &weights) {
+        Ok(packed) => depart(alloc, lease, to, weights, request, packed),
+        Err(fault) => Started::Stayed(stay_behind(lease, to, weights, request, fault)),
+    }
+}
+
+/// Answers the owed request to move: it is sealed for the host that it asks for, refused for the first reason that holds or, for
+/// want of memory, resumed.
+pub fn start_move<E: Engine, F: Feed>(
+    alloc: Global,
+    lease: Lease<E, F>,
+    request: Request,
+) -> Started<E, F>
+    requires owes { Owes lease request }
+    requires spare { 3 ≤ lease.spare }
+    requires asked { is_move request.ask ≡ true }
+    ensures { HasStarted lease result }
+{
+    let (to, weights) = aim_of(&request.ask);
+    match reason_before_planning(&lease, to) {
+        Some(reason) => Started::Stayed(lease.refuse(request, reason)),
+        None => plan_and_go(alloc, lease, to, weights, request),
+    }
+}
+
+/// Ends the move of a parcel that came to its host: it goes on there or, for want of memory, on the old host.
+pub fn finish_move<E: Engine + Drop, F: Feed>(alloc: Global, parcel: Parcel<E, F>) -> Lease<E, F>
+    requires { (progress_of parcel.held.entries).phase ≡ arriving parcel.again parcel.to }
+    ensures owes { OwesNone result }
+    ensures same { HasSame parcel.held result }
+{
+    match parcel.unpack(alloc) {
+        Ok((engine, objects)) => parcel.adopt(engine, objects),
+        Err(_) => parcel.resume(),
+    }
+}

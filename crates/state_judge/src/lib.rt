@@ -1,0 +1,6 @@
+//! Whether a state is as a history graph says: the versions that hold at the end are its parts, and each name with a value is in one.
+#![tactic(auto)]
+
+mod judging;
+
+pub use judging::{Disagreement, judge};
