@@ -1,6 +1,8 @@
 -- Bytes of numbered items that are written one after the other.
-use Rattle.std.proofs.Common.{◌≡◌, ℕ, ◌+◌, ◌<◌, List, [], ◌∷◌, ◌++◌, length, get_or, take, sym, ap, ◌∙◌, arith}
+use Rattle.std.proofs.Common.{◌≡◌, ℕ, ◌+◌, ◌<◌, List, [], ◌∷◌, ◌++◌, length, get_or, take, sym, ap, ◌∙◌, subst, inl, inr, arith}
 use Rattle.std.proofs.lemmas.List.{append-nil, append_assoc, length-take, take_more}
+use Rattle.std.proofs.lemmas.Bool.{cases_eq}
+use Rattle.part_bytes.proofs.Pieces.{at_any}
 use Rattle.checkpoint_bytes.specs.Texts.{bytes_from}
 
 from_more : {A : Type 0} (bytes : ℕ → A → List ℕ) (n : ℕ) (xs : List A) (y : A) → bytes_from bytes n (xs ++ y ∷ []) ≡ bytes_from bytes n xs ++ bytes (n + length xs) y
@@ -20,3 +22,11 @@ one_more {A = A} bytes old out more xs i x l is e k =
     let last : bytes_from bytes 1 (take (i + 1) xs) ≡ bytes_from bytes 1 front ++ bytes (i + 1) x =
     ap (bytes_from bytes 1) whole ∙ (from_more bytes 1 front x ∙ ap (λ (m : ℕ). bytes_from bytes 1 front ++ bytes m x) size) in
     k ∙ (ap (λ (zs : List ℕ). zs ++ bytes (i + 1) x) e ∙ (append_assoc old (bytes_from bytes 1 front) (bytes (i + 1) x) ∙ ap (λ (zs : List ℕ). old ++ zs) (sym last)))
+
+-- what holds of the first items by their places, and of the next, holds of one more
+pub each_more : {A : Type 0} (P : ℕ → A → Type 0) (xs : List A) (i : ℕ) (x : A) → i < length xs → x ≡ get_or xs i x → ((k : ℕ) (d : A) → k < i → P k (get_or xs k d)) → P i x
+    → (k : ℕ) (d : A) → k < i + 1 → P k (get_or xs k d)
+each_more P xs i x l is front here k d high = elim (cases_eq k i) [
+  | inl e ↦ subst (λ (j : ℕ). P j (get_or xs j d)) (sym e) (subst (P i) (is ∙ at_any xs i x d l) here)
+  | inr n ↦ front k d (omega (arith, high, n))
+]

@@ -1,3 +1,4 @@
 pub mod Texts
+pub mod Plain
 pub mod Marks
 pub mod Examples

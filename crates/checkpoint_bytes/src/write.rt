@@ -1,9 +1,12 @@
-ghost use Rattle.std.specs.Prelude.{◌≡◌, ◌+◌, ◌++◌, length, IfOk, OnOk};
+ghost use Rattle.std.specs.Prelude.{ℕ, ◌≡◌, ◌+◌, ◌++◌, ◌<◌, ◌^◌, true, All, length, slice_index_or, IfOk, OnOk};
+ghost use Rattle.graph_model.specs.declared.graph.Version.{Version};
 ghost use Rattle.std.specs.List.{flat_map};
 ghost use Rattle.py_heap.specs.References.{IsClosed};
 ghost use Rattle.part_bytes.specs.Texts.{four};
+ghost use Rattle.part_bytes.specs.Plain.{IsText, IsPlainPart};
 ghost use Rattle.checkpoint_bytes.specs.Marks.{AreMarksOf};
 ghost use Rattle.checkpoint_bytes.specs.Texts as spec;
+ghost use Rattle.checkpoint_bytes.specs.Plain.{IsPlainCell, IsPlainVersion, IsPlainIfCopied, IsPlainCheckpoint};
 
 use crate::marks::marks_of;
 use graph_model::{CellRecord, Graph, Plan, Version};
@@ -47,7 +50,8 @@ fn write_numbers(out: &mut Items<u8>, numbers: &[u32]) -> Result<(), AllocError>
 
 /// How many names, and the names.
 fn write_counted_names(out: &mut Items<u8>, names: &[Text]) -> Result<(), AllocError>
-    ensures { OnOk result (out.new ≡ out.old ++ spec.names_bytes names.now) }
+    ensures bytes { OnOk result (out.new ≡ out.old ++ spec.names_bytes names.now) }
+    ensures few { OnOk result (length names.now < 2 ^ 32) }
 {
     write_count(out, names.len())?;
     write_names(out, names)
@@ -55,7 +59,8 @@ fn write_counted_names(out: &mut Items<u8>, names: &[Text]) -> Result<(), AllocE
 
 /// A cell's code, meter and steps, whether it drew, and whether it is to run again.
 fn write_cell_head(out: &mut Items<u8>, rerun: bool, cell: &CellRecord) -> Result<(), AllocError>
-    ensures { OnOk result (out.new ≡ out.old ++ spec.cell_head_bytes rerun cell.now) }
+    ensures bytes { OnOk result (out.new ≡ out.old ++ spec.cell_head_bytes rerun cell.now) }
+    ensures plain { OnOk result (IsText cell.now.code) }
 {
     write_text(out, cell.code.as_str())?;
     write_four(out, cell.meter)?;
@@ -66,7 +71,8 @@ fn write_cell_head(out: &mut Items<u8>, rerun: bool, cell: &CellRecord) -> Resul
 
 /// A cell, and whether it is to run again.
 fn write_cell(out: &mut Items<u8>, rerun: bool, cell: &CellRecord) -> Result<(), AllocError>
-    ensures { OnOk result (out.new ≡ out.old ++ spec.cell_bytes rerun cell.now) }
+    ensures bytes { OnOk result (out.new ≡ out.old ++ spec.cell_bytes rerun cell.now) }
+    ensures plain { OnOk result (IsPlainCell cell.now) }
 {
     write_cell_head(out, rerun, cell)?;
     write_count(out, cell.reads.len())?;
@@ -76,7 +82,8 @@ fn write_cell(out: &mut Items<u8>, rerun: bool, cell: &CellRecord) -> Result<(),
 
 /// A version, and whether it is to be copied.
 fn write_version(out: &mut Items<u8>, copied: bool, version: &Version) -> Result<(), AllocError>
-    ensures { OnOk result (out.new ≡ out.old ++ spec.plain_version_bytes copied version.now) }
+    ensures bytes { OnOk result (out.new ≡ out.old ++ spec.plain_version_bytes copied version.now) }
+    ensures plain { OnOk result (IsPlainVersion version.now) }
 {
     write_four(out, version.writer)?;
     write_four(out, version.replaced)?;
@@ -95,7 +102,9 @@ fn write_whole_version(
     version: &Version,
 ) -> Result<(), AllocError>
     requires { IsClosed state.now }
-    ensures { OnOk result (out.new ≡ out.old ++ spec.version_bytes state.now copied version.now) }
+    ensures bytes { OnOk result (out.new ≡ out.old ++ spec.version_bytes state.now copied version.now) }
+    ensures plain { OnOk result (IsPlainVersion version.now) }
+    ensures part { OnOk result (copied ≡ true → IsPlainPart state.now version.now.names) }
 {
     write_version(out, copied, version)?;
     if copied {
@@ -112,7 +121,8 @@ fn write_cells(
     plan: &Plan,
 ) -> Result<(), AllocError>
     requires { AreMarksOf plan.now.rerun (length cells.now + 1) marks.now }
-    ensures { OnOk result (out.new ≡ out.old ++ spec.cells_bytes plan.now cells.now) }
+    ensures bytes { OnOk result (out.new ≡ out.old ++ spec.cells_bytes plan.now cells.now) }
+    ensures plain { OnOk result (All IsPlainCell cells.now) }
 {
     for index in 0..cells.len() {
         write_cell(out, marks.as_slice()[index + 1], &cells[index])?;
@@ -130,7 +140,9 @@ fn write_versions(
 ) -> Result<(), AllocError>
     requires closed { IsClosed state.now }
     requires marks { AreMarksOf plan.now.copied (length versions.now + 1) marks.now }
-    ensures { OnOk result (out.new ≡ out.old ++ spec.versions_bytes state.now plan.now versions.now) }
+    ensures bytes { OnOk result (out.new ≡ out.old ++ spec.versions_bytes state.now plan.now versions.now) }
+    ensures plain { OnOk result (All IsPlainVersion versions.now) }
+    ensures parts { OnOk result ((k : ℕ) (d : Version) → k < length versions.now → IsPlainIfCopied state.now plan.now (k + 1) (slice_index_or versions.now k d)) }
 {
     for index in 0..versions.len() {
         write_whole_version(
@@ -153,7 +165,8 @@ pub fn write_checkpoint(
     plan: &Plan,
 ) -> Result<Items<u8>, AllocError>
     requires { IsClosed state.now }
-    ensures { IfOk result (λ bytes. bytes ≡ spec.checkpoint_text state.now graph.now plan.now) }
+    ensures bytes { IfOk result (λ bytes. bytes ≡ spec.checkpoint_text state.now graph.now plan.now) }
+    ensures plain { OnOk result (IsPlainCheckpoint state.now graph.now plan.now) }
 {
     let cells = graph.cells.as_slice();
     let versions = graph.versions.as_slice();

@@ -1,2 +1,4 @@
-pub mod Numbers
+pub mod Digits
+pub mod OneCommand
+pub mod Runs
 pub mod Texts

@@ -1,48 +1,38 @@
-ghost use Rattle.std.specs.Prelude.{ℕ, ◌≡◌, ◌≢◌, ◌≤◌, [], ◌∷◌, true, false, map, length, get_or, string_bytes, MatchOption};
+ghost use Rattle.std.specs.Prelude.{ℕ, ◌≡◌, ◌≢◌, ◌≤◌, codes, [], ◌∷◌, map, string_bytes, MatchOption};
 ghost use Rattle.std.specs.Fmt.{decimal};
 ghost use Rattle.graph_model.specs.declared.plan.Weights.{Weights as Four};
 ghost use Rattle.plan_model.specs.Weighing.{AreSmall};
 ghost use Rattle.command_words.specs.declared.words.Command.{Command as Asked};
-ghost use Rattle.command_words.specs.Grammar.{weight_words, IsCommand, IsNone};
+ghost use Rattle.command_words.specs.Grammar.{weight_words, setting_words, IsAllowed, IsCommand};
 
+use crate::numbers::number_of;
+use crate::settings::{Kind, Setting, first_of};
 use graph_model::Weights;
 
 /// What the words of the command line ask for.
 #[derive(Clone, Copy, Debug, PartialEq, Eq)]
 pub enum Command {
-    /// `run`: the frames of the source are served.
-    Run,
+    /// `run`: the frames of the source are served, by so many hosts with so many workers each.
+    Run { hosts: u32, workers: u32 },
     /// `plan c b r s`: a least-cost plan of a checkpoint's graph, under these weights.
     Plan(Weights),
+    /// `save c b r s`: a checkpoint of a session, by a least-cost plan under these weights.
+    Save(Weights),
     /// `restore`: the state of a checkpoint.
     Restore,
 }
 
+/// How many hosts and workers there are where no setting says it.
+const UNSAID: u32 = 1;
+
 /// The greatest weight.
 const MOST: u64 = 1_000_000;
-
-/// Whether a word can be a number: it isn't empty and begins with no plus, and with no zero before other bytes.
-fn is_plain(bytes: &[u8]) -> bool
-    ensures yes { result ≡ true → (get_or bytes.now 0 0 ≢ 43) × (get_or bytes.now 0 0 ≡ 48 → length bytes.now ≤ 1) }
-    ensures no { result ≡ false → IsNone bytes.now }
-{
-    match bytes {
-        [] => false,
-        [first, rest @ ..] => *first != b'+' && (*first != b'0' || rest.is_empty()),
-    }
-}
 
 /// The weight that a word says: a number from 0 to 1,000,000 in decimal digits, without a zero before others.
 fn weight_of(word: &str) -> Option<u64>
     ensures { MatchOption result ((n : ℕ) → n ≤ 1000000 → word.now ≢ decimal n) (λ n. (n ≤ 1000000) × (word.now ≡ decimal n)) }
 {
-    if !is_plain(word.as_bytes()) {
-        return None;
-    }
-    match word.parse::<u64>() {
-        Ok(n) if n <= MOST => Some(n),
-        _ => None,
-    }
+    number_of(word, 0, MOST)
 }
 
 /// The weights that four words say.
@@ -60,13 +50,82 @@ fn weights_of(words: &[String]) -> Option<Weights>
     })
 }
 
-/// The command with one word.
-fn single(word: &str) -> Option<Command>
-    ensures { MatchOption result ((c : Asked) → ¬ IsCommand (word.now ∷ []) c) (IsCommand (word.now ∷ [])) }
+/// The command `run` with this setting alone.
+fn run_with(setting: Setting) -> Command
+    requires { IsAllowed setting }
+    ensures { IsCommand (codes "run" ∷ setting_words (setting ∷ [])) result }
 {
-    match word {
-        "run" => Some(Command::Run),
-        "restore" => Some(Command::Restore),
+    match setting.kind {
+        Kind::Hosts => Command::Run {
+            hosts: setting.number,
+            workers: UNSAID,
+        },
+        Kind::Workers => Command::Run {
+            hosts: UNSAID,
+            workers: setting.number,
+        },
+    }
+}
+
+/// The command `run` with these two settings, if they aren't of the same kind.
+fn run_with_both(first: Setting, second: Setting) -> Option<Command>
+    requires first { IsAllowed first }
+    requires second { IsAllowed second }
+    ensures { MatchOption result (first.kind ≡ second.kind) (IsCommand (codes "run" ∷ setting_words (first ∷ second ∷ []))) }
+{
+    match (first.kind, second.kind) {
+        (Kind::Hosts, Kind::Workers) => Some(Command::Run {
+            hosts: first.number,
+            workers: second.number,
+        }),
+        (Kind::Workers, Kind::Hosts) => Some(Command::Run {
+            hosts: second.number,
+            workers: first.number,
+        }),
+        _ => None,
+    }
+}
+
+/// The command `run` with the settings that these words say.
+fn run_of(words: &[String]) -> Option<Command>
+    ensures { MatchOption result ((c : Asked) → ¬ IsCommand (codes "run" ∷ map string_bytes words.now) c) (IsCommand (codes "run" ∷ map string_bytes words.now)) }
+{
+    if words.is_empty() {
+        return Some(Command::Run {
+            hosts: UNSAID,
+            workers: UNSAID,
+        });
+    }
+    let Some((first, behind)) = first_of(words) else {
+        return None;
+    };
+    if behind.is_empty() {
+        return Some(run_with(first));
+    }
+    let Some((second, rest)) = first_of(behind) else {
+        return None;
+    };
+    if !rest.is_empty() {
+        return None;
+    }
+    run_with_both(first, second)
+}
+
+/// The command with this first word, and these behind it.
+fn command_with(first: &str, words: &[String]) -> Option<Command>
+    ensures { MatchOption result ((c : Asked) → ¬ IsCommand (first.now ∷ map string_bytes words.now) c) (IsCommand (first.now ∷ map string_bytes words.now)) }
+{
+    match first {
+        "run" => run_of(words),
+        "plan" => match weights_of(words) {
+            Some(weights) => Some(Command::Plan(weights)),
+            None => None,
+        },
+        "save" => match weights_of(words) {
+            Some(weights) => Some(Command::Save(weights)),
+            None => None,
+        },
+        "restore" if words.is_empty() => Some(Command::Restore),
         _ => None,
     }
 }
@@ -75,12 +134,8 @@ fn single(word: &str) -> Option<Command>
 pub fn command_of(words: &[String]) -> Option<Command>
     ensures { MatchOption result ((c : Asked) → ¬ IsCommand (map string_bytes words.now) c) (IsCommand (map string_bytes words.now)) }
 {
-    match words {
-        [word] => single(word.as_str()),
-        [word, rest @ ..] if word.as_str() == "plan" => match weights_of(rest) {
-            Some(weights) => Some(Command::Plan(weights)),
-            None => None,
-        },
-        _ => None,
-    }
+    let [first, rest @ ..] = words else {
+        return None;
+    };
+    command_with(first.as_str(), rest)
 }

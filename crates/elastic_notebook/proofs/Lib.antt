@@ -1,3 +1,3 @@
+pub mod Commands
 pub mod Streaming
-pub mod Serving
 pub mod Telling

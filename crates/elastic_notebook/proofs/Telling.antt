@@ -1,22 +1,17 @@
 -- What is said of a checkpoint, over a source that tells.
 use Rattle.std.proofs.Common.{◌≡◌, ℕ, true, false, List, [], Option, Some, None, refl, sym, ap, ◌∙◌, ◌⊎◌, subst, inl, inr, arith}
-use Rattle.std.specs.Prelude.{◌==◌, ◌||◌, ◌<◌, ◌≤◌, ◌^◌}
-use Rattle.std.specs.Fmt.{decimal}
-use Rattle.std.proofs.lemmas.Fmt.{decimal_injective}
+use Rattle.std.specs.Prelude.{◌==◌, ◌||◌}
 use Rattle.std.proofs.lemmas.Bool.{or_cases, or_left, or_right, eqb-true, false≢true}
 use Rattle.nb_outside.specs.Streams.{Adds, Takes, IsAtEnd}
-use Rattle.graph_model.specs.declared.plan.Weights.{Weights}
-use Rattle.command_words.specs.declared.words.Command.TheVariants as command
-use Rattle.command_words.specs.Grammar.{IsCommand}
 use Rattle.restore_run.specs.declared.fault.RestoreFault.{RestoreFault}
 use Rattle.restore_run.specs.declared.fault.RestoreFault.TheVariants as fault
 use Rattle.restore_run.specs.Restoring.{IsRestoreFault}
 use Rattle.restore_command.specs.Told.{status_of}
 use Rattle.elastic_notebook.specs.declared.say.Question.{Question}
 use Rattle.elastic_notebook.specs.declared.say.Question.TheVariants.{Plan, Restore}
-use Rattle.elastic_notebook.specs.Served.{AddsFront}
+use Rattle.node_run.specs.Frames.{AddsFront}
 use Rattle.elastic_notebook.specs.Saying.{Says, is_said, is_silent, IsAnswered, SaysTold}
-use Rattle.elastic_notebook.proofs.Streaming.{Adds-none}
+use Rattle.node_run.proofs.Streaming.{Adds-none}
 
 -- ---- statuses
 
@@ -62,24 +57,6 @@ said_answered q bytes status text says = or_left (is_said status) ((status == 4)
 -- none of them is that of no command
 pub never_one : (s : ℕ) → IsAnswered s → s ≡ 1 → ⊥
 never_one s answered one = false≢true (subst IsAnswered one answered)
-
--- words say the weights of one plan
-pub one_plan : (words : List (List ℕ)) (v w : Weights) → IsCommand words (command.Plan v) → IsCommand words (command.Plan w) → v ≡ w
-one_plan words v w a b =
-    let same = sym a.1 ∙ b.1 in
-    let p : decimal v.copy_base ≡ decimal w.copy_base = cc same in
-    let q : decimal v.per_byte ≡ decimal w.per_byte = cc same in
-    let r : decimal v.run_base ≡ decimal w.run_base = cc same in
-    let s : decimal v.per_step ≡ decimal w.per_step = cc same in
-    let low : (n : ℕ) → n ≤ 1000000 → n < 2 ^ 64 = λ n l. omega (arith, l) in
-    let one = decimal_injective v.copy_base w.copy_base (low v.copy_base a.0.copy_base) (low w.copy_base b.0.copy_base) p in
-    let two = decimal_injective v.per_byte w.per_byte (low v.per_byte a.0.per_byte) (low w.per_byte b.0.per_byte) q in
-    let three = decimal_injective v.run_base w.run_base (low v.run_base a.0.run_base) (low w.run_base b.0.run_base) r in
-    let four = decimal_injective v.per_step w.per_step (low v.per_step a.0.per_step) (low w.per_step b.0.per_step) s in
-    ap (λ (n : ℕ). let x : Weights = record v { copy_base = n } in x) one
-    ∙ (ap (λ (n : ℕ). let x : Weights = record { copy_base = w.copy_base; per_byte = n; run_base = v.run_base; per_step = v.per_step } in x) two
-    ∙ (ap (λ (n : ℕ). let x : Weights = record { copy_base = w.copy_base; per_byte = w.per_byte; run_base = n; per_step = v.per_step } in x) three
-    ∙ ap (λ (n : ℕ). let x : Weights = record { copy_base = w.copy_base; per_byte = w.per_byte; run_base = w.run_base; per_step = n } in x) four))
 
 -- ---- over a source that tells
 

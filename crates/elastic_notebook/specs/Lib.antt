@@ -1,4 +1,2 @@
-pub mod Intake
-pub mod Served
 pub mod Saying
 pub mod Reading

@@ -6,7 +6,7 @@ use Rattle.plan_command.specs.Said.{IsSaid}
 use Rattle.restore_command.specs.Told.{IsToldOf}
 use Rattle.elastic_notebook.specs.declared.say.Question.{Question}
 use Rattle.elastic_notebook.specs.declared.say.Question.TheVariants.{Plan, Restore}
-use Rattle.elastic_notebook.specs.Served.{AddsFront}
+use Rattle.node_run.specs.Frames.{AddsFront}
 
 -- the weights are within their range
 abbrev pub IsAsked : Question → Type 0

@@ -4,11 +4,8 @@
 //! sink and feeds, calls it, and ends with its status.
 #![tactic(auto)]
 
-mod fault;
-mod intake;
 pub mod run;
 mod say;
-mod serve;
 mod streams;
 #[cfg(test)]
 mod tests;

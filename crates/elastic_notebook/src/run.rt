@@ -1,60 +1,36 @@
-ghost use Rattle.std.specs.Prelude.{◌≡◌, map, string_bytes, ◌↔◌};
+ghost use Rattle.std.specs.Prelude.{◌≡◌, ℕ, map, string_bytes, ◌↔◌};
 ghost use Rattle.nb_outside.specs.Counts.{HasRisen, HasRisenBy};
 ghost use Rattle.graph_model.specs.declared.plan.Weights.{Weights as Four};
 ghost use Rattle.command_words.specs.declared.words.Command.{Command as Asked};
 ghost use Rattle.command_words.specs.declared.words.Command.TheVariants as command;
 ghost use Rattle.command_words.specs.Grammar.{IsCommand};
+ghost use Rattle.node_run.specs.Streams.{StreamsTold, IsStatus};
+ghost use Rattle.notebook_meaning.specs.Notebooks.{notebooks};
+ghost use Rattle.save_command.specs.Saved.{SavesTold};
 ghost use Rattle.elastic_notebook.specs.declared.say.Question.TheVariants as question;
-ghost use Rattle.elastic_notebook.specs.Served.{ServesTold, IsStatus};
 ghost use Rattle.elastic_notebook.specs.Saying.{SaysTold};
 
-use crate::fault::ServeFault;
 use crate::say::{Question, say};
-use crate::serve::serve;
-use crate::streams::{ReadingEnd, read_all};
 use command_words::{Command, command_of};
 use nb_outside::{Feeds, Sink, Source};
-use std::alloc::Global;
-
-/// Reads the source to its end and serves what it gave.
-fn run<S: Source, K: Sink, D: Feeds>(
-    alloc: Global,
-    source: &mut S,
-    sink: &mut K,
-    feeds: &mut D,
-) -> u8
-    ensures served { ServesTold result (S.left source.old) (S.left source.new) (K.written sink.old) (K.written sink.new) }
-    ensures source_fault { result ≡ 3 → HasRisen (S.faults source.old) (S.faults source.new) }
-    ensures sink_fault { result ≡ 4 → HasRisen (K.faults sink.old) (K.faults sink.new) }
-    ensures reads { result ≡ 10 → HasRisenBy 4294967295 (S.reads source.old) (S.reads source.new) }
-    ensures statuses { IsStatus result }
-{
-    let mut bytes = Vec::new(alloc);
-    let reading = read_all(alloc, source, &mut bytes);
-    if matches!(reading, ReadingEnd::OutOfMemory) {
-        return 5;
-    }
-    match serve(alloc, sink, feeds, bytes.as_slice()) {
-        Err(ServeFault::Sink) => 4,
-        Err(ServeFault::OutOfMemory) => 5,
-        Ok(rest) => match reading {
-            ReadingEnd::End if rest.is_empty() => 0,
-            ReadingEnd::End => 2,
-            ReadingEnd::Failed => 3,
-            ReadingEnd::TooMany => 10,
-            ReadingEnd::OutOfMemory => 5,
-        },
-    }
-}
+use node_run::run_stream;
+use notebook_engine::Notebook;
+use save_command::save;
 
 /// Does what the words say, and gives the exit status of the program. The words leave out the program's name.
 ///
-/// `run` reads the source to its end and serves the frames that it gave: an opening of a kernel on host 0, and cells for
-/// that kernel, which draw from a feed of its own. The contract says what is written: the frames of a session that never
-/// moved, in order, where each cell takes just its draws.
+/// `run` takes in the frames of the source: sessions are opened on hosts, and asked to run cells and to move. When the source has ended, each
+/// session is served in the order of opening, its control requests first, on a kernel and with a feed of its own; then the errors of
+/// the stream are written, and each session's frames. The contract says that each session's journal is a legal history, in which each
+/// reply is that of a kernel that never moved, and a move is by a plan that none undercuts; and that what is written is what the
+/// journals say. `--hosts n` is how many hosts there are, from 1 to 64, and `--workers n` how many workers each has, from 1 to 16; one
+/// thread does the work of all.
 ///
-/// `plan c b r s` reads a checkpoint from the source and prints a least-cost plan of its graph: a copy costs c and b for each byte, a cell
-/// that is run again r and s for each step, each from 0 to 1,000,000.
+/// `save c b r s` serves the source as `run` does on one host, and then writes, in place of frames, the checkpoint of the session that
+/// was opened first, under a least-cost plan: a copy costs c and b for each byte, a cell that is run again r and s for each step, each
+/// from 0 to 1,000,000.
+///
+/// `plan c b r s` reads a checkpoint from the source and prints a least-cost plan of its graph under such weights.
 ///
 /// `restore` reads a checkpoint from the source, restores it on host 0, and prints a line `name = value` for each name, in ascending order,
 /// and one with the count and the meter.
@@ -63,13 +39,14 @@ fn run<S: Source, K: Sink, D: Feeds>(
 ///
 /// - 0: the input was read to its end, and everything was written.
 /// - 1: the words are no command. Nothing is read or written.
-/// - 2: `run`: the input was read to its end, and after the last supported message stands something that is none: a frame that is no
-///   supported message, a length outside 1 to 1,048,576, or a begun frame. What stands before it is served and written.
+/// - 2: `run`, `save`: in a frame's place stands a length outside 1 to 1,048,576, or the input ends within a frame. `run` serves and writes
+///   what comes before, with an error that names the place; `save` writes nothing.
 /// - 3: the source met a fault. `run`: what it gave before is served and written; else nothing is written.
 /// - 4: the sink met a fault. What is out is a prefix of what was to be written.
-/// - 5: memory ran out. What is out is a prefix of what was to be written.
-/// - 6: `plan`: the weights sum to 2^63 or more.
-/// - 7: the input was read to its end and is no checkpoint. The line names the first byte, version or cell by which it is none.
+/// - 5: memory ran out outside a cell; `save`: or the first session died of it. What is out is a prefix of what was to be written.
+/// - 6: `plan`: the weights sum to 2^63 or more. `save`: this, a part of the first session that can be neither copied nor computed again, no
+///   session, or a dead one.
+/// - 7: `plan`, `restore`: the input was read to its end and is no checkpoint. The line names the first byte, version or cell by which it is none.
 /// - 8: `restore`: a cell that is run again calls `draw()`.
 /// - 9: `restore`: the state isn't as the checkpoint says: a version isn't as it was, or a name is in none.
 /// - 10: 4,294,967,295 reads each took a byte. `run`: what they gave is served and written; else nothing is written.
@@ -84,9 +61,14 @@ pub fn top<R: AllocGlobal, S: Source, K: Sink, D: Feeds>(
     ensures words { result ≡ 1 ↔ ((c : Asked) → ¬ IsCommand (map string_bytes words.now) c) }
     ensures untouched { result ≡ 1 → (source.new ≡ source.old) × (sink.new ≡ sink.old) }
 
-    // What `run` reads and writes: there are draws of each cell under which its reply is that of a session that never moved.
-    ensures served { IsCommand (map string_bytes words.now) command.Run → ServesTold result (S.left source.old) (S.left source.new) (K.written sink.old) (K.written sink.new) }
-    ensures statuses { IsCommand (map string_bytes words.now) command.Run → IsStatus result }
+    // What `run` takes in, does and writes: journals that are legal histories of what was asked, and the frames that tell them.
+    ensures streams { (hosts workers : ℕ) → IsCommand (map string_bytes words.now) (command.Run hosts workers)
+        → StreamsTold notebooks hosts result (S.left source.old) (S.left source.new) (K.written sink.old) (K.written sink.new) }
+    ensures statuses { (hosts workers : ℕ) → IsCommand (map string_bytes words.now) (command.Run hosts workers) → IsStatus result }
+
+    // What `save` writes: the checkpoint of the session opened first, under a plan that no plan undercuts.
+    ensures saved { (w : Four) → IsCommand (map string_bytes words.now) (command.Save w)
+        → SavesTold w result (S.left source.old) (S.left source.new) (K.written sink.old) (K.written sink.new) }
 
     // What `plan` reads and says: the lines of a plan that no plan undercuts, shown by a flow.
     ensures planned { (w : Four) → IsCommand (map string_bytes words.now) (command.Plan w)
@@ -103,7 +85,10 @@ pub fn top<R: AllocGlobal, S: Source, K: Sink, D: Feeds>(
 {
     let alloc = rt.alloc();
     match command_of(words) {
-        Some(Command::Run) => run(alloc, source, sink, feeds),
+        Some(Command::Run { hosts, .. }) => run_stream::<Notebook, S, K, D>(
+            alloc, hosts, source, sink, feeds,
+        ),
+        Some(Command::Save(weights)) => save(alloc, source, sink, feeds, &weights),
         Some(Command::Plan(weights)) => say(alloc, source, sink, &Question::Plan(weights)),
         Some(Command::Restore) => say(alloc, source, sink, &Question::Restore),
         None => 1,

@@ -2,9 +2,10 @@ ghost use Rattle.std.specs.Prelude.{◌≡◌, IfOk};
 ghost use Rattle.nb_outside.specs.Counts.{HasRisen, HasRisenBy};
 ghost use Rattle.elastic_notebook.specs.Saying.{IsAsked, IsAnswered, Says, SaysTold};
 
-use crate::streams::{ReadingEnd, read_all, write_all};
+use crate::streams::{ReadingEnd, read_all};
 use graph_model::Weights;
 use nb_outside::{Sink, Source};
+use node_run::write_all;
 use plan_command::{Said, planned};
 use restore_command::restored;
 use std::alloc::{AllocError, Global};

@@ -1,35 +1,10 @@
 ghost use Rattle.std.specs.Prelude.{◌≡◌, ◌≢◌, ℕ, ◌<◌, ◌≤◌, List, ◌++◌, length, vec_len, Some, None, IfOk, OnOk, OnErr};
 ghost use Rattle.nb_outside.specs.Counts.{HasRisen, HasRisenBy};
-ghost use Rattle.nb_outside.specs.Streams.{Adds, Takes, IsAtEnd};
+ghost use Rattle.nb_outside.specs.Streams.{Takes, IsAtEnd};
 ghost use Rattle.elastic_notebook.specs.Reading.{MayGoOn, KeepsAll};
-ghost use Rattle.elastic_notebook.specs.Served.{AddsFront};
 
-use nb_outside::{ReadEnd, Sink, Source, WriteEnd};
+use nb_outside::{ReadEnd, Source};
 use std::alloc::{AllocError, Global};
-
-/// The sink met a fault.
-#[derive(Clone, Copy, Debug, PartialEq, Eq)]
-pub struct SinkFault;
-
-/// Writes all the bytes. After an error the first of them are written.
-pub fn write_all<K: Sink>(sink: &mut K, bytes: &[u8]) -> Result<(), SinkFault>
-    ensures ok { OnOk result (Adds (K.written sink.old) (K.written sink.new) bytes.now) }
-    ensures err { OnErr result (AddsFront (K.written sink.old) (K.written sink.new) bytes.now) }
-    ensures fault { OnErr result (HasRisen (K.faults sink.old) (K.faults sink.new)) }
-    ensures faults_stay { K.faults sink.old ≤ K.faults sink.new }
-{
-    let mut rest = bytes;
-    while !rest.is_empty() {
-        match sink.write(rest) {
-            WriteEnd::Wrote(count) => {
-                let (_, more) = rest.split_at(count);
-                rest = more;
-            }
-            WriteEnd::Failed => return Err(SinkFault),
-        }
-    }
-    Ok(())
-}
 
 /// How reading a source to its end ended.
 #[derive(Clone, Copy, Debug, PartialEq, Eq)]

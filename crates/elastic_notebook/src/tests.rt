@@ -104,18 +104,20 @@ fn faults_of_the_outside(rt: HostRuntime) -> Result<(), Fail> {
 }
 
 #[test]
-fn unsupported_input(rt: HostRuntime) -> Result<(), Fail> {
+fn a_stream_that_breaks_off(rt: HostRuntime) -> Result<(), Fail> {
     let (status, written) = served(&rt, &[], &[], &[])?;
     assert_eq!(rt; status, 0);
     assert_eq!(rt; written.len(), 0);
+    let bad_frame = "\"detail\":\"0\",\"name\":\"BadFrame\",\"number\":9";
     let (status, written) = served(&rt, &[0, 0, 1], &[], &[])?;
     assert_eq!(rt; status, 2);
-    assert_eq!(rt; written.len(), 0);
+    assert_eq!(rt; count_of(written.as_slice(), bad_frame), 1);
     let mut input = stream_of(rt.alloc(), &[])?;
     input.extend_from_slice(&1_048_577u32.to_be_bytes())?;
     let (status, written) = served(&rt, input.as_slice(), &[], &[])?;
     assert_eq!(rt; status, 2);
-    assert_eq!(rt; written.len(), 1386);
+    assert_eq!(rt; count_of(written.as_slice(), "\"name\":\"BadFrame\""), 1);
+    assert_eq!(rt; count_of(written.as_slice(), "kernel_open_reply"), 1);
     Ok(())
 }
 
@@ -566,5 +568,496 @@ fn a_cell_that_runs_again(rt: HostRuntime) -> Result<(), Fail> {
         assert_eq!(rt; told.0, status, "{code}");
         assert_eq!(rt; told.1.as_slice(), text.as_bytes(), "{code}");
     }
+    Ok(())
+}
+
+// ---- sessions that move
+
+/// What a frame asks.
+#[derive(Drop)]
+enum Asked {
+    Open(u32),
+    /// A cell with this code, written as a JSON text.
+    Cell(&'static str),
+    SilentCell(&'static str),
+    /// A move to this host: copies cost the first for each and the second for each byte, cells that run again the third and, for each step, the fourth.
+    Move(u32, [u32; 4]),
+    /// The same, on the control channel.
+    MoveAtOnce(u32, [u32; 4]),
+    Shutdown(bool),
+    /// A cell for a kernel that isn't opened.
+    Elsewhere,
+}
+
+const HERE: &str = "11111111-1111-4111-8111-111111111111";
+
+const NOWHERE: &str = "22222222-2222-4222-8222-222222222222";
+
+fn push_request(
+    alloc: Global,
+    out: &mut Vec<u8>,
+    number: u32,
+    channel: &str,
+    kind: &str,
+    content: &str,
+    kernel: &str,
+) -> Result<(), AllocError> {
+    let body = format!(in alloc;
+        "{{\"channel\":\"{channel}\",\"content\":{content},\"header\":{{\"msg_id\":\"m{number}\",\"msg_type\":\"{kind}\",\"session\":\"f1\"}},\"kernel\":\"{kernel}\"}}"
+    )?;
+    let length = u32::try_from(body.len()).unwrap_or(0);
+    out.extend_from_slice(&length.to_be_bytes())?;
+    out.extend_from_slice(body.as_bytes())
+}
+
+fn move_content(alloc: Global, to: u32, weights: &[u32; 4]) -> Result<String, AllocError> {
+    let [copy_base, per_byte, run_base, per_step] = weights;
+    format!(in alloc;
+        "{{\"to\":{to},\"copy_base\":{copy_base},\"per_byte\":{per_byte},\"run_base\":{run_base},\"per_step\":{per_step}}}"
+    )
+}
+
+fn push_asked(
+    alloc: Global,
+    out: &mut Vec<u8>,
+    number: u32,
+    asked: &Asked,
+) -> Result<(), AllocError> {
+    match asked {
+        Asked::Open(host) => {
+            let content = format!(in alloc; "{{\"host\":{host}}}")?;
+            push_request(
+                alloc,
+                out,
+                number,
+                "shell",
+                "kernel_open_request",
+                content.as_str(),
+                HERE,
+            )
+        }
+        Asked::Cell(code) => {
+            let content = format!(in alloc; "{{\"code\":\"{code}\"}}")?;
+            push_request(
+                alloc,
+                out,
+                number,
+                "shell",
+                "execute_request",
+                content.as_str(),
+                HERE,
+            )
+        }
+        Asked::SilentCell(code) => {
+            let content = format!(in alloc; "{{\"code\":\"{code}\",\"silent\":true}}")?;
+            push_request(
+                alloc,
+                out,
+                number,
+                "shell",
+                "execute_request",
+                content.as_str(),
+                HERE,
+            )
+        }
+        Asked::Move(to, weights) => {
+            let content = move_content(alloc, *to, weights)?;
+            push_request(
+                alloc,
+                out,
+                number,
+                "shell",
+                "migrate_request",
+                content.as_str(),
+                HERE,
+            )
+        }
+        Asked::MoveAtOnce(to, weights) => {
+            let content = move_content(alloc, *to, weights)?;
+            push_request(
+                alloc,
+                out,
+                number,
+                "control",
+                "migrate_request",
+                content.as_str(),
+                HERE,
+            )
+        }
+        Asked::Shutdown(restart) => {
+            let content = format!(in alloc; "{{\"restart\":{restart}}}")?;
+            push_request(
+                alloc,
+                out,
+                number,
+                "shell",
+                "shutdown_request",
+                content.as_str(),
+                HERE,
+            )
+        }
+        Asked::Elsewhere => push_request(
+            alloc,
+            out,
+            number,
+            "shell",
+            "execute_request",
+            "{\"code\":\"1\"}",
+            NOWHERE,
+        ),
+    }
+}
+
+/// The frames that ask this, one after the other.
+fn frames_of(alloc: Global, asked: &[Asked]) -> Result<Vec<u8>, AllocError> {
+    let mut out = Vec::new(alloc);
+    let mut number = 0u32;
+    for one in asked {
+        push_asked(alloc, &mut out, number, one)?;
+        number = number.saturating_add(1);
+    }
+    Ok(out)
+}
+
+/// What three hosts write for this: each text that doesn't stand in it as often as it should.
+fn wrong(
+    rt: &HostRuntime,
+    hosts: &str,
+    asked: &[Asked],
+    texts: &[(&str, usize)],
+) -> Result<String, AllocError> {
+    let alloc = rt.alloc();
+    let input = frames_of(alloc, asked)?;
+    let words = ["run", "--hosts", hosts, "--workers=2"];
+    let (status, written) = said(rt, &words, input.as_slice(), &[], &[])?;
+    let mut all = String::new(alloc);
+    if status != 0 {
+        all.push_str("status")?;
+    }
+    for (text, times) in texts {
+        let found = count_of(written.as_slice(), text);
+        if found != *times {
+            all.push_str(format!(in alloc; "{text} stands {found} times\n")?.as_str())?;
+        }
+    }
+    Ok(all)
+}
+
+/// Some asks of sessions, and what is written for them, and how often.
+struct Moves {
+    shows: &'static str,
+    hosts: &'static str,
+    asked: &'static [Asked],
+    texts: &'static [(&'static str, usize)],
+}
+
+const BY_STEPS: [u32; 4] = [0, 0, 0, 1];
+
+static MOVES: [Moves; 13] = [
+    Moves {
+        shows: "two names share a list after a move",
+        hosts: "3",
+        asked: &[
+            Asked::Open(0),
+            Asked::Cell("a = [1]"),
+            Asked::Cell("b = a"),
+            Asked::Move(1, BY_STEPS),
+            Asked::Cell("b.append(2)"),
+            Asked::Cell("a"),
+        ],
+        texts: &[
+            (
+                "{\"copied\":1,\"cost\":0,\"flow\":0,\"from\":0,\"objects\":1,\"rerun\":0,\"status\":\"ok\",\"to\":1}",
+                1,
+            ),
+            ("{\"items\":[[\"copy\",2]]}", 1),
+            (
+                "\"data\":{\"text/plain\":\"[1, 2]\"},\"execution_count\":4",
+                1,
+            ),
+        ],
+    },
+    Moves {
+        shows: "a list that holds itself",
+        hosts: "3",
+        asked: &[
+            Asked::Open(0),
+            Asked::Cell("a = []"),
+            Asked::Cell("a.append(a)"),
+            Asked::Move(1, BY_STEPS),
+            Asked::Cell("a"),
+        ],
+        texts: &[
+            ("\"objects\":1,\"rerun\":0", 1),
+            ("\"text/plain\":\"[[...]]\"", 1),
+        ],
+    },
+    Moves {
+        shows: "a cell that missed a name runs again before the name is bound",
+        hosts: "3",
+        asked: &[
+            Asked::Open(0),
+            Asked::Cell("x = 1"),
+            Asked::Cell("del x"),
+            Asked::Cell("y = 7\\nprint(x)"),
+            Asked::Cell("x = 4"),
+            Asked::Move(1, [1000, 0, 0, 1]),
+            Asked::Cell("print(x + y)"),
+        ],
+        texts: &[
+            ("[\"NameError: name 'x' is not defined\"]", 2),
+            (
+                "{\"items\":[[\"run\",1],[\"run\",2],[\"run\",3],[\"run\",4]]}",
+                1,
+            ),
+            (
+                "{\"arcs\":[[\"s\",\"v3\",9],[\"s\",\"v4\",2],[\"v3\",\"c3\",9],[\"v4\",\"c4\",2],[\"c2\",\"c1\",2],[\"c3\",\"c2\",3],[\"c1\",\"t\",2],[\"c2\",\"t\",1],[\"c3\",\"t\",6],[\"c4\",\"t\",2]]}",
+                1,
+            ),
+            (
+                "{\"copied\":0,\"cost\":11,\"flow\":11,\"from\":0,\"objects\":0,\"rerun\":4,\"status\":\"ok\",\"to\":1}",
+                1,
+            ),
+            ("\"text\":\"11\\n\"", 1),
+        ],
+    },
+    Moves {
+        shows: "a part that splits is two parts",
+        hosts: "3",
+        asked: &[
+            Asked::Open(0),
+            Asked::Cell("x = [1]"),
+            Asked::Cell("y = x"),
+            Asked::Cell("y = 5"),
+            Asked::Move(1, BY_STEPS),
+            Asked::Cell("x.append(y)"),
+            Asked::Cell("x"),
+        ],
+        texts: &[
+            ("{\"items\":[[\"copy\",3],[\"copy\",4]]}", 1),
+            ("\"objects\":1", 1),
+            ("\"text/plain\":\"[1, 5]\"", 1),
+        ],
+    },
+    Moves {
+        shows: "a handle is opened again on the new host",
+        hosts: "3",
+        asked: &[
+            Asked::Open(0),
+            Asked::Cell("draw()"),
+            Asked::Cell("n = draw()"),
+            Asked::Cell("h = handle(\\\"g\\\" + str(n))"),
+            Asked::Move(1, BY_STEPS),
+            Asked::Cell("tell(h)"),
+            Asked::Cell("h"),
+        ],
+        texts: &[
+            (
+                "{\"copied\":1,\"cost\":9,\"flow\":9,\"from\":0,\"objects\":1,\"rerun\":1,\"status\":\"ok\",\"to\":1}",
+                1,
+            ),
+            ("\"text/plain\":\"1\"", 1),
+            ("\"text/plain\":\"<handle 'g7'>\"", 1),
+        ],
+    },
+    Moves {
+        shows: "a handle that needs a draw is stuck",
+        hosts: "3",
+        asked: &[
+            Asked::Open(0),
+            Asked::Cell("draw()"),
+            Asked::Cell("n = draw()"),
+            Asked::Cell("h = handle(\\\"g\\\" + str(n))"),
+            Asked::Cell("n = 0"),
+            Asked::Move(1, BY_STEPS),
+            Asked::Cell("tell(h)"),
+        ],
+        texts: &[
+            (
+                "{\"cell\":2,\"ename\":\"Stuck\",\"evalue\":\"neither copied nor recomputed\",\"names\":[\"h\"],\"size\":1,\"status\":\"error\",\"version\":2}",
+                1,
+            ),
+            ("\"text/plain\":\"1\"", 1),
+        ],
+    },
+    Moves {
+        shows: "a key keeps its spelling through two moves",
+        hosts: "3",
+        asked: &[
+            Asked::Open(0),
+            Asked::Cell("d = {True: 1}"),
+            Asked::Cell("d[1] = 2"),
+            Asked::Move(1, BY_STEPS),
+            Asked::Cell("d"),
+            Asked::Move(2, BY_STEPS),
+            Asked::Cell("d"),
+        ],
+        texts: &[
+            ("\"text/plain\":\"{True: 2}\"},\"execution_count\":3", 1),
+            ("\"text/plain\":\"{True: 2}\"},\"execution_count\":4", 1),
+            ("\"objects\":1", 2),
+        ],
+    },
+    Moves {
+        shows: "the meter goes along",
+        hosts: "3",
+        asked: &[
+            Asked::Open(0),
+            Asked::Cell("t = 'x' * 4000000"),
+            Asked::Cell("t = 'y' * 4000000"),
+            Asked::Cell("t = 0"),
+            Asked::Move(1, BY_STEPS),
+            Asked::Move(0, BY_STEPS),
+            Asked::Cell("u = 'z' * 388608"),
+            Asked::Cell("v = 'a' + 'b'"),
+        ],
+        texts: &[
+            ("[\"MemoryError: meter spent\"]", 2),
+            ("\"status\":\"error\"", 1),
+            ("\"from\":1,\"objects\":0", 1),
+        ],
+    },
+    Moves {
+        shows: "a draw that failed isn't drawn again",
+        hosts: "3",
+        asked: &[
+            Asked::Open(0),
+            Asked::Cell("a = 1\\nb = draw()\\nc = 2"),
+            Asked::Move(1, [1000, 0, 0, 0]),
+            Asked::Cell("a"),
+            Asked::Cell("b"),
+        ],
+        texts: &[
+            ("[\"OSError: feed\"]", 2),
+            (
+                "{\"copied\":1,\"cost\":1000,\"flow\":1000,\"from\":0,\"objects\":0,\"rerun\":0,\"status\":\"ok\",\"to\":1}",
+                1,
+            ),
+            ("\"text/plain\":\"1\"", 1),
+            ("[\"NameError: name 'b' is not defined\"]", 2),
+        ],
+    },
+    Moves {
+        shows: "moves that are refused",
+        hosts: "64",
+        asked: &[
+            Asked::Open(0),
+            Asked::Cell("x = 1"),
+            Asked::Move(0, [1, 1, 1, 1]),
+            Asked::Move(64, [1, 1, 1, 1]),
+            Asked::Move(1, [1_000_001, 0, 0, 0]),
+            Asked::Cell("x"),
+        ],
+        texts: &[
+            (
+                "{\"ename\":\"SameHost\",\"evalue\":\"host 0\",\"status\":\"error\"}",
+                1,
+            ),
+            (
+                "{\"ename\":\"UnknownHost\",\"evalue\":\"host 64\",\"status\":\"error\"}",
+                1,
+            ),
+            (
+                "{\"ename\":\"BadWeights\",\"evalue\":\"copy_base\",\"status\":\"error\"}",
+                1,
+            ),
+            ("\"text/plain\":\"1\"", 1),
+        ],
+    },
+    Moves {
+        shows: "a silent cell raises no count",
+        hosts: "3",
+        asked: &[
+            Asked::Open(0),
+            Asked::SilentCell("print(1)"),
+            Asked::Cell("1"),
+        ],
+        texts: &[
+            ("\"msg_type\":\"stream\"", 0),
+            (
+                "{\"execution_count\":0,\"status\":\"ok\",\"user_expressions\":{}}",
+                1,
+            ),
+            ("\"text/plain\":\"1\"},\"execution_count\":1", 1),
+        ],
+    },
+    Moves {
+        shows: "a kernel begins anew, and then it is dead",
+        hosts: "3",
+        asked: &[
+            Asked::Open(0),
+            Asked::Cell("x = 1"),
+            Asked::Shutdown(true),
+            Asked::Cell("x"),
+            Asked::Shutdown(false),
+            Asked::Cell("1"),
+            Asked::Move(1, [0, 0, 0, 0]),
+        ],
+        texts: &[
+            ("[\"NameError: name 'x' is not defined\"]", 2),
+            ("[\"DeadKernel: kernel is dead\"]", 1),
+            (
+                "{\"ename\":\"DeadKernel\",\"evalue\":\"kernel is dead\",\"status\":\"error\"}",
+                1,
+            ),
+        ],
+    },
+    Moves {
+        shows: "errors of the node, and a move on the control channel, which comes first",
+        hosts: "3",
+        asked: &[
+            Asked::Elsewhere,
+            Asked::Open(0),
+            Asked::Open(1),
+            Asked::Cell("x = 1"),
+            Asked::MoveAtOnce(2, BY_STEPS),
+        ],
+        texts: &[
+            ("\"name\":\"UnknownKernel\",\"number\":3", 1),
+            ("\"name\":\"OpenedTwice\",\"number\":4", 1),
+            (
+                "{\"copied\":0,\"cost\":0,\"flow\":0,\"from\":0,\"objects\":0,\"rerun\":0,\"status\":\"ok\",\"to\":2}",
+                1,
+            ),
+        ],
+    },
+];
+
+#[test]
+fn sessions_move(rt: HostRuntime) -> Result<(), Fail> {
+    for row in &MOVES {
+        assert_eq!(rt;
+            wrong(&rt, row.hosts, row.asked, row.texts)?.as_str(),
+            "",
+            "{}",
+            row.shows
+        );
+    }
+    Ok(())
+}
+
+#[test]
+fn a_session_is_saved(rt: HostRuntime) -> Result<(), Fail> {
+    let alloc = rt.alloc();
+    let words = ["save", "0", "0", "0", "1"];
+    let two = frames_of(alloc, &[Asked::Open(0), Asked::Cell("x = 2")])?;
+    let told = said(&rt, &words, two.as_slice(), &[], &[])?;
+    assert_eq!(rt; told.0, 0);
+    assert_eq!(rt; told.1.as_slice(), TWO.as_slice());
+    assert_eq!(rt; said(&rt, &words, two.as_slice(), &[2], &[])?.0, 3);
+    assert_eq!(rt; said(&rt, &words, two.as_slice(), &[], &[1])?.0, 4);
+    let none = said(&rt, &words, &[], &[], &[])?;
+    assert_eq!(rt; none.0, 6);
+    assert_eq!(rt; none.1.len(), 0);
+    let stuck = [
+        Asked::Open(0),
+        Asked::Cell("draw()"),
+        Asked::Cell("n = draw()"),
+        Asked::Cell("h = handle(\\\"g\\\" + str(n))"),
+        Asked::Cell("n = 0"),
+    ];
+    let told = said(&rt, &words, frames_of(alloc, &stuck)?.as_slice(), &[], &[])?;
+    assert_eq!(rt; told.0, 6);
+    assert_eq!(rt; told.1.len(), 0);
     Ok(())
 }

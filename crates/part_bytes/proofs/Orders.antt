@@ -20,7 +20,7 @@ use Rattle.py_heap.proofs.Reached.{reached_live}
 use Rattle.py_heap.proofs.OneOrder.{one_list}
 use Rattle.part_bytes.specs.Parts.{found_by, order}
 
-member : (ns : List ℕ) (n : ℕ) → list_any (λ m. n == m) ns ≡ true → Contains ns n
+pub member : (ns : List ℕ) (n : ℕ) → list_any (λ m. n == m) ns ≡ true → Contains ns n
 member [] n h = absurd (false≢true h)
 member (m ∷ ns) n h = elim (or_cases (n == m) (list_any (λ m. n == m) ns) h) [
   | inl e ↦ (0, omega arith, sym (eqb-true n m e))

@@ -1,7 +1,8 @@
 -- Bytes that are written one piece after the other.
-use Rattle.std.proofs.Common.{◌≡◌, ℕ, ◌+◌, ◌<◌, List, [], ◌∷◌, ◌++◌, length, get_or, take, map, Some, refl, sym, ap, ◌∙◌, arith}
+use Rattle.std.proofs.Common.{◌≡◌, ℕ, zero, suc, ◌+◌, ◌<◌, List, [], ◌∷◌, ◌++◌, length, get_or, take, map, Some, Result, Ok, Err, OnOk, refl, sym, ap, ◌∙◌, subst, inl, inr, arith}
 use Rattle.std.specs.Prelude.{slice_get}
-use Rattle.std.specs.List.{flat_map}
+use Rattle.std.specs.List.{flat_map, AllWithin}
+use Rattle.std.proofs.lemmas.Bool.{cases_eq}
 use Rattle.std.proofs.lemmas.List.{append_assoc, length-append, map-append, take_more, flat_map_more}
 use Rattle.std.proofs.lemmas.List.Elements.{All-head, All-tail}
 use Rattle.std.proofs.lemmas.Option.{slice_get_within, get_or_from_slice_get}
@@ -15,6 +16,24 @@ use Rattle.py_heap.specs.References.{AreLive}
 use Rattle.part_bytes.specs.Parts.{order, number_in, numbered, numbered_pair, numbered_object, objects_of, held_of}
 use Rattle.part_bytes.specs.Texts.{four, name_bytes, value_bytes, held_bytes, pair_bytes, object_bytes, bytes_of, part_text}
 use Rattle.part_bytes.proofs.Places.{there}
+
+-- what holds always holds if all went well
+pub on_ok : {A B : Type 0} {P : Type 0} (r : Result A B) → P → OnOk r P
+on_ok (Ok x) p = p
+on_ok (Err e) p = tt
+
+-- whatever stands for a missing item, an item that is there is the same
+pub at_any : {A : Type 0} (xs : List A) (i : ℕ) (d e : A) → i < length xs → get_or xs i d ≡ get_or xs i e
+at_any [] i d e l = absurd (omega (arith, l))
+at_any (x ∷ xs) zero d e l = refl
+at_any (x ∷ xs) (suc i) d e l = at_any xs i d e (omega (arith, l))
+
+-- what holds of the first items and of the next holds of one more
+pub all_more : {A : Type 0} (P : A → Type 0) (xs : List A) (i : ℕ) (x : A) → i < length xs → x ≡ get_or xs i x → AllWithin P xs 0 i → P x → AllWithin P xs 0 (i + 1)
+all_more P xs i x l is front here k d low high = elim (cases_eq k i) [
+  | inl e ↦ subst P (is ∙ (at_any xs i x d l ∙ ap (λ (j : ℕ). get_or xs j d) (sym e))) here
+  | inr n ↦ front k d low (omega (arith, high, n))
+]
 
 pub piece_more : {B C : Type 0} (f : B → List C) (old out more : List C) (front : List B) (y : B) → out ≡ old ++ flat_map f front → more ≡ out ++ f y → more ≡ old ++ flat_map f (front ++ y ∷ [])
 piece_more {C = C} f old out more front y e k = k ∙ (ap (λ (zs : List C). zs ++ f y) e ∙ flat_map_more f old front y)

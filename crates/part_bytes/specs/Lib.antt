@@ -1,3 +1,4 @@
 pub mod Parts
 pub mod Texts
+pub mod Plain
 pub mod Examples

@@ -1,8 +1,9 @@
-ghost use Rattle.std.specs.Prelude.{◌≡◌, ◌++◌, map, OnOk};
+ghost use Rattle.std.specs.Prelude.{◌≡◌, ◌++◌, All, map, OnOk};
 ghost use Rattle.std.specs.List.{flat_map};
 ghost use Rattle.py_heap.specs.References.{AreLive};
 ghost use Rattle.part_bytes.specs.Parts.{number_in, numbered, numbered_pair, numbered_object, objects_of};
 ghost use Rattle.part_bytes.specs.Texts as spec;
+ghost use Rattle.part_bytes.specs.Plain.{IsPlain, IsPlainPair, IsPlainObject, IsPlainAt};
 
 use crate::numbers::Numbers;
 use crate::values::{write_count, write_key, write_text, write_value};
@@ -13,7 +14,8 @@ use std::alloc::AllocError;
 
 /// The items of a list.
 fn write_items(out: &mut Items<u8>, numbers: &Numbers, items: &[Value]) -> Result<(), AllocError>
-    ensures { OnOk result (out.new ≡ out.old ++ flat_map spec.value_bytes (map (numbered (number_in numbers.now.order)) items.now)) }
+    ensures bytes { OnOk result (out.new ≡ out.old ++ flat_map spec.value_bytes (map (numbered (number_in numbers.now.order)) items.now)) }
+    ensures plain { OnOk result (All IsPlain items.now) }
 {
     for value in items {
         write_value(out, numbers, value)?;
@@ -23,7 +25,8 @@ fn write_items(out: &mut Items<u8>, numbers: &Numbers, items: &[Value]) -> Resul
 
 /// The pairs of a dict, in their order.
 fn write_pairs(out: &mut Items<u8>, numbers: &Numbers, dict: &Dict) -> Result<(), AllocError>
-    ensures { OnOk result (out.new ≡ out.old ++ flat_map spec.pair_bytes (map (numbered_pair (number_in numbers.now.order)) dict.now)) }
+    ensures bytes { OnOk result (out.new ≡ out.old ++ flat_map spec.pair_bytes (map (numbered_pair (number_in numbers.now.order)) dict.now)) }
+    ensures plain { OnOk result (All IsPlainPair dict.now) }
 {
     for index in 0..dict.len() {
         let (key, value) = dict.pair_at(index);
@@ -38,7 +41,8 @@ fn write_list(
     numbers: &Numbers,
     items: &Items<Value>,
 ) -> Result<(), AllocError>
-    ensures { OnOk result (out.new ≡ out.old ++ spec.object_bytes (numbered_object (number_in numbers.now.order) (Object.List items.now))) }
+    ensures bytes { OnOk result (out.new ≡ out.old ++ spec.object_bytes (numbered_object (number_in numbers.now.order) (Object.List items.now))) }
+    ensures plain { OnOk result (IsPlainObject (Object.List items.now)) }
 {
     out.push(16)?;
     write_count(out, items.len())?;
@@ -46,7 +50,8 @@ fn write_list(
 }
 
 fn write_dict(out: &mut Items<u8>, numbers: &Numbers, dict: &Dict) -> Result<(), AllocError>
-    ensures { OnOk result (out.new ≡ out.old ++ spec.object_bytes (numbered_object (number_in numbers.now.order) (Object.Dict dict.now))) }
+    ensures bytes { OnOk result (out.new ≡ out.old ++ spec.object_bytes (numbered_object (number_in numbers.now.order) (Object.Dict dict.now))) }
+    ensures plain { OnOk result (IsPlainObject (Object.Dict dict.now)) }
 {
     out.push(17)?;
     write_count(out, dict.len())?;
@@ -55,7 +60,8 @@ fn write_dict(out: &mut Items<u8>, numbers: &Numbers, dict: &Dict) -> Result<(),
 
 /// A function, as its source.
 fn write_function(out: &mut Items<u8>, function: &Function) -> Result<(), AllocError>
-    ensures { OnOk result (out.new ≡ out.old ++ spec.object_bytes (Object.Function function.now)) }
+    ensures bytes { OnOk result (out.new ≡ out.old ++ spec.object_bytes (Object.Function function.now)) }
+    ensures plain { OnOk result (IsPlainObject (Object.Function function.now)) }
 {
     out.push(18)?;
     let def = function.def();
@@ -64,7 +70,8 @@ fn write_function(out: &mut Items<u8>, function: &Function) -> Result<(), AllocE
 
 /// An object. A handle has no bytes.
 fn write_object(out: &mut Items<u8>, numbers: &Numbers, object: &Object) -> Result<(), AllocError>
-    ensures { OnOk result (out.new ≡ out.old ++ spec.object_bytes (numbered_object (number_in numbers.now.order) object.now)) }
+    ensures bytes { OnOk result (out.new ≡ out.old ++ spec.object_bytes (numbered_object (number_in numbers.now.order) object.now)) }
+    ensures plain { OnOk result (IsPlainObject object.now) }
 {
     match object {
         Object::List(items) => write_list(out, numbers, items),
@@ -81,7 +88,8 @@ pub(crate) fn write_objects(
     state: &State,
 ) -> Result<(), AllocError>
     requires { AreLive state.now.heap numbers.now.order }
-    ensures { OnOk result (out.new ≡ out.old ++ flat_map spec.object_bytes (flat_map (objects_of state.now (number_in numbers.now.order)) numbers.now.order)) }
+    ensures bytes { OnOk result (out.new ≡ out.old ++ flat_map spec.object_bytes (flat_map (objects_of state.now (number_in numbers.now.order)) numbers.now.order)) }
+    ensures plain { OnOk result (All (IsPlainAt state.now) numbers.now.order) }
 {
     for at in numbers.order.as_slice() {
         write_object(out, numbers, state.get(*at))?;

@@ -1,8 +1,10 @@
-ghost use Rattle.std.specs.Prelude.{◌≡◌, [], ◌∷◌, ◌++◌, length, OnOk};
+ghost use Rattle.std.specs.Prelude.{◌≡◌, ◌<◌, ◌^◌, [], ◌∷◌, ◌++◌, length, OnOk, FitsSigned};
+ghost use Rattle.std.specs.Int.{w128};
 ghost use Rattle.std.specs.List.{flat_map};
 ghost use Rattle.py_value.specs.Keys.{value_of};
 ghost use Rattle.part_bytes.specs.Parts.{number_in, numbered};
 ghost use Rattle.part_bytes.specs.Texts as spec;
+ghost use Rattle.part_bytes.specs.Plain.{IsText, IsPlain};
 
 use crate::numbers::{Numbers, count_of};
 use byteorder::{BigEndian, ByteOrder};
@@ -22,9 +24,10 @@ pub fn write_four(out: &mut Items<u8>, n: u32) -> Result<(), AllocError>
     out.extend_from_slice(&bytes)
 }
 
-/// A count.
+/// A count. One of 2^32 or more is want of memory.
 pub fn write_count(out: &mut Items<u8>, n: usize) -> Result<(), AllocError>
-    ensures { OnOk result (out.new ≡ out.old ++ spec.four n) }
+    ensures bytes { OnOk result (out.new ≡ out.old ++ spec.four n) }
+    ensures few { OnOk result (n < 2 ^ 32) }
 {
     write_four(out, count_of(n)?)
 }
@@ -41,7 +44,8 @@ fn write_sixteen(out: &mut Items<u8>, n: i128) -> Result<(), AllocError>
 
 /// A text after its length.
 pub fn write_text(out: &mut Items<u8>, text: &str) -> Result<(), AllocError>
-    ensures { OnOk result (out.new ≡ out.old ++ spec.text_bytes text.now) }
+    ensures bytes { OnOk result (out.new ≡ out.old ++ spec.text_bytes text.now) }
+    ensures plain { OnOk result (IsText text.now) }
 {
     write_count(out, text.len())?;
     out.extend_from_slice(text.as_bytes())
@@ -54,14 +58,16 @@ fn write_truth(out: &mut Items<u8>, truth: bool) -> Result<(), AllocError>
 }
 
 fn write_number(out: &mut Items<u8>, number: i128) -> Result<(), AllocError>
-    ensures { OnOk result (out.new ≡ out.old ++ spec.value_bytes (Value.Number number)) }
+    ensures bytes { OnOk result (out.new ≡ out.old ++ spec.value_bytes (Value.Number number)) }
+    ensures plain { FitsSigned w128 number }
 {
     out.push(3)?;
     write_sixteen(out, number)
 }
 
 fn write_text_value(out: &mut Items<u8>, text: &SharedText) -> Result<(), AllocError>
-    ensures { OnOk result (out.new ≡ out.old ++ spec.value_bytes (Value.Text text.now)) }
+    ensures bytes { OnOk result (out.new ≡ out.old ++ spec.value_bytes (Value.Text text.now)) }
+    ensures plain { OnOk result (IsText text.now) }
 {
     out.push(4)?;
     write_text(out, text.as_str())
@@ -99,7 +105,8 @@ fn write_builtin(out: &mut Items<u8>, builtin: Builtin) -> Result<(), AllocError
 
 /// A key, as the value that it is.
 pub(crate) fn write_key(out: &mut Items<u8>, key: &Key) -> Result<(), AllocError>
-    ensures { OnOk result (out.new ≡ out.old ++ spec.value_bytes (value_of key.now)) }
+    ensures bytes { OnOk result (out.new ≡ out.old ++ spec.value_bytes (value_of key.now)) }
+    ensures plain { OnOk result (IsPlain (value_of key.now)) }
 {
     match key {
         Key::Nothing => out.push(0),
@@ -115,7 +122,8 @@ pub(crate) fn write_value(
     numbers: &Numbers,
     value: &Value,
 ) -> Result<(), AllocError>
-    ensures { OnOk result (out.new ≡ out.old ++ spec.value_bytes (numbered (number_in numbers.now.order) value.now)) }
+    ensures bytes { OnOk result (out.new ≡ out.old ++ spec.value_bytes (numbered (number_in numbers.now.order) value.now)) }
+    ensures plain { OnOk result (IsPlain value.now) }
 {
     match value {
         Value::Nothing => out.push(0),

@@ -1,9 +1,10 @@
-ghost use Rattle.std.specs.Prelude.{◌≡◌, ◌++◌, map, length, IfOk, OnOk};
+ghost use Rattle.std.specs.Prelude.{◌≡◌, ◌++◌, All, map, length, IfOk, OnOk};
 ghost use Rattle.std.specs.List.{flat_map};
 ghost use Rattle.py_heap.specs.References.{IsClosed};
 ghost use Rattle.part_bytes.specs.Parts.{number_in, held_of};
 ghost use Rattle.part_bytes.specs.Texts as spec;
 ghost use Rattle.part_bytes.specs.Texts.{part_text};
+ghost use Rattle.part_bytes.specs.Plain.{IsPlainIn, IsPlainPart};
 
 use crate::numbers::Numbers;
 use crate::objects::write_objects;
@@ -42,7 +43,8 @@ fn write_held(
     state: &State,
     name: &Text,
 ) -> Result<(), AllocError>
-    ensures { OnOk result (out.new ≡ out.old ++ spec.held_bytes (held_of state.now (number_in numbers.now.order) name.now)) }
+    ensures bytes { OnOk result (out.new ≡ out.old ++ spec.held_bytes (held_of state.now (number_in numbers.now.order) name.now)) }
+    ensures plain { OnOk result (IsPlainIn state.now name.now) }
 {
     match state.look(name) {
         Some(value) => write_value(out, numbers, value),
@@ -57,7 +59,8 @@ fn write_all_held(
     state: &State,
     names: &[Text],
 ) -> Result<(), AllocError>
-    ensures { OnOk result (out.new ≡ out.old ++ flat_map spec.held_bytes (map (held_of state.now (number_in numbers.now.order)) names.now)) }
+    ensures bytes { OnOk result (out.new ≡ out.old ++ flat_map spec.held_bytes (map (held_of state.now (number_in numbers.now.order)) names.now)) }
+    ensures plain { OnOk result (All (IsPlainIn state.now) names.now) }
 {
     for name in names {
         write_held(out, numbers, state, name)?;
@@ -69,7 +72,8 @@ fn write_all_held(
 /// count of 2^32 or more, or a name of more than 255 bytes, has no text: that is want of memory.
 pub fn write_part(alloc: Global, state: &State, names: &[Text]) -> Result<Items<u8>, AllocError>
     requires { IsClosed state.now }
-    ensures { IfOk result (λ bytes. bytes ≡ part_text state.now names.now) }
+    ensures bytes { IfOk result (λ bytes. bytes ≡ part_text state.now names.now) }
+    ensures plain { OnOk result (IsPlainPart state.now names.now) }
 {
     let numbers = Numbers::new(alloc, state, names)?;
     let mut out = Items::new(alloc);

@@ -30,8 +30,8 @@ use Rattle.part_bytes.proofs.Orders.{order_lists, order_first}
 use Rattle.part_bytes.proofs.Pieces.{as_many}
 use Rattle.part_loader.specs.Loading.{Globals, globals_of, state_of}
 use Rattle.replay_laws.specs.Tidied.{AtPlace}
-use Rattle.part_copies.proofs.Places.{value_moved, object_moved, moved_at}
-use Rattle.part_copies.proofs.Places.{from_place, to_zero, from_zero, held_live, object_live}
+use Rattle.replay_laws.proofs.Renumbering.{value_moved, object_moved, moved_at}
+use Rattle.replay_laws.proofs.Tidying.{from_place, to_zero, from_zero, held_live, object_live}
 
 -- ---- the names
 

@@ -7,7 +7,7 @@ use Rattle.std.specs.Cmp.{IsEquivalence}
 use Rattle.std.specs.Cmp.Rules.{comparing}
 use Rattle.std.proofs.lemmas.Bool.{cases_Bool}
 use Rattle.std.proofs.lemmas.List.{length-append, length-map}
-use Rattle.std.proofs.lemmas.List.Elements.{Contains-append_left, Contains-append_right}
+use Rattle.std.proofs.lemmas.List.Elements.{recursion_from_All, Contains-append_left, Contains-append_right}
 use Rattle.std.proofs.lemmas.Option.{slice_get_within, slice_get-get_or}
 use Rattle.std.proofs.Math.Seq.{get_or-append_seam}
 use Rattle.py_names.specs.Names.{is_variable}
@@ -24,10 +24,11 @@ use Rattle.py_machine.specs.Runs.{Name}
 use Rattle.py_laws.proofs.Partners.{first_in}
 use Rattle.graph_model.specs.Faults.{TextBelow, Ascends}
 use Rattle.part_bytes.specs.Parts.{number_in, numbered, numbered_pair, numbered_object}
+use Rattle.part_bytes.specs.Plain.{IsPlain, IsPlainPair, IsPlainObject}
 use Rattle.part_reader.specs.Reading.{stands_after, follows}
 use Rattle.part_spelling.specs.Spelled.{IsValue, ArePairs, IsObject, AreNames}
-use Rattle.part_copies.proofs.Places.{number_at}
-use Rattle.part_copies.specs.Written.{IsPlain, IsPlainPair, IsPlainObject}
+use Rattle.replay_laws.proofs.Renumbering.{number_at}
+use Rattle.part_copies.specs.Written.{IsWritable}
 
 -- ---- values
 
@@ -111,11 +112,17 @@ module _ (order : List ℕ) (few : length order < 2 ^ 32) where
 
   -- ---- objects
 
-  pub object_kept : (o : Object) → IsPlainObject o → AreThere (object_refs o) → IsObject (numbered_object Number o)
-  object_kept (object.List items) p k = (let e : length (map (numbered Number) items) ≡ length items = length-map items (numbered Number) in omega (arith, e, p.0), items_kept items p.1 k)
-  object_kept (object.Dict pairs) p k = (let e : length (map (numbered_pair Number) pairs) ≡ length pairs = length-map pairs (numbered_pair Number) in omega (arith, e, p.0), pairs_kept [] pairs (none_yet pairs) p.1 p.2 k)
-  object_kept (object.Function def) p k = p
-  object_kept (object.Handle name uses) p k = absurd p
+  pub object_kept : (o : Object) → IsPlainObject o → IsWritable o → AreThere (object_refs o) → IsObject (numbered_object Number o)
+  object_kept (object.List items) p w k = (
+    let e : length (map (numbered Number) items) ≡ length items = length-map items (numbered Number) in omega (arith, e, p.0),
+    items_kept items (recursion_from_All IsPlain items p.1) k,
+  )
+  object_kept (object.Dict pairs) p w k = (
+    let e : length (map (numbered_pair Number) pairs) ≡ length pairs = length-map pairs (numbered_pair Number) in omega (arith, e, p.0),
+    pairs_kept [] pairs (none_yet pairs) w (recursion_from_All IsPlainPair pairs p.1) k,
+  )
+  object_kept (object.Function def) p w k = (p, w)
+  object_kept (object.Handle name uses) p w k = absurd w
 
 -- ---- names
 

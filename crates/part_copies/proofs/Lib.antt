@@ -1,4 +1,3 @@
-pub mod Places
 pub mod Copied
 pub mod Counting
 pub mod Keeping

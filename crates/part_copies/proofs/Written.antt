@@ -1,16 +1,13 @@
 -- What is written of a state has a text.
-use Rattle.std.proofs.Common.{◌≡◌, ◌≢◌, ℕ, suc, ◌+◌, ◌<◌, ◌≤◌, ◌^◌, ◌==◌, not, true, List, [], ◌∷◌, ◌++◌, map, length, get_or, Some, option_map, refl, sym, ap, ◌∙◌, subst, inl, inr, arith}
+use Rattle.std.proofs.Common.{◌≡◌, ◌≢◌, ℕ, ◌+◌, ◌<◌, ◌^◌, ◌==◌, not, true, List, [], ◌∷◌, ◌++◌, map, length, get_or, Some, option_map, refl, sym, ap, ◌∙◌, subst, inl, inr, arith}
 use Rattle.std.specs.Prelude.{Contains, AllPairs, slice_get, option_to_list, filter}
-use Rattle.std.specs.List.{flat_map, AllByRecursion, list_any}
+use Rattle.std.specs.List.{flat_map, AllByRecursion}
 use Rattle.std.specs.FinMap as finite
-use Rattle.std.proofs.lemmas.Bool.{false≢true, cases_lt, or_cases, eqb-true, eq-eqb}
+use Rattle.std.proofs.lemmas.Bool.{cases_lt, eq-eqb}
 use Rattle.std.proofs.lemmas.List.{append-nil, append_assoc, length-append, length-map, get_or_append_left}
-use Rattle.std.proofs.lemmas.List.Elements.{Contains-get_or, Contains-append_right}
+use Rattle.std.proofs.lemmas.List.Elements.{All-contains, Contains-get_or, Contains-append_right}
 use Rattle.std.proofs.lemmas.Option.{slice_get-get_or}
 use Rattle.std.proofs.lemmas.Grind.{flat_map-append, fold-append}
-use Rattle.std.proofs.lemmas.Map.Steps.{length-le_from_distinct_below}
-use Rattle.std.proofs.lemmas.Map.Made.{IsDistinct-from_AllPairs}
-use Rattle.std.proofs.lemmas.Bool.Decides.{Decides-eqb}
 use Rattle.std.proofs.Math.Seq.{get_or-append_seam}
 use Rattle.py_value.specs.declared.value.Value.{Value}
 use Rattle.py_heap.specs.declared.heap.Object.{Object}
@@ -27,22 +24,13 @@ use Rattle.py_laws.proofs.Partners.{first_in, later_in}
 use Rattle.py_laws.proofs.Reached.{reached_live}
 use Rattle.run_graph.proofs.Reached.{has_value}
 use Rattle.part_bytes.specs.Parts.{order, number_in, numbered, numbered_object, objects_of, held_of, part_of}
+use Rattle.part_bytes.specs.Plain.{IsPlainIn, IsPlainAt}
 use Rattle.part_bytes.proofs.Orders.{order_lists, order_first}
 use Rattle.part_bytes.proofs.Pieces.{as_many}
 use Rattle.part_spelling.specs.Spelled.{counted, IsHeld, AreObjects, IsPart}
 use Rattle.part_copies.specs.Written.{CanBeWritten}
 use Rattle.part_copies.proofs.Counting.{counts, refs_object, refs_names, in_longer}
 use Rattle.part_copies.proofs.Keeping.{value_kept, object_kept, names_kept}
-
-shorter : (a b c : ℕ) → a ≤ b → b < c → a < c
-shorter a b c l k = omega (arith, l, k)
-
-in_list : (ns : List ℕ) (n : ℕ) → list_any (λ m. n == m) ns ≡ true → Contains ns n
-in_list [] n h = absurd (false≢true h)
-in_list (m ∷ ns) n h = elim (or_cases (n == m) (list_any (λ m. n == m) ns) h) [
-  | inl e ↦ (0, omega arith, sym (eqb-true n m e))
-  | inr k ↦ let c = in_list ns n k in (suc c.0, let l : c.0 < length ns = c.1 in omega arith, c.2)
-]
 
 module _ (s : State) (names : List Name) (closed : IsClosed s) where
   abbrev Found : List ℕ
@@ -117,10 +105,10 @@ module _ (s : State) (names : List Name) (closed : IsClosed s) where
 
   module _ (w : CanBeWritten s names) where
     few : length Found < 2 ^ 32
-    few =
-        let l : length Found ≤ length s.heap = length-le_from_distinct_below Found (length s.heap) (IsDistinct-from_AllPairs Decides-eqb Found apart) (λ at h. live at (in_list Found at h)) in
-        let k = w.few_objects in
-        shorter (length Found) (length s.heap) (2 ^ 32) l k
+    few = w.plain.few_objects
+
+    object_plain : (at : ℕ) → Contains Found at → IsPlainAt s at
+    object_plain at c = All-contains (IsPlainAt s) Found at w.plain.objects c
 
     objects_from : (front rest : List ℕ) → Found ≡ front ++ rest → AreObjects (length front) (length (seen_by front)) (length Found) (flat_map (objects_of s Number) rest)
     objects_from front [] e = tt
@@ -142,7 +130,7 @@ module _ (s : State) (names : List Name) (closed : IsClosed s) where
         ∙ (counts Found (object_refs o) (seen_by front) m.0 g ∙ ap (λ (zs : List ℕ). Some (length zs)) (sym seen)) in
         let all : length Found ≡ next + length m.0 = ap (λ (zs : List ℕ). length zs) m.1 ∙ length-append (seen_by (front ++ at ∷ [])) m.0 in
         let size : length (front ++ at ∷ []) ≡ length front + 1 = length-append front (at ∷ []) in
-        let kept = object_kept Found few o (w.objects at o near there) (λ b k. (reached b).1 (reaching.held at b near (subst (λ (ns : List ℕ). Contains ns b) (sym refs) k))) in
+        let kept = object_kept Found few o (object_plain at c o there) (w.objects at o near there) (λ b k. (reached b).1 (reaching.held at b near (subst (λ (ns : List ℕ). Contains ns b) (sym refs) k))) in
         subst (λ os. AreObjects (length front) (length (seen_by front)) (length Found) (os ++ flat_map (objects_of s Number) rest)) (sym one) (
           before front rest at e,
           kept,
@@ -156,7 +144,7 @@ module _ (s : State) (names : List Name) (closed : IsClosed s) where
 
     held_kept : (x : Name) → Contains names x → IsHeld (length names == 1) (held_of s Number x)
     held_kept x c = elim (has_value s x) [
-      | inl v ↦ subst (λ o. IsHeld (length names == 1) o) (sym (ap (option_map (numbered Number)) v.1)) (value_kept Found few v.0 (w.values x v.0 c v.1) (value_there x v.0 c v.1))
+      | inl v ↦ subst (λ o. IsHeld (length names == 1) o) (sym (ap (option_map (numbered Number)) v.1)) (value_kept Found few v.0 (All-contains (IsPlainIn s) names x w.plain.values c v.0 v.1) (value_there x v.0 c v.1))
       | inr none ↦ subst (λ o. IsHeld (length names == 1) o) (sym (ap (option_map (numbered Number)) none)) (eq-eqb (length names) 1 (w.alone x c none))
     ]
 
@@ -182,7 +170,7 @@ module _ (s : State) (names : List Name) (closed : IsClosed s) where
         let z = size in
         record {
           some = w.some;
-          few = w.few;
+          few = w.plain.few;
           names = names_kept names w.ascend w.variables;
           as_many = length-map names (held_of s Number);
           values = values_kept names (λ x c. c);

@@ -22,7 +22,7 @@ name-ascii : (cs : List ℕ) → is_spelled_as_name cs ≡ true → IsAscii cs
 name-ascii [] e = IsAscii-nil
 name-ascii (c ∷ cs) e = let both = and_parts _ _ e in IsAscii-cons c cs (begins_name-ascii c both.0) (all_ascii cs both.1)
 
-identifier-utf8 : (cs : List ℕ) → is_identifier cs ≡ true → IsUtf8 cs
+pub identifier-utf8 : (cs : List ℕ) → is_identifier cs ≡ true → IsUtf8 cs
 identifier-utf8 cs e = IsUtf8-from_ascii cs (name-ascii cs (and_parts _ _ e).0)
 
 pub no_variable : (xs : List ℕ) → (IsUtf8 xs → ⊥) → is_variable xs ≡ false

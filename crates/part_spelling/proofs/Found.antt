@@ -16,7 +16,8 @@ use Rattle.part_reader.specs.declared.fault.PartFault.TheVariants.{Cut, BadText}
 use Rattle.part_reader.specs.declared.spot.Spot.{Spot}
 use Rattle.part_reader.specs.Reads.{Answer, Read, pure, after, more}
 use Rattle.part_reader.specs.Reading.{taken, byte, four, sixteen, text, text_of}
-use Rattle.part_spelling.specs.Spelled.{IsText, counted}
+use Rattle.part_bytes.specs.Plain.{IsText}
+use Rattle.part_spelling.specs.Spelled.{counted}
 use Rattle.part_spelling.proofs.Numbers.{IsBytes, bytes_back}
 use Rattle.part_spelling.proofs.Offs.{answer, Stands, some_same, AllGood}
 

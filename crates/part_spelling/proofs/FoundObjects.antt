@@ -25,7 +25,8 @@ use Rattle.part_reader.specs.declared.fault.PartFault.TheVariants.{BadTag, BadRe
 use Rattle.part_reader.specs.declared.spot.Spot.{Spot}
 use Rattle.part_reader.specs.Reads.{pure, after, more}
 use Rattle.part_reader.specs.Reading.{byte, four, text, function_of, value, pair, list, dict, function, is_object_tag, content, object_by, object, bounded, objects}
-use Rattle.part_spelling.specs.Spelled.{IsText, IsValue, IsObject, AreObjects}
+use Rattle.part_bytes.specs.Plain.{IsText}
+use Rattle.part_spelling.specs.Spelled.{IsValue, IsObject, AreObjects}
 use Rattle.part_spelling.proofs.Numbers.{IsBytes}
 use Rattle.part_spelling.proofs.Offs.{answer, Stands, some_same}
 use Rattle.part_spelling.proofs.Values.{GoodPair}

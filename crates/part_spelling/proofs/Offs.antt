@@ -14,7 +14,8 @@ use Rattle.part_bytes.specs.Texts.{four as four_bytes, sixteen as sixteen_bytes,
 use Rattle.part_reader.specs.declared.spot.Spot.{Spot}
 use Rattle.part_reader.specs.Reads.{Answer, Read, pure, after, more}
 use Rattle.part_reader.specs.Reading.{taken, byte, four, sixteen, text, text_of}
-use Rattle.part_spelling.specs.Spelled.{IsText, counted}
+use Rattle.part_bytes.specs.Plain.{IsText}
+use Rattle.part_spelling.specs.Spelled.{counted}
 
 -- ---- tests of numbers
 

@@ -2,7 +2,6 @@
 use Rattle.std.specs.Prelude.{◌≡◌, ℕ, ◌+◌, ◌<◌, ◌≤◌, ◌^◌, ◌==◌, nat_lt, Bool, true, if◌then◌else◌, FitsSigned, List, [], ◌∷◌, ◌++◌, length, Option, Some, None, Ok}
 use Rattle.std.specs.List.{flat_map, AllByRecursion}
 use Rattle.std.specs.Int.{w128}
-use Rattle.std.specs.Str.{is_utf8}
 use Rattle.py_names.specs.Names.{is_variable}
 use Rattle.py_reader.specs.DefinitionVerdict.{verdict_alone}
 use Rattle.py_value.specs.declared.value.Value.{Value}
@@ -14,6 +13,7 @@ use Rattle.py_heap.specs.Dicts.{Pairs, value_under}
 use Rattle.py_heap.specs.References.{value_refs, object_refs}
 use Rattle.py_heap.specs.Reaching.{held_refs}
 use Rattle.part_bytes.specs.declared.part.PartValue.{PartValue}
+use Rattle.part_bytes.specs.Plain.{IsText}
 use Rattle.part_reader.specs.Reading.{follows}
 
 -- ---- numbers of objects
@@ -24,9 +24,6 @@ counted met [] = Some met
 counted met (n ∷ ns) = if nat_lt n met then counted met ns else (if n == met then counted (met + 1) ns else None)
 
 -- ---- what has bytes
-
-abbrev pub IsText : List ℕ → Type 0
-IsText text = (is_utf8 text ≡ true) × (length text < 2 ^ 32)
 
 abbrev pub IsValue : Value → Type 0
 IsValue (the_value.Number n) = FitsSigned w128 n

@@ -29,7 +29,8 @@ fn raised(alloc: Global, error: PyError) -> Result<Failure, AllocError>
     })
 }
 
-fn failure_of(alloc: Global, error: CellError) -> Result<Failure, AllocError>
+/// How a cell failed: the name of its error, and what it says.
+pub fn failure_of(alloc: Global, error: CellError) -> Result<Failure, AllocError>
     ensures { IfOk result (λ failure. failure ≡ spec.failure error) }
 {
     match error {
@@ -41,8 +42,8 @@ fn failure_of(alloc: Global, error: CellError) -> Result<Failure, AllocError>
     }
 }
 
-/// Why a code has no tree.
-fn refused(alloc: Global, fault: SyntaxFault) -> Result<Failure, AllocError>
+/// Why a code has no tree, as a SyntaxError.
+pub fn refused(alloc: Global, fault: SyntaxFault) -> Result<Failure, AllocError>
     ensures { IfOk result (λ failure. failure ≡ spec.refused fault) }
 {
     Ok(Failure {

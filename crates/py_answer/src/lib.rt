@@ -8,4 +8,4 @@ mod answering;
 #[cfg(test)]
 mod tests;
 
-pub use answering::{Answered, answer};
+pub use answering::{Answered, answer, failure_of, refused};

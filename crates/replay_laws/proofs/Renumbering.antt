@@ -78,7 +78,7 @@ keys_have t x = (
 
 -- ---- each address in a list has a number there, which is its place
 
-number_at : (ns : List ℕ) (at : ℕ) → Contains ns at → slice_get ns (number_in ns at) ≡ Some at
+pub number_at : (ns : List ℕ) (at : ℕ) → Contains ns at → slice_get ns (number_in ns at) ≡ Some at
 number_at [] at c = absurd (none_in at c)
 number_at (n ∷ ns) at c = elim (cases_Bool (n == at)) [
   | inl e ↦ rw e (ap (λ k. Some k) (eqb-true n at e))
@@ -95,7 +95,7 @@ module _ (order : List ℕ) where
   abbrev AreThere : List ℕ → Type 0
   AreThere ns = (a : ℕ) → Contains ns a → Contains order a
 
-  value_moved : (v : Value) → AreThere (value_refs v) → ValuesMatch (AtPlace order) v (numbered Number v)
+  pub value_moved : (v : Value) → AreThere (value_refs v) → ValuesMatch (AtPlace order) v (numbered Number v)
   value_moved (value.Ref at) k = refs at (number_in order at) (number_at order at (k at (first_in at [])))
   value_moved value.Nothing k = equal value.Nothing refl
   value_moved (value.Bool truth) k = equal (value.Bool truth) refl
@@ -117,7 +117,7 @@ module _ (order : List ℕ) where
     pairs_moved vs (λ a c. k a (Contains-append_right (pair_refs v) (flat_map pair_refs vs) a c)),
   )
 
-  object_moved : (o : Object) → AreThere (object_refs o) → ObjectsMatch (AtPlace order) o (numbered_object Number o)
+  pub object_moved : (o : Object) → AreThere (object_refs o) → ObjectsMatch (AtPlace order) o (numbered_object Number o)
   object_moved (object.List items) k = items_moved items k
   object_moved (object.Dict pairs) k = pairs_moved pairs k
   object_moved (object.Function def) k = refl
@@ -128,7 +128,7 @@ module _ (order : List ℕ) where
     one_moved n o e = ap (λ z. map (numbered_object Number) (option_to_list z)) e
 
     -- in the list of the moved objects each has the place of its address
-    moved_at : (ns : List ℕ) → ((a : ℕ) → Contains ns a → a < length t.heap) → (k at : ℕ) (o : Object) → slice_get ns k ≡ Some at → slice_get t.heap at ≡ Some o
+    pub moved_at : (ns : List ℕ) → ((a : ℕ) → Contains ns a → a < length t.heap) → (k at : ℕ) (o : Object) → slice_get ns k ≡ Some at → slice_get t.heap at ≡ Some o
         → slice_get (flat_map (objects_of t Number) ns) k ≡ Some (numbered_object Number o)
     moved_at [] live k at o e h = absurd (none-some at e)
     moved_at (n ∷ ns) live zero at o e h =

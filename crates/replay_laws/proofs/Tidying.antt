@@ -23,7 +23,7 @@ use Rattle.replay_laws.specs.Tidied.{AtPlace, IsTidied, AreObjectsOf}
 
 -- ---- the pairs of a list with its places
 
-from_place : ℕ → List ℕ → Pairs
+pub from_place : ℕ → List ℕ → Pairs
 from_place k [] = []
 from_place k (a ∷ order) = (a, k) ∷ from_place (suc k) order
 
@@ -43,10 +43,10 @@ from_pair k (b ∷ order) a i h = elim (pair_cases (b, k) (from_place (suc k) or
   | inr q ↦ let w = from_pair (suc k) order a i q in (suc w.0, omega (arith, w.1), w.2)
 ]
 
-to_zero : (order : List ℕ) → IsWithin (AtPlace order) (HasPair (from_place 0 order))
+pub to_zero : (order : List ℕ) → IsWithin (AtPlace order) (HasPair (from_place 0 order))
 to_zero order a k e = to_pair 0 order a k e k (omega arith)
 
-from_zero : (order : List ℕ) → IsWithin (HasPair (from_place 0 order)) (AtPlace order)
+pub from_zero : (order : List ℕ) → IsWithin (HasPair (from_place 0 order)) (AtPlace order)
 from_zero order a k h =
     let w = from_pair 0 order a k h in
     let e : k ≡ w.0 = omega (arith, w.1) in
@@ -60,11 +60,11 @@ tidied_same t u h = record {
 }
 
 -- each reference of it is one of its objects
-held_live : (ps : ℕ → ℕ → Type 0) (n : ℕ) → ((a b : ℕ) → ps a b → a < n) → (v : Value) (o : Option Value) → BothOrNone (ValuesMatch ps) (Some v) o → All (λ at. at < n) (value_refs v)
+pub held_live : (ps : ℕ → ℕ → Type 0) (n : ℕ) → ((a b : ℕ) → ps a b → a < n) → (v : Value) (o : Option Value) → BothOrNone (ValuesMatch ps) (Some v) o → All (λ at. at < n) (value_refs v)
 held_live ps n below v (Some w) h = live_value ps n below v w h
 held_live ps n below v None h = absurd h
 
-object_live : (ps : ℕ → ℕ → Type 0) (n : ℕ) → ((a b : ℕ) → ps a b → a < n) → (x : Object) (o : Option Object) → Both (ObjectsMatch ps) (Some x) o → All (λ at. at < n) (object_refs x)
+pub object_live : (ps : ℕ → ℕ → Type 0) (n : ℕ) → ((a b : ℕ) → ps a b → a < n) → (x : Object) (o : Option Object) → Both (ObjectsMatch ps) (Some x) o → All (λ at. at < n) (object_refs x)
 object_live ps n below x (Some y) h = live_object ps n below x y h
 object_live ps n below x None h = absurd h
 

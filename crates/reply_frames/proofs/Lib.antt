@@ -1,4 +1,3 @@
-pub mod CutLaws
 pub mod NoFloats
 pub mod Saying
 pub mod Floats

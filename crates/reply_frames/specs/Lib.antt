@@ -1,4 +1,3 @@
-pub mod Cuts
 pub mod Messages
 pub mod Frames
 pub mod Replies

@@ -5,7 +5,7 @@ use Rattle.session_core.specs.declared.request.Channel.{Channel}
 use Rattle.session_core.specs.declared.request.Channel.TheVariants.{Shell, Control}
 use Rattle.py_session.specs.declared.reply.Failure.{Failure}
 use Rattle.py_session.specs.declared.reply.Reply.{Reply}
-use Rattle.reply_frames.specs.Cuts.{prefix_within, pieces}
+use Rattle.text_cuts.specs.Cuts.{prefix_within, pieces}
 
 -- ---- JSON
 

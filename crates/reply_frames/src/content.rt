@@ -5,11 +5,11 @@ ghost use Rattle.reply_frames.specs.Messages as said;
 ghost use Rattle.reply_frames.specs.Messages.{json, whole};
 ghost use Rattle.reply_frames.specs.Replies as replies;
 
-use crate::cut::cut_at;
 use plain_data::Text;
 use py_session::Failure;
 use serde_json::{Value, json};
 use std::alloc::{AllocError, Global};
+use text_cuts::cut_at;
 
 pub fn status_content(alloc: Global, state: &str) -> Result<Value, AllocError>
     ensures { IfOk result (λ v. view v ≡ json ((codes "execution_state", string state.now) ∷ [])) }

@@ -6,13 +6,13 @@ use crate::content::{
     error_content, input_content, open_content, reply_content, result_content, status_content,
     stream_content,
 };
-use crate::cut::cut_at;
 use crate::message::kernel_name;
 use crate::outbox::Outbox;
 use jupyter_messages::{Channel, Header};
 use plain_data::{Items, Text};
 use py_session::{Failure, Reply};
 use std::alloc::{AllocError, Global};
+use text_cuts::cut_at;
 
 pub fn say_status(
     outbox: &mut Outbox,
@@ -81,7 +81,7 @@ fn say_stream(
 }
 
 /// The printed text, in pieces of at most 65,536 bytes.
-#[tactic(auto, unfolding(crate::specs::Cuts::pieces))]
+#[tactic(auto, unfolding(text_cuts::specs::Cuts::pieces))]
 pub fn say_streams(
     outbox: &mut Outbox,
     alloc: Global,

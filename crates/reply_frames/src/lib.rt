@@ -6,7 +6,6 @@
 #![tactic(auto)]
 
 mod content;
-mod cut;
 mod entry;
 mod journal;
 pub mod laws;

@@ -1,15 +1,16 @@
-ghost use Rattle.std.specs.Prelude.{◌≡◌, ◌<◌, ◌≤◌, ◌++◌, [], ◌∷◌, IfOk};
-ghost use Rattle.std.specs.Prelude.{false};
+ghost use Rattle.std.specs.Prelude.{◌≡◌, ◌<◌, ◌≤◌, ◌++◌, [], ◌∷◌, true, false, IfOk, MatchOption};
 ghost use Rattle.session_core.specs.Asks.{IsWork};
-ghost use Rattle.session_core.specs.Legal.{asked, IsLegal};
+ghost use Rattle.session_core.specs.Engines.{Packs};
+ghost use Rattle.session_core.specs.Legal.{progress_of, asked, IsLegal};
 ghost use Rattle.session_core.specs.Stepping.{GoesOn};
 ghost use Rattle.session_core.specs.Aloneness.{IsAlone};
 
-use crate::engine::Engine;
+use crate::engine::{Engine, PackFault, Packed};
 use crate::entry::Entry;
 use crate::journal::Journal;
 use crate::request::{Channel, Header, Request};
 use crate::steps::{answer_dead, attempt, serve};
+use graph_model::Weights;
 use nb_outside::Feed;
 use std::alloc::{AllocError, Global};
 use std::marker::Model;
@@ -71,6 +72,17 @@ impl<E: Engine + Drop> Alone<E> {
         ensures { result.now ≡ self.now.entries }
     {
         self.journal.entries()
+    }
+
+    /// What the session is packed as under these weights, or why it isn't; `None` where it is dead.
+    pub fn pack(&self, alloc: Global, weights: &Weights) -> Option<Result<Packed, PackFault>>
+        ensures { MatchOption result ((progress_of self.now.entries).dead ≡ true)
+            (λ packed. ((progress_of self.now.entries).dead ≡ false) × Packs E.meaning (progress_of self.now.entries).served weights.now packed) }
+    {
+        if self.dead {
+            return None;
+        }
+        Some(self.engine.pack(alloc, weights))
     }
 
     /// Makes room for so many more entries.

@@ -98,7 +98,8 @@ pub enum Entry {
     },
 }
 
-fn copies_of_texts(alloc: Global, texts: &[Text]) -> Result<Items<Text>, AllocError>
+/// Equal texts, in their order.
+pub fn copies_of_texts(alloc: Global, texts: &[Text]) -> Result<Items<Text>, AllocError>
     ensures { IfOk result (λ copies. copies ≡ texts.now) }
 {
     let mut copies = Vec::new(alloc);

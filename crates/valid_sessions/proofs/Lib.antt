@@ -1,1 +1,1 @@
-mod Sessions
+pub mod Sessions

@@ -1,7 +1,7 @@
 use Rattle.std.proofs.Common.{◌++◌, refl, ap, ◌∙◌, subst}
 use Rattle.std.specs.Prelude.{List, ℕ}
 use Rattle.nb_outside.specs.Streams.{Adds}
-use Rattle.elastic_notebook.specs.Served.{AddsFront}
+use Rattle.node_run.specs.Frames.{AddsFront}
 use Rattle.elastic_notebook.proofs.Telling.{said_answered, told_all, told_front}
 use Rattle.elastic_notebook.proofs.say.say.Goals as goal
 

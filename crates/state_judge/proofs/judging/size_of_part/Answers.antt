@@ -10,6 +10,6 @@ pub returns : goal.returns
 returns c =
     let s = c.args.state.now in
     c.len.ensures
-    ∙ (ap (λ (bytes : List ℕ). length bytes) c.in_ok-bytes.ensures
+    ∙ (ap (λ (bytes : List ℕ). length bytes) c.in_ok-bytes.ensures.bytes
     ∙ (ap (λ (names : List (List ℕ)). length (part_text s names)) c.as_slice.ensures
     ∙ plain_size s c.args.part.now c.requires.closed c.requires.part c.if-part.false))

@@ -1,0 +1,56 @@
+-- What is taken in of a stream of bytes.
+use Rattle.std.specs.Prelude.{◌≡◌, ◌≢◌, ℕ, ◌⊎◌, Bool, true, false, List, [], length, map, Option, Some, None}
+use Rattle.std.specs.List.{flat_map, AllByRecursion}
+use Rattle.nb_outside.specs.Streams.{IsAtEnd}
+use Rattle.jupyter_frames.specs.Framing.{frame, IsBody, IsBegun, IsBad, IsRest, stream, place_after, Held}
+use Rattle.reply_frames.specs.Intake.{Node, no_sessions, with_frames}
+use Rattle.node_intake.specs.declared.session.TakenIn.{TakenIn}
+use Rattle.node_intake.specs.declared.session.IntakeEnd.{IntakeEnd}
+use Rattle.node_intake.specs.declared.session.IntakeEnd.TheVariants.{End, Failed, TooMany}
+use Rattle.node_intake.specs.Sessions.{taken_of}
+
+-- the sessions and the errors
+abbrev pub node_in : TakenIn → Node
+node_in t = record { sessions = map taken_of t.sessions; errors = t.errors }
+
+-- This was taken in of these bytes: all whole frames up to the first place where none stands, and that place.
+pub record IsTakenIn (hosts : ℕ) (bytes : List ℕ) (t : TakenIn) : Type 0 where
+  pub bodies : List (List ℕ)
+  pub rest : List ℕ
+  pub are_bodies : AllByRecursion IsBody bodies
+  pub is_rest : IsRest rest
+  pub is_stream : bytes ≡ stream bodies rest
+  pub node : node_in t ≡ with_frames hosts no_sessions bodies
+  pub broken : ((rest ≡ []) × (t.broken ≡ None)) ⊎ ((rest ≢ []) × (t.broken ≡ Some (place_after 0 (length (flat_map frame bodies)))))
+
+-- how taking in ended, with this left in the source, and this not taken in of what came: at the end of the input or at a
+-- bad length, or before any
+abbrev pub EndsSo : IntakeEnd → Option (List ℕ) → List ℕ → Type 0
+EndsSo End left rest = (IsAtEnd left × IsBegun rest) ⊎ ((n : ℕ) × IsBad rest n)
+EndsSo Failed left rest = IsBegun rest
+EndsSo TooMany left rest = IsBegun rest
+
+-- ---- on the way
+
+-- of these bytes the whole frames were taken in, and the others are held
+pub record TookSoFar (hosts : ℕ) (bytes : List ℕ) (held : Held) (node : Node) : Type 0 where
+  pub bodies : List (List ℕ)
+  pub are_bodies : AllByRecursion IsBody bodies
+  pub is_stream : bytes ≡ stream bodies held.bytes
+  pub place : held.place ≡ place_after 0 (length (flat_map frame bodies))
+  pub is_node : node ≡ with_frames hosts no_sessions bodies
+
+-- no whole frame is held, and a bad length only where no more may come
+abbrev pub Stands : Bool → List ℕ → Type 0
+Stands true rest = IsBegun rest
+Stands false rest = (n : ℕ) × IsBad rest n
+
+-- the same where more may come
+abbrev pub EndsOrGoesOn : Option IntakeEnd → Option (List ℕ) → List ℕ → Type 0
+EndsOrGoesOn None left rest = IsBegun rest
+EndsOrGoesOn (Some end) left rest = EndsSo end left rest
+
+-- where the bytes that are held begin, if there are any
+abbrev pub IsPlaceOf : Held → Option ℕ → Type 0
+IsPlaceOf held None = held.bytes ≡ []
+IsPlaceOf held (Some place) = (held.bytes ≢ []) × (place ≡ held.place)

@@ -1,0 +1,53 @@
+//! The frames that are held, taken in one after the other.
+
+ghost use Rattle.std.specs.Prelude.{◌≡◌, ℕ, List, IfOk, OnOk};
+ghost use Rattle.node_intake.specs.Taking.{TookSoFar, Stands, IsPlaceOf, node_in};
+
+use crate::node::Intake;
+use crate::session::TakenIn;
+use jupyter_frames::{FrameFault, Framer, Next};
+use plain_data::Items;
+use std::alloc::{AllocError, Global};
+
+/// Takes in the whole frames that are held, and gives whether more may come: not where a bad length stands after them.
+pub fn take_frames(
+    alloc: Global,
+    hosts: u32,
+    framer: &mut Framer,
+    node: &mut Intake,
+) -> Result<bool, AllocError>
+    ensures took { OnOk result ((bytes : List ℕ) → TookSoFar hosts bytes framer.old node.old → TookSoFar hosts bytes framer.new node.new) }
+    ensures stands { IfOk result (λ more. Stands more framer.new.bytes) }
+{
+    loop {
+        match framer.next(alloc) {
+            Next::Frame(body) => node.take_body(alloc, hosts, body.as_slice())?,
+            Next::NotYet => return Ok(true),
+            Next::Bad(_) => return Ok(false),
+            Next::OutOfMemory => return Err(AllocError),
+        }
+    }
+}
+
+/// Where the bytes that are held begin, if there are any.
+fn broken_at(framer: &Framer) -> Option<u64>
+    ensures { IsPlaceOf framer.now result }
+{
+    match framer.end() {
+        Ok(()) => None,
+        Err(FrameFault::Cut(place)) | Err(FrameFault::BadLength(place, _)) => Some(place),
+    }
+}
+
+/// What was taken in, where no more comes.
+pub fn taken_in(framer: &Framer, node: Intake) -> TakenIn
+    ensures node { node_in result ≡ node }
+    ensures broken { IsPlaceOf framer.now result.broken }
+{
+    let Intake { sessions, errors } = node;
+    TakenIn {
+        sessions: Items::from_vec(sessions),
+        errors: Items::from_vec(errors),
+        broken: broken_at(framer),
+    }
+}

@@ -1,0 +1,36 @@
+use plain_data::Items;
+use reply_frames::NodeError;
+use session_core::{Channel, Header, Request};
+
+/// A session as it was opened, and what was asked of it.
+#[derive(Debug, Drop)]
+pub struct Session {
+    pub kernel: u128,
+    pub host: u32,
+    pub request: Header,
+    pub channel: Channel,
+    pub requests: Items<Request>,
+}
+
+/// What was taken in.
+#[derive(Debug, Drop)]
+pub struct TakenIn {
+    /// The sessions, in the order in which they were opened.
+    pub sessions: Items<Session>,
+    /// The errors, in order. That the stream is broken is none of them.
+    pub errors: Items<NodeError>,
+    /// Where the stream stops being frames: the place of the first byte of a length that no frame has, or of a frame that is
+    /// cut off.
+    pub broken: Option<u64>,
+}
+
+/// How taking in ended.
+#[derive(Clone, Copy, Debug, PartialEq, Eq)]
+pub enum IntakeEnd {
+    /// The input ended, or a length that no frame has stands in it.
+    End,
+    /// The source met a fault.
+    Failed,
+    /// 4,294,967,295 reads each took a byte.
+    TooMany,
+}

@@ -1,0 +1,315 @@
+-- How a run ends, and what it did then.
+use Rattle.std.proofs.Common.{◌≡◌, ◌≢◌, ℕ, ◌<◌, Bool, true, false, List, [], ◌∷◌, ◌++◌, length, Option, Some, None, Result, Ok, Err, refl, ap, sym, ◌∙◌, subst, ◌⊎◌, inl, inr, arith}
+use Rattle.std.specs.Prelude.{IfOk, map, nat_le, ◌==◌, cond}
+use Rattle.std.specs.List.{flat_map}
+use Rattle.std.proofs.lemmas.Bool.{leb-false}
+use Rattle.std.proofs.lemmas.List.{append-nil}
+use Rattle.nb_outside.specs.Streams.{Adds, Takes}
+use Rattle.jupyter_frames.specs.Framing.{frame, IsBad, place_after}
+use Rattle.session_core.specs.declared.request.Ask.{Ask}
+use Rattle.session_core.specs.declared.request.Request.{Request}
+use Rattle.session_core.specs.Meanings.{Meaning}
+use Rattle.jupyter_messages.specs.declared.message.Message.{Message}
+use Rattle.jupyter_messages.specs.declared.message.MessageKind.{MessageKind}
+use Rattle.jupyter_messages.specs.declared.message.MessageKind.TheVariants as message
+use Rattle.jupyter_messages.specs.declared.fault.MessageFault.{MessageFault}
+use Rattle.jupyter_messages.specs.declared.fault.MessageFault.TheVariants as fault
+use Rattle.jupyter_messages.specs.Reading.{message_in}
+use Rattle.reply_frames.specs.declared.node.NodeError.{NodeError}
+use Rattle.reply_frames.specs.declared.node.NodeErrorKind.TheVariants as kind
+use Rattle.reply_frames.specs.Intake.{Taken, Node, no_sessions, most_sessions, most_requests, failed, unread, session_of, opening, with_request, asking, with_kind, with_message, with_frames, ended, node_of}
+use Rattle.node_intake.specs.declared.session.TakenIn.{TakenIn}
+use Rattle.node_intake.specs.declared.session.IntakeEnd.{IntakeEnd}
+use Rattle.node_intake.specs.declared.session.IntakeEnd.TheVariants as intake
+use Rattle.node_intake.specs.Sessions.{taken_of}
+use Rattle.node_intake.specs.Taking.{IsTakenIn, EndsSo}
+use Rattle.node_run.specs.declared.end.RunEnd.{RunEnd}
+use Rattle.node_run.specs.declared.end.RunEnd.TheVariants.{Whole, Broken, SourceFailed, TooManyReads}
+use Rattle.node_run.specs.Journals.{AreHosted, Run, journal_of, journals_of, AreRuns, AreJournals}
+use Rattle.node_run.specs.Frames.{journal_frames, session_frames, run_frames, error_frames, AddsFront}
+use Rattle.node_run.specs.Ends.{status_of, node_at, EndsAt, end_after, errors_after}
+use Rattle.node_run.specs.Streams.{HasRun, Writes, StreamsTold}
+
+-- ---- each session that is opened is on a host that is there
+
+hosted_more : (hosts : ℕ) (ss : List Taken) (s : Taken) → AreHosted hosts ss → s.host < hosts → AreHosted hosts (ss ++ s ∷ [])
+hosted_more hosts [] s are is = (is, tt)
+hosted_more hosts (first ∷ ss) s are is = (are.0, hosted_more hosts ss s are.1 is)
+
+host_stays : (b : Bool) (r : Request) (s : Taken) → (cond b (record s { requests = s.requests ++ r ∷ [] }) s).host ≡ s.host
+host_stays true r s = refl
+host_stays false r s = refl
+
+hosted_with : (hosts k : ℕ) (r : Request) (ss : List Taken) → AreHosted hosts ss → AreHosted hosts (map (with_request k r) ss)
+hosted_with hosts k r [] are = tt
+hosted_with hosts k r (s ∷ ss) are = (subst (λ n. n < hosts) (sym (host_stays (s.kernel == k) r s)) are.0, hosted_with hosts k r ss are.1)
+
+opening_new : (hosts : ℕ) (node : Node) (m : Message) (host : ℕ) (b c : Bool) → nat_le hosts host ≡ b → nat_le most_sessions (length node.sessions) ≡ c → AreHosted hosts node.sessions
+    → AreHosted hosts (opening hosts node m host None).sessions
+opening_new hosts node m host true c is full are = rw is are
+opening_new hosts node m host false true is full are = rw is (rw full are)
+opening_new hosts node m host false false is full are = rw is (rw full (hosted_more hosts node.sessions _ are (leb-false hosts host is)))
+
+opening_hosted : (hosts : ℕ) (node : Node) (m : Message) (host : ℕ) (known : Option Taken) → AreHosted hosts node.sessions → AreHosted hosts (opening hosts node m host known).sessions
+opening_hosted hosts node m host (Some s) are = are
+opening_hosted hosts node m host None are = opening_new hosts node m host _ _ refl refl are
+
+asking_known : (hosts : ℕ) (node : Node) (m : Message) (what : Ask) (s : Taken) (b : Bool) → nat_le most_requests (length s.requests) ≡ b → AreHosted hosts node.sessions
+    → AreHosted hosts (asking node m what (Some s)).sessions
+asking_known hosts node m what s true is are = rw is are
+asking_known hosts node m what s false is are = rw is (hosted_with hosts m.kernel _ node.sessions are)
+
+asking_hosted : (hosts : ℕ) (node : Node) (m : Message) (what : Ask) (known : Option Taken) → AreHosted hosts node.sessions → AreHosted hosts (asking node m what known).sessions
+asking_hosted hosts node m what None are = are
+asking_hosted hosts node m what (Some s) are = asking_known hosts node m what s _ refl are
+
+kind_hosted : (hosts : ℕ) (node : Node) (m : Message) (k : MessageKind) → AreHosted hosts node.sessions → AreHosted hosts (with_kind hosts node m k).sessions
+kind_hosted hosts node m (message.Open host) are = opening_hosted hosts node m host (session_of m.kernel node.sessions) are
+kind_hosted hosts node m (message.Ask what) are = asking_hosted hosts node m what (session_of m.kernel node.sessions) are
+
+unread_hosted : (hosts : ℕ) (node : Node) (why : MessageFault) → AreHosted hosts node.sessions → AreHosted hosts (unread node why).sessions
+unread_hosted hosts node fault.OutOfMemory are = are
+unread_hosted hosts node fault.NotJson are = are
+unread_hosted hosts node (fault.NoField name) are = are
+unread_hosted hosts node (fault.WrongKind name) are = are
+unread_hosted hosts node fault.BadUuid are = are
+unread_hosted hosts node (fault.UnknownType name) are = are
+
+message_hosted : (hosts : ℕ) (node : Node) (r : Result Message MessageFault) → AreHosted hosts node.sessions → AreHosted hosts (with_message hosts node r).sessions
+message_hosted hosts node (Ok m) are = kind_hosted hosts node m m.kind are
+message_hosted hosts node (Err why) are = unread_hosted hosts node why are
+
+frames_hosted : (hosts : ℕ) (node : Node) (bodies : List (List ℕ)) → AreHosted hosts node.sessions → AreHosted hosts (with_frames hosts node bodies).sessions
+frames_hosted hosts node [] are = are
+frames_hosted hosts node (body ∷ bodies) are = frames_hosted hosts (with_message hosts node (message_in body)) bodies (message_hosted hosts node (message_in body) are)
+
+pub taken_hosted : (hosts : ℕ) (bytes : List ℕ) (t : TakenIn) → IsTakenIn hosts bytes t → AreHosted hosts (map taken_of t.sessions)
+taken_hosted hosts bytes t taken = subst (λ (n : Node). AreHosted hosts n.sessions) (sym taken.node) (frames_hosted hosts no_sessions taken.bodies tt)
+
+-- ---- the node of a run
+
+ended_none : (node : Node) (place : ℕ) (rest : List ℕ) → rest ≡ [] → ended node place rest ≡ node
+ended_none node place rest none = ap (ended node place) none
+
+ended_some : (node : Node) (place : ℕ) (rest : List ℕ) → rest ≢ [] → ended node place rest ≡ failed node (kind.BadFrame place) None
+ended_some node place [] some = absurd (some refl)
+ended_some node place (byte ∷ rest) some = refl
+
+-- a node with these sessions and errors
+record Agrees (node : Node) (sessions : List Taken) (errors : List NodeError) : Type 0 where
+  are_sessions : sessions ≡ node.sessions
+  are_errors : errors ≡ node.errors
+
+same_node : (node other : Node) (sessions : List Taken) (errors : List NodeError) → other ≡ node → Agrees node sessions errors → Agrees other sessions errors
+same_node node other sessions errors is agrees = subst (λ (n : Node). Agrees n sessions errors) (sym is) agrees
+
+no_bad : (rest : List ℕ) (n : ℕ) → rest ≡ [] → IsBad rest n → ⊥
+no_bad rest n none bad = let l = ap length none in omega (arith, l, bad.0)
+
+abbrev IsBrokenAt : List ℕ → ℕ → Option ℕ → Type 0
+IsBrokenAt rest place broken = ((rest ≡ []) × (broken ≡ None)) ⊎ ((rest ≢ []) × (broken ≡ Some place))
+
+ends_at : (end : IntakeEnd) (left : Option (List ℕ)) (rest : List ℕ) (place : ℕ) (broken : Option ℕ) → EndsSo end left rest → IsBrokenAt rest place broken → EndsAt (end_after end broken) left rest
+ends_at intake.End left rest place None (inl p) (inl none) = (p.0, none.0)
+ends_at intake.End left rest place None (inr bad) (inl none) = absurd (no_bad rest bad.0 none.0 bad.1)
+ends_at intake.End left rest place None ends (inr some) = cc
+ends_at intake.End left rest place (Some p) ends (inl none) = cc
+ends_at intake.End left rest place (Some p) ends (inr some) = (some.0, ends)
+ends_at intake.Failed left rest place broken ends is = ends
+ends_at intake.TooMany left rest place broken ends is = ends
+
+node_agrees : (end : IntakeEnd) (hosts : ℕ) (bodies : List (List ℕ)) (rest : List ℕ) (broken : Option ℕ) (sessions : List Taken) (errors : List NodeError)
+    → IsBrokenAt rest (place_after 0 (length (flat_map frame bodies))) broken → Agrees (with_frames hosts no_sessions bodies) sessions errors
+    → Agrees (node_at (end_after end broken) hosts bodies rest) sessions (errors_after end broken errors)
+node_agrees intake.End hosts bodies rest None sessions errors (inl none) agrees =
+    same_node (with_frames hosts no_sessions bodies) (node_of hosts bodies rest) sessions errors (ended_none (with_frames hosts no_sessions bodies) _ rest none.0) agrees
+node_agrees intake.End hosts bodies rest None sessions errors (inr some) agrees = cc
+node_agrees intake.End hosts bodies rest (Some p) sessions errors (inl none) agrees = cc
+node_agrees intake.End hosts bodies rest (Some p) sessions errors (inr some) agrees =
+    let node = with_frames hosts no_sessions bodies in
+    let place = place_after 0 (length (flat_map frame bodies)) in
+    let same : p ≡ place = cc in
+    same_node (failed node (kind.BadFrame place) None) (node_of hosts bodies rest) sessions _ (ended_some node place rest some.0) (record {
+      are_sessions = agrees.are_sessions;
+      are_errors = ap (λ es. es ++ record { kind = kind.BadFrame p; about = None } ∷ []) agrees.are_errors
+          ∙ ap (λ q. node.errors ++ record { kind = kind.BadFrame q; about = None } ∷ []) same;
+    })
+node_agrees intake.Failed hosts bodies rest broken sessions errors is agrees = agrees
+node_agrees intake.TooMany hosts bodies rest broken sessions errors is agrees = agrees
+
+pub has_run : (meaning : Meaning) (hosts : ℕ) (bytes : List ℕ) (left : Option (List ℕ)) (t : TakenIn) (end : IntakeEnd) (run_end : RunEnd) (errors : List NodeError) (runs : List Run)
+    → (taken : IsTakenIn hosts bytes t) → EndsSo end left taken.rest → run_end ≡ end_after end t.broken → errors ≡ errors_after end t.broken t.errors → AreRuns meaning hosts (map taken_of t.sessions) runs
+    → HasRun meaning hosts run_end bytes left errors runs
+has_run meaning hosts bytes left t end run_end errors runs taken ends is are_errors are_runs =
+    let plain : Agrees (with_frames hosts no_sessions taken.bodies) (map taken_of t.sessions) t.errors =
+    record { are_sessions = ap (λ (n : Node). n.sessions) taken.node; are_errors = ap (λ (n : Node). n.errors) taken.node } in
+    let agrees = node_agrees end hosts taken.bodies taken.rest t.broken (map taken_of t.sessions) t.errors taken.broken plain in
+    subst (λ (e : RunEnd). HasRun meaning hosts e bytes left errors runs) (sym is) (record {
+      node = node_at (end_after end t.broken) hosts taken.bodies taken.rest;
+      is_node = record {
+        bodies = taken.bodies;
+        rest = taken.rest;
+        are_bodies = taken.are_bodies;
+        is_rest = taken.is_rest;
+        is_stream = taken.is_stream;
+        is_node = refl;
+        ends = ends_at end left taken.rest _ t.broken ends taken.broken;
+      };
+      errors_are = are_errors ∙ agrees.are_errors;
+      are_runs = subst (λ ss. AreRuns meaning hosts ss runs) agrees.are_sessions are_runs;
+    })
+
+pub failed_end : (end : IntakeEnd) (broken : Option ℕ) → end_after end broken ≡ SourceFailed → end ≡ intake.Failed
+failed_end intake.End None e = cc
+failed_end intake.End (Some place) e = cc
+failed_end intake.Failed broken e = refl
+failed_end intake.TooMany broken e = cc
+
+pub many_end : (end : IntakeEnd) (broken : Option ℕ) → end_after end broken ≡ TooManyReads → end ≡ intake.TooMany
+many_end intake.End None e = cc
+many_end intake.End (Some place) e = cc
+many_end intake.Failed broken e = cc
+many_end intake.TooMany broken e = refl
+
+-- what follows from facts of the Ok case
+pub if_ok : {A E : Type 0} {P Q : A → Type 0} (r : Result A E) → IfOk r P → ((x : A) → P x → Q x) → IfOk r Q
+if_ok (Ok x) p f = f x p
+if_ok (Err e) p f = tt
+
+pub if_ok_three : {A E : Type 0} {P Q R S : A → Type 0} (r : Result A E) → IfOk r P → IfOk r Q → IfOk r R → ((x : A) → P x → Q x → R x → S x) → IfOk r S
+if_ok_three (Ok x) p q s f = f x p q s
+if_ok_three (Err e) p q s f = tt
+
+-- ---- what is written of it
+
+are_journals : (meaning : Meaning) (hosts : ℕ) (ss : List Taken) (runs : List Run) → AreRuns meaning hosts ss runs → AreJournals meaning hosts ss (journals_of runs)
+are_journals meaning hosts [] [] are = tt
+are_journals meaning hosts [] (r ∷ runs) are = absurd are
+are_journals meaning hosts (s ∷ ss) [] are = absurd are
+are_journals meaning hosts (s ∷ ss) (r ∷ runs) are = (are.0.1, are_journals meaning hosts ss runs are.1)
+
+same_frames : (meaning : Meaning) (hosts : ℕ) (ss : List Taken) (runs : List Run) → AreRuns meaning hosts ss runs → run_frames runs ≡ session_frames ss (journals_of runs)
+unfolding run_frames session_frames
+same_frames meaning hosts [] [] are = refl
+same_frames meaning hosts [] (r ∷ runs) are = absurd are
+same_frames meaning hosts (s ∷ ss) [] are = absurd are
+same_frames meaning hosts (s ∷ ss) (r ∷ runs) are =
+    ap (λ k. journal_frames k 1 (journal_of r) ++ run_frames runs) are.0.0 ∙ ap (λ z. journal_frames s.kernel 1 (journal_of r) ++ z) (same_frames meaning hosts ss runs are.1)
+
+pub same_written : (es fs : List NodeError) (rs ss : List Run) → es ≡ fs → rs ≡ ss → error_frames 1 es ++ run_frames rs ≡ error_frames 1 fs ++ run_frames ss
+same_written es fs rs ss p q = ap (λ z. error_frames 1 z ++ run_frames rs) p ∙ ap (λ z. error_frames 1 fs ++ run_frames z) q
+
+writes_of : (meaning : Meaning) (hosts : ℕ) (end : RunEnd) (bytes : List ℕ) (left : Option (List ℕ)) (errors : List NodeError) (runs : List Run) (IsAdded : List ℕ → Type 0)
+    → HasRun meaning hosts end bytes left errors runs → IsAdded (error_frames 1 errors ++ run_frames runs) → Writes meaning hosts end bytes left IsAdded
+writes_of meaning hosts end bytes left errors runs IsAdded run adds = record {
+  node = run.node;
+  journals = journals_of runs;
+  is_node = run.is_node;
+  are_journals = are_journals meaning hosts run.node.sessions runs run.are_runs;
+  added = subst IsAdded (ap (λ es. error_frames 1 es ++ run_frames runs) run.errors_are ∙ ap (λ z. error_frames 1 run.node.errors ++ z) (same_frames meaning hosts run.node.sessions runs run.are_runs)) adds;
+}
+
+-- ---- statuses
+
+end_of : ℕ → RunEnd
+end_of n = cond (n == 0) Whole (cond (n == 2) Broken (cond (n == 3) SourceFailed TooManyReads))
+
+same_again : (end : RunEnd) → end_of (status_of end) ≡ end
+unfolding end_of
+same_again Whole = refl
+same_again Broken = refl
+same_again SourceFailed = refl
+same_again TooManyReads = refl
+
+same_end : (a b : RunEnd) → status_of a ≡ status_of b → a ≡ b
+same_end a b e = sym (same_again a) ∙ ap end_of e ∙ same_again b
+
+not_four : (end : RunEnd) → status_of end ≡ 4 → ⊥
+not_four Whole e = omega (arith, e)
+not_four Broken e = omega (arith, e)
+not_four SourceFailed e = omega (arith, e)
+not_four TooManyReads e = omega (arith, e)
+
+not_five : (end : RunEnd) → status_of end ≡ 5 → ⊥
+not_five Whole e = omega (arith, e)
+not_five Broken e = omega (arith, e)
+not_five SourceFailed e = omega (arith, e)
+not_five TooManyReads e = omega (arith, e)
+
+pub three_is : (end : RunEnd) → status_of end ≡ 3 → end ≡ SourceFailed
+three_is end e = same_end end SourceFailed e
+
+pub ten_is : (end : RunEnd) → status_of end ≡ 10 → end ≡ TooManyReads
+ten_is end e = same_end end TooManyReads e
+
+-- ---- a run over a source that tells
+
+Adds-none : (old : Option (List ℕ)) → Adds old old []
+Adds-none None = refl
+Adds-none (Some had) = ap Some (sym (append-nil had))
+
+-- nothing was written
+pub told_nothing : (meaning : Meaning) (hosts : ℕ) (old new sink : Option (List ℕ)) (bytes : List ℕ) → Takes old new bytes → StreamsTold meaning hosts 5 old new sink sink
+told_nothing meaning hosts None new sink bytes t = t
+told_nothing meaning hosts (Some had) new sink bytes (rest, parts, is) = (
+  bytes,
+  rest,
+  parts,
+  is,
+  record {
+    whole = λ end e. absurd (not_five end (sym e));
+    cut = λ e. absurd (omega (arith, e));
+    short = λ e. inl (Adds-none sink);
+  },
+)
+
+-- all was written
+pub told_all : (meaning : Meaning) (hosts status : ℕ) (end : RunEnd) (old new a b : Option (List ℕ)) (bytes : List ℕ) (errors : List NodeError) (runs : List Run) → status ≡ status_of end → Takes old new bytes
+    → HasRun meaning hosts end bytes new errors runs → Adds a b (error_frames 1 errors ++ run_frames runs) → StreamsTold meaning hosts status old new a b
+told_all meaning hosts status end None new a b bytes errors runs same t run adds = t
+told_all meaning hosts status end (Some had) new a b bytes errors runs same (rest, parts, is) run adds =
+    let told = subst (λ l. HasRun meaning hosts end bytes l errors runs) is run in (
+      bytes,
+      rest,
+      parts,
+      is,
+      record {
+        whole = λ other e. subst (λ (n : RunEnd). Writes meaning hosts n bytes (Some rest) (Adds a b)) (same_end end other (sym same ∙ e)) (writes_of meaning hosts end bytes (Some rest) errors runs (Adds a b) told adds);
+        cut = λ e. absurd (not_four end (sym same ∙ e));
+        short = λ e. absurd (not_five end (sym same ∙ e));
+      },
+    )
+
+-- some of it was written, and the sink met a fault
+pub told_cut : (meaning : Meaning) (hosts : ℕ) (end : RunEnd) (old new a b : Option (List ℕ)) (bytes : List ℕ) (errors : List NodeError) (runs : List Run) → Takes old new bytes
+    → HasRun meaning hosts end bytes new errors runs → AddsFront a b (error_frames 1 errors ++ run_frames runs) → StreamsTold meaning hosts 4 old new a b
+told_cut meaning hosts end None new a b bytes errors runs t run adds = t
+told_cut meaning hosts end (Some had) new a b bytes errors runs (rest, parts, is) run adds =
+    let told = subst (λ l. HasRun meaning hosts end bytes l errors runs) is run in (
+      bytes,
+      rest,
+      parts,
+      is,
+      record {
+        whole = λ other e. absurd (not_four other (sym e));
+        cut = λ e. (end, writes_of meaning hosts end bytes (Some rest) errors runs (AddsFront a b) told adds);
+        short = λ e. absurd (omega (arith, e));
+      },
+    )
+
+-- some of it was written, and memory ran out
+pub told_short : (meaning : Meaning) (hosts : ℕ) (end : RunEnd) (old new a b : Option (List ℕ)) (bytes : List ℕ) (errors : List NodeError) (runs : List Run) → Takes old new bytes
+    → HasRun meaning hosts end bytes new errors runs → AddsFront a b (error_frames 1 errors ++ run_frames runs) → StreamsTold meaning hosts 5 old new a b
+told_short meaning hosts end None new a b bytes errors runs t run adds = t
+told_short meaning hosts end (Some had) new a b bytes errors runs (rest, parts, is) run adds =
+    let told = subst (λ l. HasRun meaning hosts end bytes l errors runs) is run in (
+      bytes,
+      rest,
+      parts,
+      is,
+      record {
+        whole = λ other e. absurd (not_five other (sym e));
+        cut = λ e. absurd (omega (arith, e));
+        short = λ e. inr (end, writes_of meaning hosts end bytes (Some rest) errors runs (AddsFront a b) told adds);
+      },
+    )

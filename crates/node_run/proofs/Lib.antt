@@ -1,0 +1,4 @@
+pub mod Streaming
+pub mod Framing
+pub mod Serving
+pub mod Ending

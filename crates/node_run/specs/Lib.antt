@@ -1,0 +1,4 @@
+pub mod Journals
+pub mod Frames
+pub mod Ends
+pub mod Streams

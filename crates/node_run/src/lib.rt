@@ -1,0 +1,18 @@
+//! A node on one thread: what was taken in of a stream is served, session by session, and what is answered is written.
+//!
+//! It is written for any engine. `specs/Streams` says what a run did: which journals were made, and which bytes were written.
+#![tactic(auto)]
+
+mod end;
+mod run;
+mod served;
+mod sessions;
+mod streams;
+#[cfg(test)]
+mod tests;
+mod write;
+
+pub use end::RunEnd;
+pub use run::{Ran, run_sessions, run_stream, status_of};
+pub use served::{serve_all, serve_session};
+pub use streams::{SinkFault, write_all};

@@ -1,0 +1,157 @@
+//! The frames of errors and journals, written one after the other.
+
+ghost use Rattle.std.specs.Prelude.{◌≡◌, ◌+◌, ◌≤◌, ◌++◌, Err, IfOk, OnOk, OnErr};
+ghost use Rattle.nb_outside.specs.Counts.{HasRisen};
+ghost use Rattle.nb_outside.specs.Streams.{Adds};
+ghost use Rattle.reply_frames.specs.Nodes.{frame_of};
+ghost use Rattle.reply_frames.specs.Replies.{entry_frames, entry_length};
+ghost use Rattle.node_run.specs.Frames.{AddsFront, error_frames, journal_frames, run_frames};
+
+use crate::streams::write_all;
+use nb_outside::Sink;
+use reply_frames::{NodeError, frames_of, node_error_frame};
+use session_core::{Alone, Engine, Entry};
+use std::alloc::Global;
+
+/// Why writing ended early.
+#[derive(Clone, Copy, Debug, PartialEq, Eq)]
+pub enum WriteFault {
+    /// Memory ran out.
+    OutOfMemory,
+    /// The sink met a fault.
+    Sink,
+}
+
+/// Writes all the bytes. After an error the first of them are written; so it is with each function here.
+fn send<K: Sink>(sink: &mut K, bytes: &[u8]) -> Result<(), WriteFault>
+    ensures ok { OnOk result (Adds (K.written sink.old) (K.written sink.new) bytes.now) }
+    ensures err { OnErr result (AddsFront (K.written sink.old) (K.written sink.new) bytes.now) }
+    ensures fault { result ≡ Err WriteFault.Sink → HasRisen (K.faults sink.old) (K.faults sink.new) }
+    ensures faults_stay { K.faults sink.old ≤ K.faults sink.new }
+{
+    match write_all(sink, bytes) {
+        Ok(()) => Ok(()),
+        Err(_) => Err(WriteFault::Sink),
+    }
+}
+
+/// Writes an error's frame under this running number.
+fn write_error<K: Sink>(
+    alloc: Global,
+    sink: &mut K,
+    running: u64,
+    error: &NodeError,
+) -> Result<(), WriteFault>
+    ensures ok { OnOk result (Adds (K.written sink.old) (K.written sink.new) (frame_of running error.now)) }
+    ensures err { OnErr result (AddsFront (K.written sink.old) (K.written sink.new) (frame_of running error.now)) }
+    ensures fault { result ≡ Err WriteFault.Sink → HasRisen (K.faults sink.old) (K.faults sink.new) }
+    ensures faults_stay { K.faults sink.old ≤ K.faults sink.new }
+{
+    match node_error_frame(alloc, running, error) {
+        Ok(frame) => send(sink, frame.as_slice()),
+        Err(_) => Err(WriteFault::OutOfMemory),
+    }
+}
+
+/// Writes the errors' frames, numbered from 1.
+fn write_errors<K: Sink>(
+    alloc: Global,
+    sink: &mut K,
+    errors: &[NodeError],
+) -> Result<(), WriteFault>
+    ensures ok { OnOk result (Adds (K.written sink.old) (K.written sink.new) (error_frames 1 errors.now)) }
+    ensures err { OnErr result (AddsFront (K.written sink.old) (K.written sink.new) (error_frames 1 errors.now)) }
+    ensures fault { result ≡ Err WriteFault.Sink → HasRisen (K.faults sink.old) (K.faults sink.new) }
+    ensures faults_stay { K.faults sink.old ≤ K.faults sink.new }
+{
+    for (at, error) in errors.iter().enumerate() {
+        match write_error(alloc, sink, at as u64 + 1, error) {
+            Ok(()) => {}
+            Err(fault) => return Err(fault),
+        }
+    }
+    Ok(())
+}
+
+/// Writes the frames of an entry of this kernel's journal, with running numbers from this one on, and gives the next number.
+fn write_entry<K: Sink>(
+    alloc: Global,
+    sink: &mut K,
+    kernel: u128,
+    running: u64,
+    entry: &Entry,
+) -> Result<u64, WriteFault>
+    ensures next { IfOk result (λ next. next ≡ running + entry_length entry.now) }
+    ensures ok { OnOk result (Adds (K.written sink.old) (K.written sink.new) (entry_frames kernel entry.now running)) }
+    ensures err { OnErr result (AddsFront (K.written sink.old) (K.written sink.new) (entry_frames kernel entry.now running)) }
+    ensures fault { result ≡ Err WriteFault.Sink → HasRisen (K.faults sink.old) (K.faults sink.new) }
+    ensures faults_stay { K.faults sink.old ≤ K.faults sink.new }
+{
+    match frames_of(alloc, kernel, entry, running) {
+        Ok((frames, next)) => match send(sink, frames.as_slice()) {
+            Ok(()) => Ok(next),
+            Err(fault) => Err(fault),
+        },
+        Err(_) => Err(WriteFault::OutOfMemory),
+    }
+}
+
+/// Writes the frames of a kernel's journal, numbered from 1.
+fn write_journal<K: Sink>(
+    alloc: Global,
+    sink: &mut K,
+    kernel: u128,
+    entries: &[Entry],
+) -> Result<(), WriteFault>
+    ensures ok { OnOk result (Adds (K.written sink.old) (K.written sink.new) (journal_frames kernel 1 entries.now)) }
+    ensures err { OnErr result (AddsFront (K.written sink.old) (K.written sink.new) (journal_frames kernel 1 entries.now)) }
+    ensures fault { result ≡ Err WriteFault.Sink → HasRisen (K.faults sink.old) (K.faults sink.new) }
+    ensures faults_stay { K.faults sink.old ≤ K.faults sink.new }
+{
+    let mut running = 1;
+    for entry in entries {
+        match write_entry(alloc, sink, kernel, running, entry) {
+            Ok(next) => running = next,
+            Err(fault) => return Err(fault),
+        }
+    }
+    Ok(())
+}
+
+/// Writes the frames of each session's journal, numbered from 1.
+fn write_runs<E: Engine + Drop, K: Sink>(
+    alloc: Global,
+    sink: &mut K,
+    runs: &[(u128, Alone<E>)],
+) -> Result<(), WriteFault>
+    ensures ok { OnOk result (Adds (K.written sink.old) (K.written sink.new) (run_frames runs.now)) }
+    ensures err { OnErr result (AddsFront (K.written sink.old) (K.written sink.new) (run_frames runs.now)) }
+    ensures fault { result ≡ Err WriteFault.Sink → HasRisen (K.faults sink.old) (K.faults sink.new) }
+    ensures faults_stay { K.faults sink.old ≤ K.faults sink.new }
+{
+    for run in runs {
+        match write_journal(alloc, sink, run.0, run.1.entries()) {
+            Ok(()) => {}
+            Err(fault) => return Err(fault),
+        }
+    }
+    Ok(())
+}
+
+/// Writes the frames of the errors, and then those of each session's journal.
+pub fn write_all_frames<E: Engine + Drop, K: Sink>(
+    alloc: Global,
+    sink: &mut K,
+    errors: &[NodeError],
+    runs: &[(u128, Alone<E>)],
+) -> Result<(), WriteFault>
+    ensures ok { OnOk result (Adds (K.written sink.old) (K.written sink.new) (error_frames 1 errors.now ++ run_frames runs.now)) }
+    ensures err { OnErr result (AddsFront (K.written sink.old) (K.written sink.new) (error_frames 1 errors.now ++ run_frames runs.now)) }
+    ensures fault { result ≡ Err WriteFault.Sink → HasRisen (K.faults sink.old) (K.faults sink.new) }
+    ensures faults_stay { K.faults sink.old ≤ K.faults sink.new }
+{
+    match write_errors(alloc, sink, errors) {
+        Ok(()) => write_runs(alloc, sink, runs),
+        Err(fault) => Err(fault),
+    }
+}

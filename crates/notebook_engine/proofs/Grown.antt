@@ -1,0 +1,142 @@
+-- A session with one cell more.
+use Rattle.std.proofs.Common.{◌≡◌, ℕ, zero, suc, ◌+◌, ◌-◌, ◌<◌, ◌^◌, Bool, true, false, cond, List, [], ◌∷◌, ◌++◌, length, is_some, refl, ap, sym, ◌∙◌, subst, inl, inr, arith}
+use Rattle.std.specs.Prelude.{Contains}
+use Rattle.std.specs.Str.{IsUtf8}
+use Rattle.std.specs.FinMap as finite
+use Rattle.nb_outside.specs.declared.feed.Drawn.{Drawn}
+use Rattle.py_tree.specs.declared.statements.Stmt.{Stmt}
+use Rattle.py_heap.specs.declared.state.State.{State}
+use Rattle.py_heap.specs.References.{IsClosed}
+use Rattle.py_machine.specs.declared.marks.Marks.{Marks}
+use Rattle.py_machine.specs.Runs.{Name}
+use Rattle.py_meaning.specs.Cells.{outcome, end_state, UsesUp}
+use Rattle.py_laws.proofs.Partners.{first_in, later_in}
+use Rattle.graph_model.specs.declared.graph.Graph.{Graph}
+use Rattle.linked_parts.specs.Parts.{HasValue, IsPart, ArePartsOf}
+use Rattle.run_graph.specs.Parts.{HasHandle}
+use Rattle.run_graph.specs.Histories.{Run}
+use Rattle.run_graph.specs.RunLists.{Entry, raised, entry_done, run_of}
+use Rattle.run_graph.specs.Soundness.{statements}
+use Rattle.run_graph.proofs.Runs.{is_run}
+use Rattle.run_graph.proofs.Kept.{in_part_value}
+use Rattle.read_runs.specs.Reading.{read}
+use Rattle.part_bytes.specs.Texts.{part_text}
+use Rattle.history_graph.specs.declared.history.History.{History}
+use Rattle.history_graph.specs.Ends.{IsCell, Makes}
+use Rattle.history_graph.proofs.Standing.{history_has_cells}
+use Rattle.replay_laws.specs.Sizing.{holds_handle, have_values, size_of}
+use Rattle.replay_laws.specs.Sessions.{StandsFor, IsCellFrom}
+use Rattle.replay_laws.proofs.Sizing.{handle_told, tells_alike}
+use Rattle.replay_laws.proofs.GoingOn.{entry_alike, one_more}
+use Rattle.notebook_meaning.specs.Cells.{recorded, unmoved}
+use Rattle.notebook_meaning.specs.Lists.{MayRun}
+use Rattle.notebook_meaning.proofs.Recorded.{reads_alike}
+use Rattle.notebook_meaning.proofs.Written.{no_truth, no_size, one_has_none}
+
+-- ---- sizes
+
+all_have : (s : State) (names : List Name) → ((x : Name) → Contains names x → HasValue s x) → have_values names s ≡ true
+all_have s [] h = refl
+all_have s (x ∷ xs) h =
+    let v = h x (first_in x xs) in
+    let here : is_some (finite.get s.globals x) ≡ true = ap is_some v.1 in
+    rw here (all_have s xs (λ y c. h y (later_in x xs y c)))
+
+size_plain : (s : State) (names : List Name) → IsClosed s → IsPart s names → (HasHandle s names → ⊥) → size_of names s ≡ length (part_text s names)
+size_plain s names closed part none =
+    let free : holds_handle names s ≡ false = no_truth (holds_handle names s) (λ t. none ((handle_told s names closed).0 t)) in
+    let all : have_values names s ≡ true = all_have s names (λ x c. in_part_value s names part x c) in
+    rw (free, all) refl
+
+-- ---- the cell as one of a run
+
+-- the state before it and after it
+beside : State → State → ℕ → State
+beside t s zero = t
+beside t s (suc n) = s
+
+module _ (cells : List Entry) (t : State) (code : List ℕ) (utf8 : IsUtf8 code) (draws : List Drawn) (counted : Bool) where
+  abbrev E : Entry
+  E = record { code = recorded code; draws = draws; counted = counted }
+
+  abbrev Body : List Stmt
+  Body = statements (read code)
+
+  done_is : (s : State) → entry_done read E s ≡ outcome Body (raised E s) draws
+  done_is s = ap (λ tree. outcome (statements tree) (raised E s) draws) (reads_alike code utf8)
+
+  uses_so : (s : State) → UsesUp Body (raised E s) draws → UsesUp (statements (read (recorded code))) (raised E s) draws
+  uses_so s u = subst (λ tree. UsesUp (statements tree) (raised E s) draws) (sym (reads_alike code utf8)) u
+
+  -- the run that has the cell after as many as there are
+  one_cell : Run
+  one_cell = record {
+    cells = suc (length cells);
+    state = λ n. beside t (entry_done read E t).1.state (n - length cells);
+    marks = λ n. (entry_done read E t).1.marks;
+    code = λ n. recorded code;
+    steps = λ n. (entry_done read E t).1.steps;
+    draws = λ n. draws;
+    counts = λ n. 0;
+    size = λ n names. size_of names (beside t (entry_done read E t).1.state (n - length cells));
+  }
+
+  before : one_cell.state (length cells) ≡ t
+  unfolding one_cell beside
+  before = let z : length cells - length cells ≡ 0 = omega arith in ap (beside t (entry_done read E t).1.state) z
+
+  after : one_cell.state (suc (length cells)) ≡ (entry_done read E t).1.state
+  unfolding one_cell beside
+  after = let z : suc (length cells) - length cells ≡ 1 = omega arith in ap (beside t (entry_done read E t).1.state) z
+
+  cell_from : IsCellFrom read size_of E t (length cells) one_cell
+  unfolding one_cell
+  cell_from = record { before = before; after = after; marks = refl; code = refl; steps = refl; sizes = λ names. refl }
+
+  module _ (g : Graph) (stands : StandsFor read size_of cells g t) where
+    same_uses : UsesUp Body (raised E t) draws → UsesUp (statements (read (recorded code))) (raised E (unmoved cells)) draws
+    same_uses u =
+        let both = entry_alike read E (unmoved cells) t stands.same in
+        let v = uses_so t u in
+        record { ends = λ k. v.ends (sym both.result ∙ k); takes = both.drawn ∙ v.takes }
+
+    pub may_run : UsesUp Body (raised E t) draws → (raised E t).count < 2 ^ 32 → length cells + 1 < 2 ^ 32 → MayRun cells E
+    may_run u count few = record {
+      uses = same_uses u;
+      count = subst (λ (n : ℕ). n + cond counted 1 0 < 2 ^ 32) (sym stands.same.count) count;
+      few = few;
+    }
+
+-- with its cell recorded, the session stands for one cell more
+pub grown : (cells : List Entry) (t s : State) (code : List ℕ) (utf8 : IsUtf8 code) (draws : List Drawn) (counted : Bool) (old now : History) (meter steps : ℕ) (marks : Marks)
+    → StandsFor read size_of cells old.graph t → ArePartsOf t old.parts
+    → UsesUp (statements (read code)) (raised (record { code = recorded code; draws = draws; counted = counted }) t) draws
+    → s ≡ end_state (statements (read code)) (raised (record { code = recorded code; draws = draws; counted = counted }) t) draws
+    → meter ≡ t.meter
+    → steps ≡ (outcome (statements (read code)) (raised (record { code = recorded code; draws = draws; counted = counted }) t) draws).1.steps
+    → marks ≡ (outcome (statements (read code)) (raised (record { code = recorded code; draws = draws; counted = counted }) t) draws).1.marks
+    → IsClosed s → Makes s (recorded code) meter steps marks old now
+    → StandsFor read size_of (cells ++ record { code = recorded code; draws = draws; counted = counted } ∷ []) now.graph s
+unfolding one_cell
+grown cells t s code utf8 draws counted old now meter steps marks stands parts uses state units taken noted closed makes =
+    let e : Entry = record { code = recorded code; draws = draws; counted = counted } in
+    let r : Run = one_cell cells t code utf8 draws counted in
+    let c : ℕ = length cells in
+    let done = done_is cells t code utf8 draws counted t in
+    let at_end : r.state (suc c) ≡ s = after cells t code utf8 draws counted ∙ (ap (λ o. o.1.state) done ∙ sym state) in
+    let is : IsCell r c s (recorded code) meter steps marks = record {
+      state = at_end;
+      code = refl;
+      meter = ap (λ (z : State). z.meter) (before cells t code utf8 draws counted) ∙ sym units;
+      steps = ap (λ o. o.1.steps) done ∙ sym taken;
+      marks = ap (λ o. o.1.marks) done ∙ sym noted;
+      sizes = λ names part none. ap (size_of names) at_end ∙ size_plain s names closed part none;
+      handles = λ names h. ap (size_of names) at_end ∙ no_size names s (inl ((handle_told s names closed).1 h));
+      absent = λ x none. ap (size_of (x ∷ [])) at_end ∙ no_size (x ∷ []) s (inr (one_has_none x s none));
+    } in
+    let next = makes r c is (record {
+      graph = history_has_cells (run_of read size_of cells) c old.graph (is_run read cells size_of) stands.history;
+      parts = subst (λ (z : State). ArePartsOf z old.parts) (sym (before cells t code utf8 draws counted)) parts;
+    }) in
+    subst (λ (z : State). StandsFor read size_of (cells ++ e ∷ []) now.graph z) (ap (λ o. o.1.state) done ∙ sym state)
+    (one_more read size_of cells old.graph t stands tells_alike e (uses_so cells t code utf8 draws counted t uses) r now.graph (cell_from cells t code utf8 draws counted) next)

@@ -1,0 +1,4 @@
+pub mod Grown
+pub mod Answered
+pub mod Served
+pub mod Packed

@@ -1,0 +1,134 @@
+-- A list of asks that a notebook goes on with.
+use Rattle.std.proofs.Common.{◌≡◌, ℕ, Bool, true, false, List, [], Err, not, ◌&&◌, refl, ap, sym, ◌∙◌, subst, arith}
+use Rattle.std.specs.Str.{IsUtf8}
+use Rattle.std.specs.FinMap as finite
+use Rattle.std.specs.Ordering.{nat_cmp}
+use Rattle.std.specs.Cmp.Lexicographic.{slice_cmp}
+use Rattle.std.proofs.lemmas.List.Elements.{All-nil}
+use Rattle.std.proofs.lemmas.Option.{none-some}
+use Rattle.nb_outside.specs.declared.feed.Drawn.{Drawn}
+use Rattle.py_heap.specs.States.{empty}
+use Rattle.graph_model.specs.declared.plan.Tally.{Tally}
+use Rattle.graph_model.specs.declared.plan.Tally.TheVariants as tally
+use Rattle.linked_parts.specs.Parts.{IsPartOf, ArePartsOf}
+use Rattle.run_graph.specs.RunLists.{Entry}
+use Rattle.read_runs.specs.Reading.{read}
+use Rattle.replay_laws.specs.Sizing.{size_of}
+use Rattle.replay_laws.proofs.GoingOn.{begins_so}
+use Rattle.session_core.specs.declared.request.Ask.{Ask}
+use Rattle.session_core.specs.declared.request.Ask.TheVariants.{Execute, Shutdown}
+use Rattle.session_core.specs.declared.engine.RunFault.{RunFault}
+use Rattle.session_core.specs.declared.engine.RunFault.TheVariants as fault
+use Rattle.session_core.specs.declared.reply.Reply.{Reply}
+use Rattle.session_core.specs.declared.reply.Done.{Done}
+use Rattle.session_core.specs.Engines.{RunsOn}
+use Rattle.session_core.specs.Meanings.{Served, more, HasNoEnd}
+use Rattle.notebook_meaning.specs.Cells.{recorded, cell_of, with_ask, cells_of}
+use Rattle.notebook_meaning.specs.Lists.{MayServe, IsRunOfAsks}
+use Rattle.notebook_meaning.specs.Answers.{answer_after}
+use Rattle.notebook_meaning.specs.Notebooks.{Passes, notebooks}
+use Rattle.notebook_meaning.proofs.Lists.{cells_of_more, goes_on}
+use Rattle.notebook_engine.specs.declared.notebook.Notebook.{Notebook}
+use Rattle.notebook_engine.specs.Holding.{HoldsCells, StandsForAsks, IsFull, HasRun}
+
+no_parts : ArePartsOf empty (record { list = [] })
+no_parts = record {
+  parts = All-nil (IsPartOf empty);
+  ascends = tt;
+  whole = λ x h. absurd (none-some h.0 (sym (finite.get-empty (slice_cmp nat_cmp) x) ∙ h.1));
+}
+
+-- a notebook in the empty state, with no history
+pub opened_holds : (n : Notebook) → n.kernel.state ≡ empty → n.history ≡ record { graph = record { cells = []; versions = [] }; parts = record { list = [] } } → HoldsCells n []
+opened_holds n s h =
+    let z : Notebook = record { kernel = record n.kernel { state = empty }; history = record { graph = record { cells = []; versions = [] }; parts = record { list = [] } } } in
+    let base : HoldsCells z [] = record {
+      session = begins_so read size_of;
+      parts = no_parts;
+      few_cells = omega arith;
+      few_versions = omega arith;
+      codes = tt;
+    } in
+    subst (λ history. HoldsCells (record { kernel = n.kernel; history = history }) []) (sym h)
+    (subst (λ state. HoldsCells (record { kernel = record n.kernel { state = state }; history = record { graph = record { cells = []; versions = [] }; parts = record { list = [] } } }) []) (sym s) base)
+
+-- a shutdown: a restart begins anew, and else all stays
+pub shut_holds : (n now : Notebook) (cells : List Entry) (restart : Bool) → HoldsCells n cells → (restart ≡ true → HoldsCells now []) → (restart ≡ false → now ≡ n) → HoldsCells now (with_ask cells (Shutdown restart) [])
+shut_holds n now cells true h anew stays = anew refl
+shut_holds n now cells false h anew stays = subst (λ (m : Notebook). HoldsCells m cells) (sym (stays refl)) h
+
+-- what may be served goes on
+pub served_run : (n : Notebook) (served : List Served) (ask : Ask) (draws : List Drawn) → StandsForAsks n served → HasNoEnd served → MayServe (cells_of served) ask draws → IsRunOfAsks (more served ask draws)
+served_run n served ask draws stands no_end may = goes_on served ask draws stands.0 no_end may
+
+pub served_stands : (n now : Notebook) (served : List Served) (ask : Ask) (draws : List Drawn) → StandsForAsks n served → HasNoEnd served → MayServe (cells_of served) ask draws
+    → HoldsCells now (with_ask (cells_of served) ask draws) → StandsForAsks now (more served ask draws)
+served_stands n now served ask draws stands no_end may holds =
+    (goes_on served ask draws stands.0 no_end may, subst (λ cells. HoldsCells now cells) (sym (cells_of_more served ask draws)) holds)
+
+-- a number without room is passed
+pub full_passes : (n : Notebook) (served : List Served) (code : List ℕ) (silent store : Bool) (draws : List Drawn) (counted : Bool) (which : Tally)
+    → counted ≡ (cell_of code silent store draws).counted → StandsForAsks n served → IsFull n counted which → Passes (cells_of served) (Execute code silent store) draws which
+full_passes n served code silent store draws counted tally.Count is stands full =
+    let is_counted : (cell_of code silent store draws).counted ≡ true = sym is ∙ full.0 in
+    let e = stands.1.session.same.count in
+    let l = full.1 in
+    rw is_counted (omega (arith, e, l))
+full_passes n served code silent store draws counted tally.Cells is stands full = let e = stands.1.session.history.cells in omega (arith, e, full)
+full_passes n served code silent store draws counted tally.Versions is stands full = full
+full_passes n served code silent store draws counted tally.Names is stands full = full
+full_passes n served code silent store draws counted tally.Texts is stands full = full
+full_passes n served code silent store draws counted tally.Bytes is stands full = full
+
+-- ---- what is answered
+
+module _ (n : Notebook) (served : List Served) (stands : StandsForAsks n served) (no_end : HasNoEnd served) where
+  abbrev Cells : List Entry
+  Cells = cells_of served
+
+  -- a cell
+  module _ (now : Notebook) (silent store : Bool) (text : List ℕ) (utf8 : IsUtf8 text) (draws : List Drawn) (reply : Reply)
+      (ran : HasRun now Cells silent text (cell_of text silent store draws) reply) where
+    may_execute : MayServe Cells (Execute text silent store) draws
+    may_execute = (utf8, ran.may)
+
+    executed_reply : (reply ≡ answer_after Cells (Execute text silent store) draws) × IsRunOfAsks (more served (Execute text silent store) draws)
+    executed_reply = (ran.reply_is, goes_on served (Execute text silent store) draws stands.0 no_end may_execute)
+
+    executed_stands : StandsForAsks now (more served (Execute text silent store) draws)
+    executed_stands = served_stands n now served (Execute text silent store) draws stands no_end may_execute ran.holds
+
+  pub cell_reply : (now : Notebook) (ask : Ask) (silent store counted : Bool) (code text : List ℕ) (utf8 : IsUtf8 text) (draws : List Drawn) (reply : Reply)
+      → ask ≡ Execute code silent store → text ≡ code → counted ≡ (not silent && store)
+      → HasRun now Cells silent text (record { code = recorded text; draws = draws; counted = counted }) reply
+      → (reply ≡ answer_after Cells ask draws) × IsRunOfAsks (more served ask draws)
+  cell_reply now ask silent store counted code text utf8 draws reply is same raises ran =
+      subst (λ (a : Ask). (reply ≡ answer_after Cells a draws) × IsRunOfAsks (more served a draws)) (sym (is ∙ ap (λ (z : List ℕ). Execute z silent store) (sym same)))
+      (executed_reply now silent store text utf8 draws reply (subst (λ (b : Bool). HasRun now Cells silent text (record { code = recorded text; draws = draws; counted = b }) reply) raises ran))
+
+  pub cell_stands : (now : Notebook) (ask : Ask) (silent store counted : Bool) (code text : List ℕ) (utf8 : IsUtf8 text) (draws : List Drawn) (reply : Reply)
+      → ask ≡ Execute code silent store → text ≡ code → counted ≡ (not silent && store)
+      → HasRun now Cells silent text (record { code = recorded text; draws = draws; counted = counted }) reply
+      → StandsForAsks now (more served ask draws)
+  cell_stands now ask silent store counted code text utf8 draws reply is same raises ran =
+      subst (λ (a : Ask). StandsForAsks now (more served a draws)) (sym (is ∙ ap (λ (z : List ℕ). Execute z silent store) (sym same)))
+      (executed_stands now silent store text utf8 draws reply (subst (λ (b : Bool). HasRun now Cells silent text (record { code = recorded text; draws = draws; counted = b }) reply) raises ran))
+
+  fault_runs : (silent store : Bool) (code : List ℕ) (counted : Bool) (f : RunFault) → counted ≡ (not silent && store)
+      → ((which : Tally) (draws : List Drawn) → f ≡ fault.TooMany which draws → IsFull n counted which) → RunsOn notebooks served (Execute code silent store) (Err f)
+  fault_runs silent store code counted fault.OutOfMemory raises full = tt
+  fault_runs silent store code counted (fault.TooMany which draws) raises full = full_passes n served code silent store draws counted which raises stands (full which draws refl)
+
+  pub cell_fails : (ask : Ask) (silent store : Bool) (code : List ℕ) (counted : Bool) (f : RunFault) → ask ≡ Execute code silent store → counted ≡ (not silent && store)
+      → ((which : Tally) (draws : List Drawn) → f ≡ fault.TooMany which draws → IsFull n counted which) → RunsOn notebooks served ask (Err f)
+  cell_fails ask silent store code counted f is raises full = subst (λ (a : Ask). RunsOn notebooks served a (Err f)) (sym is) (fault_runs silent store code counted f raises full)
+
+  -- an ask for which nothing is drawn
+  pub told_reply : (ask : Ask) (reply : Reply) (done : Done) → done ≡ record { reply = reply; draws = [] } → MayServe Cells ask [] → reply ≡ answer_after Cells ask []
+      → (done.reply ≡ answer_after Cells ask done.draws) × IsRunOfAsks (more served ask done.draws)
+  told_reply ask reply done is may answer =
+      subst (λ (d : Done). (d.reply ≡ answer_after Cells ask d.draws) × IsRunOfAsks (more served ask d.draws)) (sym is) (answer, goes_on served ask [] stands.0 no_end may)
+
+  pub told_stands : (now : Notebook) (ask : Ask) (reply : Reply) (done : Done) → done ≡ record { reply = reply; draws = [] } → MayServe Cells ask []
+      → HoldsCells now (with_ask Cells ask []) → StandsForAsks now (more served ask done.draws)
+  told_stands now ask reply done is may holds = subst (λ (d : Done). StandsForAsks now (more served ask d.draws)) (sym is) (served_stands n now served ask [] stands no_end may holds)

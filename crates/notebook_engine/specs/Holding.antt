@@ -1,0 +1,71 @@
+-- What a notebook holds.
+use Rattle.std.specs.Prelude.{◌≡◌, ℕ, ◌<◌, ◌≤◌, ◌^◌, Bool, true, List, [], ◌∷◌, ◌++◌, length, Option, Some, None, option_map, Ok, Err}
+use Rattle.graph_model.specs.declared.plan.Tally.{Tally}
+use Rattle.graph_model.specs.declared.plan.Tally.TheVariants as tally
+use Rattle.linked_parts.specs.Parts.{ArePartsOf}
+use Rattle.py_meaning.specs.declared.end.CellError.{CellError}
+use Rattle.py_reader.specs.declared.fault.SyntaxFault.{SyntaxFault}
+use Rattle.py_reader.specs.Verdict.{Judged, verdict}
+use Rattle.py_session.specs.Session.{failure, refused}
+use Rattle.run_graph.specs.RunLists.{Entry, raised}
+use Rattle.read_runs.specs.Reading.{read}
+use Rattle.replay_laws.specs.Sizing.{size_of}
+use Rattle.replay_laws.specs.Sessions.{StandsFor}
+use Rattle.session_core.specs.declared.reply.Reply.{Reply}
+use Rattle.session_core.specs.Meanings.{Served}
+use Rattle.notebook_meaning.specs.Cells.{cells_of, unmoved}
+use Rattle.notebook_meaning.specs.Codes.{HaveCodes}
+use Rattle.notebook_meaning.specs.Lists.{MayRun, IsRunOfAsks}
+use Rattle.notebook_meaning.specs.Answers.{executed, answer_from}
+use Rattle.restore_run.specs.Restoring.{IsRestoredOn}
+use Rattle.notebook_engine.specs.declared.notebook.Notebook.{Notebook}
+
+-- it is as one that ran these cells and never moved
+pub record HoldsCells (n : Notebook) (cells : List Entry) : Type 0 where
+  pub session : StandsFor read size_of cells n.history.graph n.kernel.state
+  pub parts : ArePartsOf n.kernel.state n.history.parts
+  pub few_cells : length n.history.graph.cells < 2 ^ 32
+  pub few_versions : length n.history.graph.versions < 2 ^ 32
+  pub codes : HaveCodes cells
+
+-- it is as one that served these asks and never moved
+abbrev pub StandsForAsks : Notebook → List Served → Type 0
+StandsForAsks n served = IsRunOfAsks served × HoldsCells n (cells_of served)
+
+abbrev pub IsUsable : Notebook → Type 0
+IsUsable n = (cells : List Entry) × HoldsCells n cells
+
+-- it is what the bytes restore on the host
+abbrev pub IsImage : Notebook → List ℕ → ℕ → Type 0
+IsImage n bytes host = IsRestoredOn bytes host (record { kernel = n.kernel; history = n.history; objects = length n.kernel.state.heap })
+
+-- one of its numbers has no room for a cell more
+abbrev pub IsFull : Notebook → Bool → Tally → Type 0
+IsFull n counted tally.Count = (counted ≡ true) × (4294967295 ≤ n.kernel.state.count)
+IsFull n counted tally.Cells = 4294967295 ≤ length n.history.graph.cells
+IsFull n counted tally.Versions = ⊥
+IsFull n counted tally.Names = ⊥
+IsFull n counted tally.Texts = ⊥
+IsFull n counted tally.Bytes = ⊥
+
+-- they all have room
+pub record HasRoom (n : Notebook) (counted : Bool) : Type 0 where
+  pub count : counted ≡ true → n.kernel.state.count < 4294967295
+  pub cells : length n.history.graph.cells < 4294967295
+
+-- after these cells, which the notebook held, it ran this one, and now it holds that one too; and this is the reply to it
+pub record HasRun (now : Notebook) (cells : List Entry) (silent : Bool) (code : List ℕ) (e : Entry) (reply : Reply) : Type 0 where
+  pub may : MayRun cells e
+  pub holds : HoldsCells now (cells ++ e ∷ [])
+  pub reply_is : reply ≡ answer_from (raised e (unmoved cells)) silent e.draws (verdict code)
+
+-- ---- how a cell ended
+
+abbrev pub fault_in : Judged → Option SyntaxFault
+fault_in (Ok body) = None
+fault_in (Err fault) = Some fault
+
+-- what is answered for it
+abbrev pub reply_from : ℕ → Bool → Option SyntaxFault → List ℕ → Option (List ℕ) → Option CellError → Reply
+reply_from count silent (Some fault) printed shown error = executed count silent [] None (Some (refused fault))
+reply_from count silent None printed shown error = executed count silent printed shown (option_map failure error)

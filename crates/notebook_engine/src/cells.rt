@@ -1,0 +1,159 @@
+ghost use Rattle.std.specs.Prelude.{◌≡◌, ◌+◌, ◌<◌, ◌^◌, true, cond, List, IfOk, OnOk, MatchOption, Err};
+ghost use Rattle.nb_outside.specs.declared.feed.Drawn.{Drawn};
+ghost use Rattle.nb_outside.specs.Feeds.{Fed};
+ghost use Rattle.graph_model.specs.declared.plan.Tally.{Tally};
+ghost use Rattle.py_heap.specs.References.{IsClosed};
+ghost use Rattle.py_meaning.specs.Cells as spec;
+ghost use Rattle.py_reader.specs.Verdict.{verdict};
+ghost use Rattle.run_graph.specs.RunLists.{Entry};
+ghost use Rattle.run_graph.specs.Soundness.{statements};
+ghost use Rattle.read_runs.specs.Reading.{read};
+ghost use Rattle.session_core.specs.Engines.{HasDrawn};
+ghost use Rattle.notebook_meaning.specs.Cells.{recorded};
+ghost use Rattle.notebook_engine.specs.Holding.{HoldsCells, HasRoom, IsFull, HasRun, fault_in};
+
+use crate::notebook::Notebook;
+use crate::replies::reply_of;
+use graph_model::Tally as Number;
+use nb_outside::{Feed, draws_add_up};
+use plain_data::Items;
+use py_heap::State;
+use py_kernel::Kernel;
+use py_meaning::CellEnd;
+use py_reader::{ReadError, SyntaxFault, read_cell};
+use session_core::{Done, RunFault};
+use std::alloc::{AllocError, Global};
+use text_cuts::cut_at;
+
+/// The most bytes of a code that is recorded.
+const MOST_RECORDED: usize = 262_148;
+
+/// Raises the count of a session if the cell is counted.
+fn raise(state: &mut State, counted: bool)
+    requires { counted ≡ true → state.old.count < 4294967295 }
+    ensures { state.new ≡ record state.old { count = state.old.count + cond counted 1 0 } }
+{
+    if counted {
+        state.set_count(state.count() + 1);
+    }
+}
+
+fn count_in(state: &State) -> u32
+    ensures value { result ≡ state.now.count }
+    ensures small { result < 2 ^ 32 }
+{
+    state.count()
+}
+
+/// Runs the code of a cell, or no statement if it has no tree, and says why it has none.
+fn run_code<F: Feed>(
+    alloc: Global,
+    kernel: &mut Kernel,
+    code: &str,
+    feed: &mut F,
+) -> Result<(CellEnd, Option<SyntaxFault>), AllocError>
+    ensures uses { IfOk result (λ ran. spec.UsesUp (statements (read code.now)) kernel.old.state ran.0.draws) }
+    ensures end { IfOk result (λ ran. ran.0 ≡ spec.end (statements (read code.now)) kernel.old.state ran.0.draws) }
+    ensures state { IfOk result (λ ran. kernel.new.state ≡ spec.end_state (statements (read code.now)) kernel.old.state ran.0.draws) }
+    ensures fault { IfOk result (λ ran. ran.1 ≡ fault_in (verdict code.now)) }
+    ensures host { kernel.new.host ≡ kernel.old.host }
+    ensures fed { IfOk result (λ ran. Fed (F.seen feed.old) ran.0.draws (F.seen feed.new)) }
+    ensures taken { (draws : List Drawn) × Fed (F.seen feed.old) draws (F.seen feed.new) }
+{
+    match read_cell(alloc, code) {
+        Ok(tree) => {
+            let end = kernel.run_cell(alloc, tree.body.as_slice(), feed);
+            drop(tree);
+            Ok((end?, None))
+        }
+        Err(ReadError::Fault(fault)) => Ok((kernel.run_cell(alloc, &[], feed)?, Some(fault))),
+        Err(ReadError::OutOfMemory) => Err(AllocError),
+    }
+}
+
+impl Notebook {
+    /// The number of the session that has no room for a cell more, if there is one.
+    pub(crate) fn full(&self, counted: bool) -> Option<Number>
+        ensures { MatchOption result (HasRoom self.now counted) (IsFull self.now counted) }
+    {
+        if counted && self.kernel.state.count() == u32::MAX {
+            return Some(Number::Count);
+        }
+        if self.history.graph.cells.len() >= u32::MAX as usize {
+            return Some(Number::Cells);
+        }
+        None
+    }
+
+    /// Runs a cell, records it, and answers it. After an `Err`, which is want of memory, or a number of the history that would reach
+    /// 2^32, the session is only dropped.
+    pub(crate) fn run_cell<F: Feed>(
+        &mut self,
+        alloc: Global,
+        code: &str,
+        silent: bool,
+        counted: bool,
+        feed: &mut F,
+    ) -> Result<Done, AllocError>
+        requires closed { IsClosed self.old.kernel.state }
+        requires room { HasRoom self.old counted }
+        ensures ran { IfOk result (λ done. (cells : List Entry) → HoldsCells self.old cells
+            → HasRun self.new cells silent code.now (record { code = recorded code.now; draws = done.draws; counted = counted }) done.reply) }
+        ensures host { self.new.kernel.host ≡ self.old.kernel.host }
+        ensures fed { IfOk result (λ done. Fed (F.seen feed.old) done.draws (F.seen feed.new)) }
+        ensures taken { (draws : List Drawn) × Fed (F.seen feed.old) draws (F.seen feed.new) }
+    {
+        let meter = self.kernel.state.meter();
+        raise(&mut self.kernel.state, counted);
+        let (end, fault) = run_code(alloc, &mut self.kernel, code, feed)?;
+        let CellEnd {
+            printed,
+            result,
+            error,
+            steps,
+            draws,
+            marks,
+        } = end;
+        let state = &self.kernel.state;
+        let (front, _) = cut_at(code, MOST_RECORDED);
+        match self
+            .history
+            .end_cell(alloc, state, front, meter, steps, &marks)
+        {
+            Ok(()) => {}
+            Err(_) => return Err(AllocError),
+        }
+        let count = count_in(&self.kernel.state);
+        let reply = reply_of(alloc, count, silent, fault, printed, result, error)?;
+        Ok(Done { reply, draws })
+    }
+
+    /// Runs a cell if the session's numbers have room for it.
+    pub(crate) fn execute<F: Feed>(
+        &mut self,
+        alloc: Global,
+        code: &str,
+        silent: bool,
+        counted: bool,
+        feed: &mut F,
+    ) -> Result<Done, RunFault>
+        requires { IsClosed self.old.kernel.state }
+        ensures ran { IfOk result (λ done. (cells : List Entry) → HoldsCells self.old cells
+            → HasRun self.new cells silent code.now (record { code = recorded code.now; draws = done.draws; counted = counted }) done.reply) }
+        ensures full { (which : Tally) (draws : List Drawn) → result ≡ Err (RunFault.TooMany which draws) → IsFull self.old counted which }
+        ensures host { OnOk result (self.new.kernel.host ≡ self.old.kernel.host) }
+        ensures drawn { HasDrawn result (F.seen feed.old) (F.seen feed.new) }
+    {
+        draws_add_up();
+        if let Some(which) = self.full(counted) {
+            return Err(RunFault::TooMany {
+                which,
+                draws: Items::new(alloc),
+            });
+        }
+        match self.run_cell(alloc, code, silent, counted, feed) {
+            Ok(done) => Ok(done),
+            Err(_) => Err(RunFault::OutOfMemory),
+        }
+    }
+}

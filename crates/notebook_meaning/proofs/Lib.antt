@@ -1,0 +1,5 @@
+pub mod Recorded
+pub mod Lists
+pub mod Validity
+pub mod Names
+pub mod Written

@@ -1,0 +1,5 @@
+pub mod Cells
+pub mod Codes
+pub mod Lists
+pub mod Answers
+pub mod Notebooks

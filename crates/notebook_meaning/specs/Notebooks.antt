@@ -1,0 +1,64 @@
+-- What a notebook is: the lists of asks that it may serve, what it answers, and what such a list leaves.
+use Rattle.std.specs.Prelude.{◌≡◌, ℕ, ◌+◌, ◌<◌, ◌≤◌, ◌^◌, List, length}
+use Rattle.nb_outside.specs.declared.feed.Drawn.{Drawn}
+use Rattle.graph_model.specs.declared.graph.Graph.{Graph}
+use Rattle.graph_model.specs.declared.plan.Plan.{Plan}
+use Rattle.graph_model.specs.declared.plan.Tally.{Tally}
+use Rattle.graph_model.specs.declared.plan.Tally.TheVariants as tally
+use Rattle.run_graph.specs.Histories.{IsHistory}
+use Rattle.run_graph.specs.RunLists.{Entry, raised, run_of}
+use Rattle.read_runs.specs.Reading.{read}
+use Rattle.checkpoint_bytes.specs.Texts.{checkpoint_text}
+use Rattle.checkpoint_spelling.specs.Spelled.{HasText}
+use Rattle.replay_laws.specs.Sizing.{size_of}
+use Rattle.replay_laws.specs.Tidied.{AreObjectsOf}
+use Rattle.session_core.specs.declared.request.Ask.{Ask}
+use Rattle.session_core.specs.declared.request.Ask.TheVariants.{Execute, Info, Complete, Shutdown, Migrate}
+use Rattle.session_core.specs.Meanings.{Meaning}
+use Rattle.notebook_meaning.specs.Cells.{cell_of, cells_of, unmoved}
+use Rattle.notebook_meaning.specs.Lists.{IsRunOfAsks}
+use Rattle.notebook_meaning.specs.Answers.{answer_after}
+
+-- the history of these cells, with fewer than 2^32 cells and versions
+pub record IsGraphOf (cells : List Entry) (g : Graph) : Type 0 where
+  pub history : IsHistory (run_of read size_of cells) g
+  pub few_cells : length cells < 2 ^ 32
+  pub few_versions : length g.versions < 2 ^ 32
+
+-- so many objects as the names of the last state reach
+abbrev pub HasObjectsOf : List Entry → ℕ → Type 0
+HasObjectsOf cells n = (order : List ℕ) × AreObjectsOf (unmoved cells) order × (n ≡ length order)
+
+-- the checkpoint of the last state and the history under a plan
+pub record IsTextOf (cells : List Entry) (plan : Plan) (bytes : List ℕ) : Type 0 where
+  pub graph : Graph
+  pub is_graph : IsGraphOf cells graph
+  pub has_text : HasText (unmoved cells) graph plan
+  pub text : bytes ≡ checkpoint_text (unmoved cells) graph plan
+
+-- The count, or else the number of cells, would reach 2^32 with this cell, which then doesn't run.
+abbrev pub PassesWith : List Entry → Entry → Tally → Type 0
+PassesWith cells e tally.Count = 2 ^ 32 ≤ (raised e (unmoved cells)).count
+PassesWith cells e tally.Cells = 2 ^ 32 ≤ length cells + 1
+PassesWith cells e tally.Versions = ⊥
+PassesWith cells e tally.Names = ⊥
+PassesWith cells e tally.Texts = ⊥
+PassesWith cells e tally.Bytes = ⊥
+
+abbrev pub Passes : List Entry → Ask → List Drawn → Tally → Type 0
+Passes cells (Execute code silent store) draws which = PassesWith cells (cell_of code silent store draws) which
+Passes cells Info draws which = ⊥
+Passes cells (Complete code) draws which = ⊥
+Passes cells (Shutdown restart) draws which = ⊥
+Passes cells (Migrate to weights) draws which = ⊥
+
+abbrev pub notebooks : Meaning
+notebooks = record {
+  IsRun = IsRunOfAsks;
+  answer = λ served ask draws. answer_after (cells_of served) ask draws;
+  Passes = λ served ask draws which. Passes (cells_of served) ask draws which;
+  count = λ served. (unmoved (cells_of served)).count;
+  IsGraph = λ served g. IsGraphOf (cells_of served) g;
+  HasObjects = λ served n. HasObjectsOf (cells_of served) n;
+  IsText = λ served plan bytes. IsTextOf (cells_of served) plan bytes;
+}

@@ -1,0 +1,54 @@
+-- What is saved of a session, and when it can't be saved.
+use Rattle.std.specs.Prelude.{◌≡◌, ◌≢◌, ℕ, ◌⊎◌, true, false, List, [], ◌∷◌, Contains, Ok, Err}
+use Rattle.graph_model.specs.declared.plan.Weights.{Weights}
+use Rattle.session_core.specs.declared.engine.Packed.{Packed}
+use Rattle.session_core.specs.declared.engine.PackFault.{PackFault}
+use Rattle.session_core.specs.declared.engine.PackFault.TheVariants as pack
+use Rattle.session_core.specs.declared.entry.DiedCause.{DiedCause}
+use Rattle.session_core.specs.declared.entry.DiedCause.TheVariants as died
+use Rattle.session_core.specs.declared.entry.Entry.{Entry}
+use Rattle.session_core.specs.declared.entry.Entry.TheVariants.{Opened, Ran, Died, Dead, Sealed, Moved, Adopted, Refused, Resumed}
+use Rattle.session_core.specs.Engines.{Packs}
+use Rattle.session_core.specs.Legal.{progress_of}
+use Rattle.notebook_meaning.specs.Notebooks.{notebooks}
+
+-- ---- death for want of memory
+
+abbrev pub IsWantOfMemory : DiedCause → Type 0
+IsWantOfMemory died.OutOfMemory = Unit {0}
+IsWantOfMemory (died.TooMany which draws) = ⊥
+
+-- at this entry a session died for want of memory
+abbrev pub IsDeathOfMemory : Entry → Type 0
+IsDeathOfMemory (Opened host request channel) = ⊥
+IsDeathOfMemory (Ran host request draws reply) = ⊥
+IsDeathOfMemory (Died host request count cause) = IsWantOfMemory cause
+IsDeathOfMemory (Dead host request count) = ⊥
+IsDeathOfMemory (Sealed host request to) = ⊥
+IsDeathOfMemory (Moved to) = ⊥
+IsDeathOfMemory (Adopted from to request certified objects) = ⊥
+IsDeathOfMemory (Refused host request reason) = ⊥
+IsDeathOfMemory (Resumed host request) = ⊥
+
+-- it died for want of memory
+abbrev pub DiedOfMemory : List Entry → Type 0
+DiedOfMemory es = (e : Entry) × Contains es e × IsDeathOfMemory e
+
+-- ---- a session with this journal
+
+-- it is dead for another cause; or it is alive, and the weights aren't admitted or it is stuck
+abbrev pub CantBeSaved : Weights → List Entry → Type 0
+CantBeSaved w es =
+    (((progress_of es).dead ≡ true) × (¬ DiedOfMemory es))
+    ⊎ (((progress_of es).dead ≡ false) × (fault : PackFault) × (fault ≢ pack.OutOfMemory) × Packs notebooks (progress_of es).served w (Err fault))
+
+-- what is said of it: its pack at 0, nothing at 6
+abbrev pub SavesSession : Weights → List Entry → ℕ → List ℕ → Type 0
+SavesSession w es status bytes =
+    ((status ≡ 0) × ((progress_of es).dead ≡ false) × (packed : Packed) × Packs notebooks (progress_of es).served w (Ok packed) × (bytes ≡ packed.bytes))
+    ⊎ ((status ≡ 6) × (bytes ≡ []) × CantBeSaved w es)
+
+-- what is said of the first of sessions with these journals
+abbrev pub SavesFirst : Weights → List (List Entry) → ℕ → List ℕ → Type 0
+SavesFirst w [] status bytes = (status ≡ 6) × (bytes ≡ [])
+SavesFirst w (es ∷ more) status bytes = SavesSession w es status bytes

@@ -1,0 +1,65 @@
+ghost use Rattle.std.specs.Prelude.{◌≡◌};
+ghost use Rattle.nb_outside.specs.Counts.{HasRisen, HasRisenBy};
+ghost use Rattle.node_run.specs.Journals.{journals_of};
+ghost use Rattle.save_command.specs.Saved.{WritesFirst, SavesTold, IsSaveStatus};
+
+use crate::pack::{SaveFault, first_packed};
+use graph_model::Weights;
+use nb_outside::{Feeds, Sink, Source};
+use node_run::{RunEnd, run_sessions, status_of, write_all};
+use notebook_engine::Notebook;
+use session_core::Alone;
+use std::alloc::Global;
+
+/// Packs the first of these sessions under these weights, and writes its checkpoint. Gives the status.
+fn save_first<K: Sink>(
+    alloc: Global,
+    sink: &mut K,
+    runs: &[(u128, Alone<Notebook>)],
+    weights: &Weights,
+) -> u8
+    ensures written { WritesFirst weights.now (journals_of runs.now) result (K.written sink.old) (K.written sink.new) }
+    ensures sink_fault { result ≡ 4 → HasRisen (K.faults sink.old) (K.faults sink.new) }
+{
+    match first_packed(alloc, runs, weights) {
+        Ok(packed) => match write_all(sink, packed.bytes.as_slice()) {
+            Ok(()) => 0,
+            Err(_) => 4,
+        },
+        Err(SaveFault::OutOfMemory) => 5,
+        Err(SaveFault::CantBeSaved) => 6,
+    }
+}
+
+/// Serves the source as one host does, and then writes, in place of frames, the checkpoint of the session that was opened first,
+/// under a least-cost plan for these weights. Gives the status:
+///
+/// - 0: the input was read to its end, and the checkpoint was written.
+/// - 2: a length that no frame has stands in the input, or it ends within a frame. Nothing is written.
+/// - 3: the source met a fault. Nothing is written.
+/// - 4: the sink met a fault. What is out is a prefix of the checkpoint.
+/// - 5: memory ran out, now or at the death of the first session. Nothing is written.
+/// - 6: there is no session, or the first is dead for another cause, or it can't be packed: the weights aren't admitted, or a
+///   version that holds a handle needs a cell that drew. Nothing is written.
+/// - 10: 4,294,967,295 reads each took a byte. Nothing is written.
+pub fn save<S: Source, K: Sink, D: Feeds>(
+    alloc: Global,
+    source: &mut S,
+    sink: &mut K,
+    feeds: &mut D,
+    weights: &Weights,
+) -> u8
+    ensures saved { SavesTold weights.now result (S.left source.old) (S.left source.new) (K.written sink.old) (K.written sink.new) }
+    ensures answered { IsSaveStatus result }
+    ensures source_fault { result ≡ 3 → HasRisen (S.faults source.old) (S.faults source.new) }
+    ensures sink_fault { result ≡ 4 → HasRisen (K.faults sink.old) (K.faults sink.new) }
+    ensures reads { result ≡ 10 → HasRisenBy 4294967295 (S.reads source.old) (S.reads source.new) }
+{
+    let Ok(ran) = run_sessions::<Notebook, S, D>(alloc, 1, source, feeds) else {
+        return 5;
+    };
+    match ran.end {
+        RunEnd::Whole => save_first(alloc, sink, ran.runs.as_slice(), weights),
+        end => status_of(end),
+    }
+}

@@ -1,0 +1,10 @@
+//! The command that saves a session: a stream is served as one host does, and then the checkpoint of the session that was opened
+//! first is written, in place of frames.
+//!
+//! `specs/Saved` says what each status tells.
+#![tactic(auto)]
+
+mod command;
+mod pack;
+
+pub use command::save;
