@@ -251,7 +251,7 @@ impl<E: Engine, F: Feed> Lease<E, F> {
 impl<E: Engine + Drop, F: Feed> Lease<E, F> {
     /// Makes sure that nobody stands in a slot, before the lease is put there. An owner of its session never does; one of another
     /// session, which in no run does, would be let go.
-    pub(crate) fn make_way<N: Name, R: Wait>(&mut self, rt: &R, slot: &mut Slot<E, F, N>)
+    pub fn make_way<N: Name, R: Wait>(&mut self, rt: &R, slot: &mut Slot<E, F, N>)
         requires { IsIn N.hosts N.queues self.old }
         ensures free { IsFree slot.new }
         ensures same { self.new ≡ self.old }

@@ -1,5 +1,5 @@
 -- What threads leave in a session's journal.
-use Rattle.std.specs.Prelude.{◌≡◌, ℕ, false, List, [], ◌∷◌, filter}
+use Rattle.std.specs.Prelude.{◌≡◌, ℕ, Bool, true, false, List, [], ◌∷◌, filter, All}
 use Rattle.ruled_queue.specs.Rule.{of, knows}
 use Rattle.session_core.specs.declared.request.Request.{Request}
 use Rattle.session_core.specs.declared.entry.Entry.{Entry}
@@ -26,6 +26,14 @@ HasAdmitted queues n requests p = (p.main_queue ≡ queues.main) × (p.control_q
 -- a pass that admitted perhaps less
 abbrev pub IsSpent : SharedQueues → Producer → Type 0
 IsSpent queues p = (p.main_queue ≡ queues.main) × (p.control_queue ≡ queues.control) × (p.main.given ≡ 0) × (p.control.given ≡ 0)
+
+-- the pass is new, and these requests are of its number
+abbrev pub IsReady : SharedQueues → Producer → List Request → Type 0
+IsReady queues p requests = HasAdmitted queues p.number [] p × All (λ r. r.frontend ≡ p.number) requests
+
+-- what became of a pass that was to admit these requests, and whether it did
+abbrev pub HasTried : SharedQueues → ℕ → List Request → Producer × Bool → Type 0
+HasTried queues n requests made = IsSpent queues made.0 × (made.1 ≡ true → HasAdmitted queues n requests made.0)
 
 -- the producers' lists are the same
 abbrev pub HasLists : Held → Held → Type 0

@@ -3,7 +3,7 @@ ghost use Rattle.graph_model.specs.declared.plan.Weights.{Weights};
 ghost use Rattle.session_core.specs.declared.request.Ask.TheVariants as asks;
 ghost use Rattle.session_core.specs.Asks.{is_move, IsMove};
 ghost use Rattle.session_core.specs.Engines.{Packs};
-ghost use Rattle.session_core.specs.Legal.{progress_of, sealed, arriving, MayTry};
+ghost use Rattle.session_core.specs.Legal.{progress_of, sealed, arriving, CanGo};
 ghost use Rattle.session_core.specs.Stepping.{IsEarly, IsFree, reason_of};
 ghost use Rattle.session_gate.specs.Facts.{Owes, OwesNone, HasSame, owner_of};
 ghost use Rattle.session_threads.specs.Parts.{HasStarted};
@@ -71,21 +71,15 @@ fn reason_against(fault: PackFault) -> Option<MoveRefusal>
 /// A move that can't be packed: it is refused or, for want of memory, resumed.
 fn stay_behind<E: Engine, F: Feed>(
     lease: Lease<E, F>,
-    to: u64,
-    weights: Weights,
     request: Request,
     fault: PackFault,
 ) -> Lease<E, F>
     requires owes { Owes lease request }
-    requires spare { 3 ≤ lease.spare }
-    requires asked { request.ask ≡ asks.Migrate to weights }
-    requires free { IsFree lease.hosts (progress_of lease.entries) to }
-    requires fault { Packs E.meaning (progress_of lease.entries).served weights (Err fault) }
+    requires spare { 1 ≤ lease.spare }
+    requires fault { IsMove (λ to weights. IsFree lease.hosts (progress_of lease.entries) to × Packs E.meaning (progress_of lease.entries).served weights (Err fault)) request.ask }
     ensures owes { OwesNone result }
     ensures same { HasSame lease result }
 {
-    let _ = to;
-    let _ = weights;
     match reason_against(fault) {
         Some(reason) => lease.refuse(request, reason),
         None => lease.resume(request),
@@ -96,58 +90,17 @@ fn stay_behind<E: Engine, F: Feed>(
 fn depart<E: Engine, F: Feed>(
     alloc: Global,
     lease: Lease<E, F>,
-    to: u64,
-    weights: Weights,
     request: Request,
     packed: Packed,
 ) -> Started<E, F>
     requires owes { Owes lease request }
     requires spare { 3 ≤ lease.spare }
-    requires asked { request.ask ≡ asks.Migrate to weights }
-    requires free { IsFree lease.hosts (progress_of lease.entries) to }
-    requires packed { Packs E.meaning (progress_of lease.entries).served weights (Ok packed) }
+    requires packed { IsMove (λ to weights. CanGo E.meaning lease.hosts (progress_of lease.entries) to × Packs E.meaning (progress_of lease.entries).served weights (Ok packed)) request.ask }
     ensures { HasStarted lease result }
 {
-    let _ = to;
-    let _ = weights;
     match request.copy(alloc) {
         Ok(again) => Started::Sealed(lease.depart(request, again, packed)),
-        Err(_) => Started::Stayed(resume_without(lease, request, packed)),
-    }
-}
-
-/// It stays, and the pack is let go.
-fn resume_without<E: Engine, F: Feed>(
-    lease: Lease<E, F>,
-    request: Request,
-    _packed: Packed,
-) -> Lease<E, F>
-    requires owes { Owes lease request }
-    requires spare { 1 ≤ lease.spare }
-    requires may { IsMove (MayTry E.meaning lease.hosts (progress_of lease.entries)) request.ask }
-    ensures owes { OwesNone result }
-    ensures same { HasSame lease result }
-{
-    lease.resume(request)
-}
-
-/// The plan for a move to a host that is there, and the move by it.
-fn plan_and_go<E: Engine, F: Feed>(
-    alloc: Global,
-    lease: Lease<E, F>,
-    to: u64,
-    weights: Weights,
-    request: Request,
-) -> Started<E, F>
-    requires owes { Owes lease request }
-    requires spare { 3 ≤ lease.spare }
-    requires asked { request.ask ≡ asks.Migrate to weights }
-    requires free { IsFree lease.hosts (progress_of lease.entries) to }
-    ensures { HasStarted lease result }
-{
-    match lease.pack(alloc, &weights) {
-        Ok(packed) => depart(alloc, lease, to, weights, request, packed),
-        Err(fault) => Started::Stayed(stay_behind(lease, to, weights, request, fault)),
+        Err(_) => Started::Stayed(lease.resume(request)),
     }
 }
 
@@ -164,9 +117,12 @@ pub fn start_move<E: Engine, F: Feed>(
     ensures { HasStarted lease result }
 {
     let (to, weights) = aim_of(&request.ask);
-    match reason_before_planning(&lease, to) {
-        Some(reason) => Started::Stayed(lease.refuse(request, reason)),
-        None => plan_and_go(alloc, lease, to, weights, request),
+    if let Some(reason) = reason_before_planning(&lease, to) {
+        return Started::Stayed(lease.refuse(request, reason));
+    }
+    match lease.pack(alloc, &weights) {
+        Ok(packed) => depart(alloc, lease, request, packed),
+        Err(fault) => Started::Stayed(stay_behind(lease, request, fault)),
     }
 }
 

@@ -1,6 +1,6 @@
 ghost use Rattle.std.specs.Prelude.{◌≡◌, true, [], cond, All};
 ghost use Rattle.session_queues.specs.Passes.{IsPassOf, admitted_by};
-ghost use Rattle.session_threads.specs.Parts.{HasAdmitted, IsSpent};
+ghost use Rattle.session_threads.specs.Parts.{HasAdmitted, IsSpent, IsReady, HasTried};
 
 use nb_outside::Feed;
 use session_core::{Engine, Request};
@@ -71,10 +71,8 @@ where
     F: Feed,
     N: Name,
     R: Wait,
-    requires fresh { HasAdmitted cell.now.0 pass.number [] pass }
-    requires number { All (λ r. r.frontend ≡ pass.number) requests.now }
-    ensures spent { IsSpent cell.now.0 result.0 }
-    ensures all { result.1 ≡ true → HasAdmitted cell.now.0 pass.number requests.now result.0 }
+    requires { IsReady cell.now.0 pass requests.now }
+    ensures { HasTried cell.now.0 pass.number requests.now result }
 {
     let mut pass = pass;
     let done = admit_all(rt, alloc, cell, &mut pass, requests);

@@ -4,7 +4,7 @@ ghost use Rattle.session_core.specs.Legal.{IsLegal};
 ghost use Rattle.session_queues.specs.declared.items.MainItem.{MainItem};
 ghost use Rattle.session_queues.specs.Passes.{IsPassOf};
 ghost use Rattle.session_queues.specs.Ends.{first_pass};
-ghost use Rattle.session_threads.specs.Parts.{HasAdmitted, IsSpent, IsPart, IsServed};
+ghost use Rattle.session_threads.specs.Parts.{IsReady, HasTried, IsPart, IsServed};
 
 use crate::producing::admit_as;
 use crate::working::{drain, work, work_once};
@@ -34,20 +34,20 @@ where
     F: Feed + Send,
     N: Name + Send + Sync,
     R: Threads + Wait + Sync,
-    requires one { HasAdmitted cell.now.0 one.number [] one × All (λ r. r.frontend ≡ one.number) first.now }
-    requires two { HasAdmitted cell.now.0 two.number [] two × All (λ r. r.frontend ≡ two.number) second.now }
-    ensures one { IsSpent cell.now.0 result.0.0 × (result.0.1 ≡ true → HasAdmitted cell.now.0 one.number first.now result.0.0) }
-    ensures two { IsSpent cell.now.0 result.1.0 × (result.1.1 ≡ true → HasAdmitted cell.now.0 two.number second.now result.1.0) }
+    requires one { IsReady cell.now.0 one first.now }
+    requires two { IsReady cell.now.0 two second.now }
+    ensures one { HasTried cell.now.0 one.number first.now result.0 }
+    ensures two { HasTried cell.now.0 two.number second.now result.1 }
 {
     join(
         rt,
         || -> (Pass, bool)
-            requires { HasAdmitted cell.now.0 one.number [] one × All (λ r. r.frontend ≡ one.number) first.now }
-            ensures { IsSpent cell.entry.now.0 result.0 × (result.1 ≡ true → HasAdmitted cell.entry.now.0 one.number first.entry.now result.0) }
+            requires { IsReady cell.now.0 one first.now }
+            ensures { HasTried cell.entry.now.0 one.number first.entry.now result }
         { admit_as(rt, alloc, cell, one, first) },
         || -> (Pass, bool)
-            requires { HasAdmitted cell.now.0 two.number [] two × All (λ r. r.frontend ≡ two.number) second.now }
-            ensures { IsSpent cell.entry.now.0 result.0 × (result.1 ≡ true → HasAdmitted cell.entry.now.0 two.number second.entry.now result.0) }
+            requires { IsReady cell.now.0 two second.now }
+            ensures { HasTried cell.entry.now.0 two.number second.entry.now result }
         { admit_as(rt, alloc, cell, two, second) },
     )
 }
@@ -68,10 +68,10 @@ where
     F: Feed + Send,
     N: Name + Send + Sync,
     R: Threads + Wait + Sync,
-    requires one { HasAdmitted cell.now.0 one.number [] one × All (λ r. r.frontend ≡ one.number) first.now }
-    requires two { HasAdmitted cell.now.0 two.number [] two × All (λ r. r.frontend ≡ two.number) second.now }
-    ensures one { IsSpent cell.now.0 result.0.0 × (result.0.1 ≡ true → HasAdmitted cell.now.0 one.number first.now result.0.0) }
-    ensures two { IsSpent cell.now.0 result.1.0 × (result.1.1 ≡ true → HasAdmitted cell.now.0 two.number second.now result.1.0) }
+    requires one { IsReady cell.now.0 one first.now }
+    requires two { IsReady cell.now.0 two second.now }
+    ensures one { HasTried cell.now.0 one.number first.now result.0 }
+    ensures two { HasTried cell.now.0 two.number second.now result.1 }
 {
     let closed = AtomicBool::new(false);
     let flag = &closed;
@@ -79,10 +79,10 @@ where
         thread::scope_env(),
         rt,
         |scope| -> ((Pass, bool), (Pass, bool))
-            requires one { HasAdmitted cell.now.0 one.number [] one × All (λ r. r.frontend ≡ one.number) first.now }
-            requires two { HasAdmitted cell.now.0 two.number [] two × All (λ r. r.frontend ≡ two.number) second.now }
-            ensures one { IsSpent cell.entry.now.0 result.0.0 × (result.0.1 ≡ true → HasAdmitted cell.entry.now.0 one.number first.entry.now result.0.0) }
-            ensures two { IsSpent cell.entry.now.0 result.1.0 × (result.1.1 ≡ true → HasAdmitted cell.entry.now.0 two.number second.entry.now result.1.0) }
+            requires one { IsReady cell.now.0 one first.now }
+            requires two { IsReady cell.now.0 two second.now }
+            ensures one { HasTried cell.entry.now.0 one.number first.entry.now result.0 }
+            ensures two { HasTried cell.entry.now.0 two.number second.entry.now result.1 }
         {
             for host in 0..hosts {
                 let _ = scope.spawn(move || work(rt, alloc, cell, host, flag));

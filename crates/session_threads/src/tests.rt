@@ -1,6 +1,6 @@
 //! Two threads admit while each host's thread answers. The tests end by themselves.
 
-ghost use Rattle.std.specs.Prelude.{◌≡◌, IfOk, All};
+ghost use Rattle.std.specs.Prelude.{◌≡◌, ◌<◌, IfOk, All};
 
 use crate::serve_here;
 use graph_model::Weights;
@@ -11,6 +11,7 @@ use session_core::{Ask, Channel, Engine, Entry, Header, Request};
 use std::alloc::{AllocError, Global};
 use std::sync::Wait;
 use std::test::Fail;
+use std::thread::Threads;
 
 fn header(alloc: Global, msg_id: &str) -> Result<Header, AllocError> {
     Ok(Header {
@@ -114,27 +115,41 @@ fn counted(entries: &[Entry]) -> Counts {
     seen
 }
 
-#[test]
-fn two_threads_admit_while_one_answers(rt: HostRuntime) -> Result<(), Fail> {
-    let alloc = rt.alloc();
+/// What the journal has of two producers' hundred requests each, the first one's with a move at that place. None where there is no
+/// journal.
+fn served<R: Threads + Wait + Sync>(
+    rt: &R,
+    alloc: Global,
+    hosts: u32,
+    moves_at: usize,
+) -> Result<Option<Counts>, AllocError>
+    requires { 0 < hosts }
+{
     let opening = (header(alloc, "o")?, Channel::Shell);
-    let first = requests(alloc, 1, 0)?;
+    let first = requests(alloc, 1, moves_at)?;
     let second = requests(alloc, 2, 0)?;
     let journal = serve_here(
-        &rt,
+        rt,
         alloc,
-        1,
+        hosts,
         Idle::opened(alloc, 0),
         NoFeed::new(),
         opening,
         first.as_slice(),
         second.as_slice(),
     );
-    let Some(journal) = journal else {
+    match journal {
+        Some(journal) => Ok(Some(counted(journal.entries()))),
+        None => Ok(None),
+    }
+}
+
+#[test]
+fn two_threads_admit_while_one_answers(rt: HostRuntime) -> Result<(), Fail> {
+    let Some(seen) = served(&rt, rt.alloc(), 1, 0)? else {
         assert!(&rt; false, "no journal");
         return Ok(());
     };
-    let seen = counted(journal.entries());
     assert_eq!(&rt; seen.ran, 200);
     assert_eq!(&rt; seen.others, 1);
     assert!(&rt; seen.in_order);
@@ -143,25 +158,10 @@ fn two_threads_admit_while_one_answers(rt: HostRuntime) -> Result<(), Fail> {
 
 #[test]
 fn a_session_moves_while_two_threads_admit(rt: HostRuntime) -> Result<(), Fail> {
-    let alloc = rt.alloc();
-    let opening = (header(alloc, "o")?, Channel::Shell);
-    let first = requests(alloc, 1, 50)?;
-    let second = requests(alloc, 2, 0)?;
-    let journal = serve_here(
-        &rt,
-        alloc,
-        2,
-        Idle::opened(alloc, 0),
-        NoFeed::new(),
-        opening,
-        first.as_slice(),
-        second.as_slice(),
-    );
-    let Some(journal) = journal else {
+    let Some(seen) = served(&rt, rt.alloc(), 2, 50)? else {
         assert!(&rt; false, "no journal");
         return Ok(());
     };
-    let seen = counted(journal.entries());
     assert_eq!(&rt; (seen.ran, seen.others), (199, 1));
     assert_eq!(&rt; (seen.sealed, seen.moved, seen.adopted), (1, 1, 1));
     assert!(&rt; seen.in_order);

@@ -1,17 +1,13 @@
 use Rattle.std.proofs.Common.{◌∙◌, Ok}
 use Rattle.session_core.specs.Legal.{progress_of, CanGo, MayTry}
 use Rattle.session_core.specs.Engines.{Packs}
-use Rattle.session_threads.proofs.Starting.{is_move_of, departed}
+use Rattle.session_threads.proofs.Starting.{move_more, departed}
 use Rattle.session_threads.proofs.moving.depart.Goals as goal
 
-pub depart-requires-clause-packed : goal.depart-requires-clause-packed
-depart-requires-clause-packed g c = let m = g.E.Engine.meaning in let a = c.args in let p = progress_of a.lease.entries in
-    is_move_of (λ t w. CanGo m a.lease.hosts p t × Packs m p.served w (Ok a.packed)) a.request.ask a.to a.weights c.requires.asked (c.requires.free, c.requires.packed)
-
-pub resume_without-requires-clause-may : goal.resume_without-requires-clause-may
-resume_without-requires-clause-may g c = let m = g.E.Engine.meaning in let a = c.args in let p = progress_of a.lease.entries in
-    let packs = c.requires.packed in
-    is_move_of (MayTry m a.lease.hosts p) a.request.ask a.to a.weights c.requires.asked (c.requires.free, (packs.0, packs.1, packs.2))
+pub resume-requires-clause-may : goal.resume-requires-clause-may
+resume-requires-clause-may g c = let m = g.E.Engine.meaning in let a = c.args in let p = progress_of a.lease.entries in
+    move_more (λ t w. CanGo m a.lease.hosts p t × Packs m p.served w (Ok a.packed)) (MayTry m a.lease.hosts p) a.request.ask
+    (λ t w h. (h.0, (h.1.0, h.1.1, h.1.2))) c.requires.packed
 
 pub returns-in-Ok : goal.returns-in-Ok
 returns-in-Ok g c = let d = c.depart.ensures in
