@@ -1,0 +1,11 @@
+//! A session of which nothing but cells is asked is that of one kernel that never moves: whatever else its node does, each cell is
+//! answered as that kernel answers it, from the state that the cell before left.
+//!
+//! The laws are contracts of functions that do nothing.
+#![tactic(auto)]
+
+mod laws;
+
+pub use laws::{
+    a_session_of_cells_is_one_that_never_moves, a_session_of_cells_never_moves_until_it_dies,
+};
