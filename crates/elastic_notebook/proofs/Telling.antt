@@ -1,7 +1,7 @@
 -- What is said of a checkpoint, over a source that tells.
 use Rattle.std.proofs.Common.{◌≡◌, ℕ, true, false, List, [], Option, Some, None, refl, sym, ap, ◌∙◌, ◌⊎◌, subst, inl, inr, arith}
 use Rattle.std.specs.Prelude.{◌==◌, ◌||◌}
-use Rattle.std.proofs.lemmas.Bool.{or_cases, or_left, or_right, eqb-true, false≢true}
+use Rattle.std.proofs.lemmas.Bool.{or_cases, or_left, eqb-true, false≢true}
 use Rattle.nb_outside.specs.Streams.{Adds, Takes, IsAtEnd}
 use Rattle.restore_run.specs.declared.fault.RestoreFault.{RestoreFault}
 use Rattle.restore_run.specs.declared.fault.RestoreFault.TheVariants as fault
@@ -72,7 +72,6 @@ told_nothing q status (Some had) new written taken silent (rest, parts, is) = (
     whole = λ e. absurd (silent_unsaid status silent e);
     cut = λ e. absurd (silent_not_cut status silent e);
     silent = λ e. Adds-none written;
-    answered = or_right (is_said status) ((status == 4) || is_silent status) (or_right (status == 4) (is_silent status) silent);
   },
 )
 
@@ -93,7 +92,6 @@ told_all q status (Some had) new a b taken text bytes same says adds end (rest, 
         whole = λ e. (at_end new rest is end, text, subst (λ (bs : List ℕ). Says q bs status text) same says, adds);
         cut = λ e. absurd (no_other status 4 e refl said);
         silent = λ e. absurd (silent_unsaid status e said);
-        answered = or_left (is_said status) ((status == 4) || is_silent status) said;
       },
     )
 
@@ -110,6 +108,5 @@ told_front q said (Some had) new a b taken text bytes same says adds end (rest, 
     whole = λ e. absurd (false≢true e);
     cut = λ e. (at_end new rest is end, said, text, subst (λ (bs : List ℕ). Says q bs said text) same says, adds);
     silent = λ e. absurd (false≢true e);
-    answered = refl;
   },
 )

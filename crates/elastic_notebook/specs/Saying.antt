@@ -36,7 +36,6 @@ pub record SaysOf (q : Question) (status : ℕ) (taken left : List ℕ) (sink_ol
   -- at 4 the first bytes of what was to be written
   pub cut : status ≡ 4 → (left ≡ []) × (said : ℕ) × (text : List ℕ) × Says q taken said text × AddsFront sink_old sink_new text
   pub silent : IsTrue (is_silent status) → Adds sink_old sink_new []
-  pub answered : IsAnswered status
 
 -- over a source that tells what it had and has left
 abbrev pub SaysTold : Question → ℕ → Option (List ℕ) → Option (List ℕ) → Option (List ℕ) → Option (List ℕ) → Type 0

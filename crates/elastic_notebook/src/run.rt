@@ -4,11 +4,12 @@ ghost use Rattle.graph_model.specs.declared.plan.Weights.{Weights as Four};
 ghost use Rattle.command_words.specs.declared.words.Command.{Command as Asked};
 ghost use Rattle.command_words.specs.declared.words.Command.TheVariants as command;
 ghost use Rattle.command_words.specs.Grammar.{IsCommand};
-ghost use Rattle.node_run.specs.Streams.{StreamsTold, IsStatus};
+ghost use Rattle.node_run.specs.Streams.{StreamsTold};
 ghost use Rattle.notebook_meaning.specs.Notebooks.{notebooks};
 ghost use Rattle.save_command.specs.Saved.{SavesTold};
 ghost use Rattle.elastic_notebook.specs.declared.say.Question.TheVariants as question;
 ghost use Rattle.elastic_notebook.specs.Saying.{SaysTold};
+ghost use Rattle.elastic_notebook.specs.Statuses.{IsStatusOf};
 
 use crate::say::{Question, say};
 use command_words::{Command, command_of};
@@ -39,11 +40,12 @@ use save_command::save;
 ///
 /// - 0: the input was read to its end, and everything was written.
 /// - 1: the words are no command. Nothing is read or written.
-/// - 2: `run`, `save`: in a frame's place stands a length outside 1 to 1,048,576, or the input ends within a frame. `run` serves and writes
+/// - 2: `run`, `save`: a length outside 1 to 1,048,576 comes where a frame begins, or the input ends within a frame. `run` serves and writes
 ///   what comes before, with an error that names the place; `save` writes nothing.
 /// - 3: the source met a fault. `run`: what it gave before is served and written; else nothing is written.
 /// - 4: the sink met a fault. What is out is a prefix of what was to be written.
-/// - 5: memory ran out outside a cell; `save`: or the first session died of it. What is out is a prefix of what was to be written.
+/// - 5: memory ran out outside a cell; `save`: or the first session died of it. `run`: what is out is a prefix of what was to be written;
+///   else nothing is written.
 /// - 6: `plan`: the weights sum to 2^63 or more. `save`: this, a part of the first session that can be neither copied nor computed again, no
 ///   session, or a dead one.
 /// - 7: `plan`, `restore`: the input was read to its end and is no checkpoint. The line names the first byte, version or cell by which it is none.
@@ -61,10 +63,12 @@ pub fn top<R: AllocGlobal, S: Source, K: Sink, D: Feeds>(
     ensures words { result ≡ 1 ↔ ((c : Asked) → ¬ IsCommand (map string_bytes words.now) c) }
     ensures untouched { result ≡ 1 → (source.new ≡ source.old) × (sink.new ≡ sink.old) }
 
+    // The status is one of the command's.
+    ensures statuses { (c : Asked) → IsCommand (map string_bytes words.now) c → IsStatusOf c result }
+
     // What `run` takes in, does and writes: journals that are legal histories of what was asked, and the frames that tell them.
     ensures streams { (hosts workers : ℕ) → IsCommand (map string_bytes words.now) (command.Run hosts workers)
         → StreamsTold notebooks hosts result (S.left source.old) (S.left source.new) (K.written sink.old) (K.written sink.new) }
-    ensures statuses { (hosts workers : ℕ) → IsCommand (map string_bytes words.now) (command.Run hosts workers) → IsStatus result }
 
     // What `save` writes: the checkpoint of the session opened first, under a plan that no plan undercuts.
     ensures saved { (w : Four) → IsCommand (map string_bytes words.now) (command.Save w)

@@ -7,6 +7,11 @@
 //! capacity is the flow's value, so no flow is greater: that rests on this search alone, and each pass before it keeps the
 //! flow legal. So the ranks, by which flow is sent, promise their number alone, and whatever they are the flow is greatest.
 //! `check_flow` says whether a flow is legal, and else its first fault, by one walk along each node's list.
+//!
+//! What the contracts leave open: when memory runs out, so that a body which always answers so meets them, and the calls run
+//! in tests; which of the greatest flows is found; the words in which a fault is shown; and inside, whether a pass sends
+//! anything (`send` says how much it sent) and which arcs it tries (`turns_of`), which decide only how soon the greatest flow
+//! is found.
 #![tactic(auto)]
 
 mod chains;

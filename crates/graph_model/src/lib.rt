@@ -3,6 +3,9 @@
 //! Cells and versions are numbered from 1. A version is what one cell left in one part of the state: the names of the
 //! part. It is active until a later cell writes one of its names. A plan copies some active versions and runs some
 //! cells again. (Li et al., ElasticNotebook, PVLDB 17(2).)
+//!
+//! What the contracts leave open: when memory runs out, so that a body which always answers so meets them, and `check` and
+//! `need` run in tests; and the words in which a fault is shown.
 #![tactic(auto)]
 
 mod check;

@@ -5,6 +5,8 @@ ghost use Rattle.jupyter_frames.specs.Answers.{Gives, IsCut};
 use byteorder::{BigEndian, ByteOrder};
 use plain_data::Items;
 use std::alloc::{AllocError, Global};
+use std::error::Error;
+use std::fmt;
 use std::marker::Model;
 
 /// What is wrong with a stream. Places are those of the first byte of a frame's length, counted from the stream's first
@@ -16,6 +18,19 @@ pub enum FrameFault {
     /// The stream ends in a frame that began at that place.
     Cut(u64),
 }
+
+impl fmt::Display for FrameFault {
+    fn fmt<W: fmt::Write>(&self, f: &mut fmt::Formatter<W>) -> fmt::Result {
+        match self {
+            FrameFault::BadLength(place, length) => {
+                write!(f, "a frame of {length} bytes begins at byte {place}")
+            }
+            FrameFault::Cut(place) => write!(f, "the frame that begins at byte {place} is cut off"),
+        }
+    }
+}
+
+impl Error for FrameFault {}
 
 /// What comes next on a stream.
 #[derive(Debug, Drop)]

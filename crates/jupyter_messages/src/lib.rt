@@ -2,6 +2,8 @@
 //!
 //! A message is a JSON object in the form of the Jupyter messaging protocol 5.3, with a member `channel`. `docs/PROTOCOL.md`
 //! lists its members.
+//!
+//! The contracts leave open when memory runs out, so that a body which always answers so meets them: the calls run in `frames_show`.
 #![tactic(auto)]
 
 mod content;

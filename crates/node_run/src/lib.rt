@@ -1,6 +1,9 @@
 //! A node on one thread: what was taken in of a stream is served, session by session, and what is answered is written.
 //!
 //! It is written for any engine. `specs/Streams` says what a run did: which journals were made, and which bytes were written.
+//!
+//! The contracts leave open when memory runs out, so that a body which always answers so meets them: the calls run in the tests here
+//! and of the program. They leave open the words in which a fault is shown, too.
 #![tactic(auto)]
 
 mod end;

@@ -4,10 +4,20 @@ ghost use Rattle.nb_outside.specs.Streams.{Adds};
 ghost use Rattle.node_run.specs.Frames.{AddsFront};
 
 use nb_outside::{Sink, WriteEnd};
+use std::error::Error;
+use std::fmt;
 
 /// The sink met a fault.
 #[derive(Clone, Copy, Debug, PartialEq, Eq)]
 pub struct SinkFault;
+
+impl fmt::Display for SinkFault {
+    fn fmt<W: fmt::Write>(&self, f: &mut fmt::Formatter<W>) -> fmt::Result {
+        write!(f, "the sink met a fault")
+    }
+}
+
+impl Error for SinkFault {}
 
 /// Writes all the bytes. After an error the first of them are written.
 pub fn write_all<K: Sink>(sink: &mut K, bytes: &[u8]) -> Result<(), SinkFault>

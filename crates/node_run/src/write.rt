@@ -12,6 +12,8 @@ use nb_outside::Sink;
 use reply_frames::{NodeError, frames_of, node_error_frame};
 use session_core::{Alone, Engine, Entry};
 use std::alloc::Global;
+use std::error::Error;
+use std::fmt;
 
 /// Why writing ended early.
 #[derive(Clone, Copy, Debug, PartialEq, Eq)]
@@ -21,6 +23,17 @@ pub enum WriteFault {
     /// The sink met a fault.
     Sink,
 }
+
+impl fmt::Display for WriteFault {
+    fn fmt<W: fmt::Write>(&self, f: &mut fmt::Formatter<W>) -> fmt::Result {
+        match self {
+            WriteFault::OutOfMemory => write!(f, "out of memory"),
+            WriteFault::Sink => write!(f, "the sink met a fault"),
+        }
+    }
+}
+
+impl Error for WriteFault {}
 
 /// Writes all the bytes. After an error the first of them are written; so it is with each function here.
 fn send<K: Sink>(sink: &mut K, bytes: &[u8]) -> Result<(), WriteFault>

@@ -1,4 +1,6 @@
 //! Plans judged: weights, feasibility, cost, and the laws that tie plans to cuts of the plan network.
+//!
+//! No call takes memory, and each answer is the one that its clauses name. They leave open the words in which a fault is shown.
 #![tactic(auto)]
 
 mod certainty;

@@ -16,11 +16,7 @@ say_three request first second last o one two three is_one is_two is_three =
     is_three ∙ ap (say request last) (is_two ∙ ap (say_all request second) is_one)
     ∙ sym (say_both request first (second ++ last ∷ []) o ∙ say_both request second (last ∷ []) (say_all request first o))
 
--- saying keeps the kernel, counts on and adds the frames
-pub said_kernel : (request : Header) (all : List Said) (o : Outbox) → (say_all request all o).kernel ≡ o.kernel
-said_kernel request [] o = refl
-said_kernel request (said ∷ more) o = said_kernel request more (say request said o)
-
+-- saying counts on and adds the frames
 pub said_running : (request : Header) (all : List Said) (o : Outbox) → (say_all request all o).running ≡ o.running + length all
 said_running request [] o = omega arith
 said_running request (said ∷ more) o = let more_is = said_running request more (say request said o) in omega (arith, more_is)

@@ -4,7 +4,6 @@ use Rattle.serde_json.specs.Data.{Data, number, unsigned, string, array, object,
 use Rattle.session_core.specs.declared.request.Channel.{Channel}
 use Rattle.session_core.specs.declared.request.Channel.TheVariants.{Shell, Control}
 use Rattle.py_session.specs.declared.reply.Failure.{Failure}
-use Rattle.py_session.specs.declared.reply.Reply.{Reply}
 use Rattle.text_cuts.specs.Cuts.{prefix_within, pieces}
 
 -- ---- JSON
@@ -41,18 +40,6 @@ busy = status (codes "busy")
 
 abbrev pub idle : Said
 idle = status (codes "idle")
-
--- ---- opening a kernel on host 0
-
-abbrev pub open_reply : Channel → Said
-open_reply channel = record {
-  channel = channel_name channel;
-  kind = codes "kernel_open_reply";
-  content = json ((codes "host", whole 0) ∷ (codes "status", string (codes "ok")) ∷ []);
-}
-
-abbrev pub opened : Channel → List Said
-opened channel = busy ∷ open_reply channel ∷ idle ∷ []
 
 -- ---- a cell
 
@@ -97,10 +84,3 @@ abbrev pub reply_content : ℕ → Option Failure → Data
 reply_content count None = json ((codes "execution_count", whole count) ∷ (codes "status", string (codes "ok")) ∷ (codes "user_expressions", json []) ∷ [])
 reply_content count (Some f) = json ((codes "ename", string f.name) ∷ (codes "evalue", string (evalue f)) ∷ (codes "execution_count", whole count)
     ∷ (codes "status", string (codes "error")) ∷ (codes "traceback", traceback f) ∷ [])
-
-abbrev pub reply : Reply → Said
-reply r = record { channel = codes "shell"; kind = codes "execute_reply"; content = reply_content r.count r.error }
-
--- what answers a cell with this code
-abbrev pub ran : List ℕ → Reply → List Said
-ran code r = busy ∷ input code r.count ∷ (streams r.printed ++ (results r.count r.result ++ (errors r.error ++ reply r ∷ idle ∷ [])))

@@ -17,12 +17,6 @@ pub fn status_content(alloc: Global, state: &str) -> Result<Value, AllocError>
     json!(in alloc; {"execution_state": state})
 }
 
-pub fn open_content(alloc: Global) -> Result<Value, AllocError>
-    ensures { IfOk result (λ v. view v ≡ json ((codes "host", whole 0) ∷ (codes "status", string (codes "ok")) ∷ [])) }
-{
-    json!(in alloc; {"host": 0u64, "status": "ok"})
-}
-
 fn input_members(alloc: Global, code: &str, count: u32) -> Result<Value, AllocError>
     ensures { IfOk result (λ v. view v ≡ json ((codes "code", string code.now) ∷ (codes "execution_count", whole count) ∷ [])) }
 {

@@ -1,16 +1,14 @@
-ghost use Rattle.std.specs.Prelude.{◌≡◌, ◌+◌, ◌++◌, [], IfOk, OnOk, length};
+ghost use Rattle.std.specs.Prelude.{◌≡◌, OnOk};
 ghost use Rattle.reply_frames.specs.Messages as said;
 ghost use Rattle.reply_frames.specs.Frames as spec;
 
 use crate::content::{
-    error_content, input_content, open_content, reply_content, result_content, status_content,
-    stream_content,
+    error_content, input_content, result_content, status_content, stream_content,
 };
-use crate::message::kernel_name;
 use crate::outbox::Outbox;
 use jupyter_messages::{Channel, Header};
-use plain_data::{Items, Text};
-use py_session::{Failure, Reply};
+use plain_data::Text;
+use py_session::Failure;
 use std::alloc::{AllocError, Global};
 use text_cuts::cut_at;
 
@@ -33,25 +31,6 @@ pub fn channel_name(channel: Channel) -> &'static str
         Channel::Shell => "shell",
         Channel::Control => "control",
     }
-}
-
-/// The reply to opening a kernel on host 0.
-fn say_open_reply(
-    outbox: &mut Outbox,
-    alloc: Global,
-    request: &Header,
-    channel: Channel,
-) -> Result<(), AllocError>
-    ensures { OnOk result (outbox.new ≡ spec.say request.now (said.open_reply channel) outbox.old) }
-{
-    let content = open_content(alloc)?;
-    outbox.say(
-        alloc,
-        request,
-        channel_name(channel),
-        "kernel_open_reply",
-        &content,
-    )
 }
 
 /// The code of a cell, within 262,144 bytes.
@@ -145,98 +124,5 @@ pub fn say_error(
             outbox.say(alloc, request, "iopub", "error", &content)
         }
         None => Ok(()),
-    }
-}
-
-fn say_reply(
-    outbox: &mut Outbox,
-    alloc: Global,
-    request: &Header,
-    reply: &Reply,
-) -> Result<(), AllocError>
-    ensures { OnOk result (outbox.new ≡ spec.say request.now (said.reply reply.now) outbox.old) }
-{
-    let content = reply_content(alloc, reply.count, &reply.error)?;
-    outbox.say(alloc, request, "shell", "execute_reply", &content)
-}
-
-fn say_opened(
-    outbox: &mut Outbox,
-    alloc: Global,
-    request: &Header,
-    channel: Channel,
-) -> Result<(), AllocError>
-    ensures { OnOk result (outbox.new ≡ spec.say_all request.now (said.opened channel) outbox.old) }
-{
-    say_status(outbox, alloc, request, "busy")?;
-    say_open_reply(outbox, alloc, request, channel)?;
-    say_status(outbox, alloc, request, "idle")
-}
-
-#[tactic(auto, using(crate::proofs::Saying::say_both))]
-fn say_ran(
-    outbox: &mut Outbox,
-    alloc: Global,
-    request: &Header,
-    code: &str,
-    reply: &Reply,
-) -> Result<(), AllocError>
-    ensures { OnOk result (outbox.new ≡ spec.say_all request.now (said.ran code.now reply.now) outbox.old) }
-{
-    say_status(outbox, alloc, request, "busy")?;
-    say_input(outbox, alloc, request, code, reply.count)?;
-    say_streams(outbox, alloc, request, reply.printed.as_str())?;
-    say_result(outbox, alloc, request, reply.count, &reply.result)?;
-    say_error(outbox, alloc, request, &reply.error)?;
-    say_reply(outbox, alloc, request, reply)?;
-    say_status(outbox, alloc, request, "idle")
-}
-
-impl Outbox {
-    /// No frames yet, for this kernel, whose first message has the number 1.
-    pub fn new(alloc: Global, kernel: u128) -> Result<Outbox, AllocError>
-        ensures kernel { IfOk result (λ outbox. outbox.kernel ≡ spec.kernel_name kernel) }
-        ensures running { IfOk result (λ outbox. outbox.running ≡ 1) }
-        ensures bytes { IfOk result (λ outbox. outbox.bytes ≡ []) }
-    {
-        Ok(Outbox {
-            kernel: Text::from_string(kernel_name(alloc, kernel)?),
-            running: 1,
-            bytes: Items::new(alloc),
-        })
-    }
-
-    /// Adds the frames that answer the opening of a kernel on host 0: busy, the reply, idle. `Err` also where a number or a
-    /// length would not fit.
-    #[tactic(auto, using(crate::proofs::Saying::said_bytes, crate::proofs::Saying::said_running, crate::proofs::Saying::said_kernel))]
-    pub fn opened(
-        &mut self,
-        alloc: Global,
-        request: &Header,
-        channel: Channel,
-    ) -> Result<(), AllocError>
-        ensures bytes { OnOk result (self.new.bytes ≡ self.old.bytes ++ spec.frames self.old.kernel request.now self.old.running (said.opened channel)) }
-        ensures running { OnOk result (self.new.running ≡ self.old.running + 3) }
-        ensures kernel { OnOk result (self.new.kernel ≡ self.old.kernel) }
-    {
-        say_opened(self, alloc, request, channel)
-    }
-
-    /// Adds the frames that answer a cell with this code: busy, the code, the printed text, the result or the error,
-    /// the reply, idle.
-    /// `Err` also where a number or a length would not fit.
-    #[tactic(auto, using(crate::proofs::Saying::said_bytes, crate::proofs::Saying::said_running, crate::proofs::Saying::said_kernel))]
-    pub fn ran(
-        &mut self,
-        alloc: Global,
-        request: &Header,
-        code: &str,
-        reply: &Reply,
-    ) -> Result<(), AllocError>
-        ensures bytes { OnOk result (self.new.bytes ≡ self.old.bytes ++ spec.frames self.old.kernel request.now self.old.running (said.ran code.now reply.now)) }
-        ensures running { OnOk result (self.new.running ≡ self.old.running + length (said.ran code.now reply.now)) }
-        ensures kernel { OnOk result (self.new.kernel ≡ self.old.kernel) }
-    {
-        say_ran(self, alloc, request, code, reply)
     }
 }

@@ -3,6 +3,8 @@
 //! Each message is a JSON object with its members in ascending order and no white space, after its length. Members that
 //! hold a text of the session are cut between characters: a code at 262,144 bytes, a piece of printed text at 65,536, the
 //! text of an error at 4,096. `docs/PROTOCOL.md` lists the messages. (Jupyter messaging protocol 5.3.)
+//!
+//! The contracts leave open when memory runs out, so that a body which always answers so meets them: the calls run in `frames_show`.
 #![tactic(auto)]
 
 mod content;
@@ -17,4 +19,3 @@ mod replies;
 
 pub use journal::frames_of;
 pub use node::{About, NodeError, NodeErrorKind, node_error_frame};
-pub use outbox::Outbox;

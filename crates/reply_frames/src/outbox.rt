@@ -9,7 +9,7 @@ use plain_data::{Items, Text};
 use serde_json::Value;
 use std::alloc::{AllocError, Global};
 
-/// The frames that a session sends.
+/// Frames that are said one after the other.
 #[derive(Drop)]
 pub struct Outbox {
     /// The kernel in its hyphenated lower-case text.

@@ -2,6 +2,8 @@
 //! first is written, in place of frames.
 //!
 //! `specs/Saved` says what each status tells.
+//!
+//! The contracts leave open when memory runs out, so that a body which always answers so meets them: `save` runs in the tests of the program.
 #![tactic(auto)]
 
 mod command;

@@ -10,6 +10,8 @@ use graph_model::Weights;
 use notebook_engine::Notebook;
 use session_core::{Alone, DiedCause, Entry, PackFault, Packed};
 use std::alloc::Global;
+use std::error::Error;
+use std::fmt;
 
 /// Why there is no checkpoint.
 #[derive(Clone, Copy, Debug, PartialEq, Eq)]
@@ -19,6 +21,17 @@ pub enum SaveFault {
     /// There is no session, or it is dead for another cause, or it can't be packed under these weights.
     CantBeSaved,
 }
+
+impl fmt::Display for SaveFault {
+    fn fmt<W: fmt::Write>(&self, f: &mut fmt::Formatter<W>) -> fmt::Result {
+        match self {
+            SaveFault::OutOfMemory => write!(f, "out of memory"),
+            SaveFault::CantBeSaved => write!(f, "the session can't be saved"),
+        }
+    }
+}
+
+impl Error for SaveFault {}
 
 /// Whether a session died for want of memory at this entry.
 fn is_death_of_memory(entry: &Entry) -> bool

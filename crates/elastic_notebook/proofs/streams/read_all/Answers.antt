@@ -1,5 +1,6 @@
 use Rattle.std.proofs.Common.{◌∙◌, ◌++◌, ap, refl, append_assoc, arith}
-use Rattle.elastic_notebook.proofs.Streaming.{Takes-both, more_read, risen_by_one_more}
+use Rattle.node_intake.proofs.Taking.{Takes-both, risen_by_one_more}
+use Rattle.elastic_notebook.proofs.Streaming.{more_read}
 use Rattle.elastic_notebook.proofs.streams.read_all.Goals as goal
 
 pub returns-in-Some-clause-taken : goal.returns-in-Some-clause-taken
