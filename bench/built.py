@@ -1,13 +1,17 @@
-"""The built programs that the benches measure and that tests/run asks."""
+"""The built programs that the benches measure and that tests/run asks, and what the benches give them."""
 import importlib.machinery
 import importlib.util
+import json
 import os
+import re
+import struct
 import subprocess
 import sys
+import time
 
 TOP = os.path.dirname(os.path.dirname(os.path.realpath(__file__)))
-# What a program is given where `rt run` starts it once it is built.
-WORDS = {"elastic_notebook": ["run"], "read_bench": ["1"], "reader_show": [], "frames_show": [], "session_show": [], "history_show": [], "checkpoint_show": []}
+# What a program is given as `rt run` starts it once it is built.
+WORDS = {"elastic_notebook": ["run"], "read_bench": ["1"], "plan_bench": [], "reader_show": [], "frames_show": [], "session_show": [], "history_show": [], "checkpoint_show": []}
 
 
 def launcher():
@@ -35,7 +39,7 @@ def program_of(crate):
     program = f"{TOP}/crates/{crate}/out/{crate}"
     if not is_newest(program, crate):
         who = os.path.basename(sys.argv[0])
-        print(f"{who}: building {crate} by `rt run`: some minutes after earlier checks, an hour where nothing is proved yet", file=sys.stderr, flush=True)
+        print(f"{who}: building {crate} by `rt run`: some minutes after earlier checks, hours if nothing is proved yet", file=sys.stderr, flush=True)
         try:
             ran = subprocess.run(["rt", "run", "--", *WORDS[crate]], cwd=f"{TOP}/crates/{crate}", stdin=subprocess.DEVNULL, stdout=subprocess.PIPE, stderr=subprocess.STDOUT)
         except OSError as error:
@@ -46,10 +50,73 @@ def program_of(crate):
 
 
 def help_asked(text):
-    """Prints the help where it is asked for, and ends."""
+    """Prints the help if it is asked for, and ends."""
     if sys.argv[1:] in (["-h"], ["--help"]):
         print(text, end="")
         sys.exit(0)
     if sys.argv[1:]:
         print(text, end="", file=sys.stderr)
         sys.exit(64)
+
+
+# ---- runs of the server
+
+KERNEL = "11111111-1111-4111-8111-111111111111"
+# Starts a program with words between two files and waits for it; prints its status and the peak memory in KiB, the program's and its own.
+WAITER = """
+import os, sys
+given, wrote, *words = sys.argv[1:]
+moved = [(os.POSIX_SPAWN_OPEN, 0, given, os.O_RDONLY, 0), (os.POSIX_SPAWN_OPEN, 1, wrote, os.O_WRONLY | os.O_TRUNC, 0)]
+child = os.posix_spawn(words[0], words, {}, file_actions=moved)
+_, status, usage = os.wait4(child, 0)
+own = next(it.split()[1] for it in open("/proc/self/status") if it.startswith("VmHWM"))
+print(os.waitstatus_to_exitcode(status), usage.ru_maxrss, own)
+"""
+
+
+def frame(name, kind, content):
+    """A request with this msg_id."""
+    header = {"date": "", "msg_id": name, "msg_type": kind, "session": "s", "username": "u", "version": "5.3"}
+    body = json.dumps({"channel": "shell", "content": content, "header": header, "kernel": KERNEL}, separators=(",", ":")).encode()
+    return struct.pack(">I", len(body)) + body
+
+
+def opening():
+    return frame("m0", "kernel_open_request", {"host": 0})
+
+
+def cell(number, code):
+    return frame(f"m{number}", "execute_request", {"code": code})
+
+
+def session_of(codes):
+    return opening() + b"".join(cell(number, code) for number, code in enumerate(codes, 1))
+
+
+def least(call):
+    """The least of three times, and what the call gives."""
+    times = []
+    for _ in range(3):
+        start = time.perf_counter()
+        given = call()
+        times.append(time.perf_counter() - start)
+    return min(times), given
+
+
+def answered(program, words, data):
+    """What the program writes. It has to end well, and no cell may fail."""
+    done = subprocess.run([program, *words], input=data, stdout=subprocess.PIPE)
+    who = os.path.basename(sys.argv[0])
+    if done.returncode:
+        sys.exit(f"{who}: {words[0]} ended with status {done.returncode}")
+    if b'"status":"error"' in done.stdout:
+        said = re.search(rb'"ename":"[^"]*","evalue":"[^"]{0,200}', done.stdout)
+        sys.exit(f"{who}: a cell failed: {said[0].decode() if said else ''}")
+    return done.stdout
+
+
+def waited(given, wrote, *words):
+    """Runs a program between two files: its status, and the peak memory in MiB, its own and that of the process that started it."""
+    told = subprocess.run([sys.executable, "-ISc", WAITER, given, wrote, *words], stdout=subprocess.PIPE, check=True)
+    status, peak, own = map(int, told.stdout.split())
+    return status, peak / 1024, own / 1024

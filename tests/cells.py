@@ -4,7 +4,7 @@
   tests/cells.py CODE ..     runs the codes as cells of one session, and says what each shows, its steps, and the meter after it
   tests/cells.py --check     holds the sessions, steps and meters of tests/cases to these rules, and ends with `N agree, M differ`
 
-It stands on the rules of docs/LANGUAGE.md alone, and on none of the program's code. Names, statements, expressions and calls are
+It goes by the rules of docs/LANGUAGE.md alone, and shares nothing with the program. Names, statements, expressions and calls are
 here; what is done with values is in tests/values.py. Codes are read by Python's own parser, which agrees on the subset; a cell that is
 refused (its reply is a SyntaxError) is passed over. A draw gives a word from `random`. Python 3, standard library.
 """

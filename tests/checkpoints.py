@@ -1,6 +1,6 @@
 """Checkpoints, written once more: every feasible plan of a session's history, and the bytes of the session under it.
 
-It stands on docs/PLANNING.md, docs/CHECKPOINTS.md and tests/histories.py alone, and tries all sets of versions and cells. Python 3,
+It goes by docs/PLANNING.md, docs/CHECKPOINTS.md and tests/histories.py alone, and tries all sets of versions and cells. Python 3,
 standard library.
 """
 import itertools

@@ -1,4 +1,4 @@
-"""What stands in the frames of entries and of errors of the node: a second writing of the rules of docs/PROTOCOL.md, which shares
+"""What is in the frames of entries and of errors of the node: a second writing of the rules of docs/PROTOCOL.md, which shares
 nothing with the program. JSON is written by Python's own writer.
 
 A line is what the program `frames_show` is asked (crates/frames_show/src/main.rt says its members).

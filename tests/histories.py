@@ -3,7 +3,7 @@
 
   tests/histories.py CODE ..     the graph of a session with these cells
 
-It stands on docs/HISTORY.md and docs/LANGUAGE.md alone: after each cell it goes over the whole state, and compares it with the one
+It goes by docs/HISTORY.md and docs/LANGUAGE.md alone: after each cell it goes over the whole state, and compares it with the one
 before. The cells run by the rules of tests/cells.py, which are watched here. A session draws 7, 8 and 9, and then its draws fail.
 Python 3, standard library.
 """

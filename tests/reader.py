@@ -5,9 +5,9 @@
   tests/reader.py --check    holds the tables of tests/cases to these rules, and ends with `N agree, M differ`
   tests/reader.py --write    writes tests/cases/situations.json: each situation of reading with each token after it
 
-It stands on the rules of docs/LANGUAGE.md alone, and on none of the program's code: the grammar is text, read by a recognizer for any
+It goes by the rules of docs/LANGUAGE.md alone, and shares nothing with the program: the grammar is text, read by a recognizer for any
 grammar (Earley's), which keeps all ways of reading at once. So the failing token is the first after which no way is left. A word in
-angle brackets in the grammar is a mark: what a token that fails exactly there is named. Of a text that fails, parts are counted in
+angle brackets in the grammar is a mark: what a token that fails exactly there is named. Of a text that fails, nodes are counted in
 the cells that its tokens begin and that end soonest. It is slow: for codes of some hundred tokens. Python 3, standard library.
 """
 import collections
@@ -167,7 +167,7 @@ def tokens_of(code):
 
 # ---- the grammar
 
-# PARAM and GLOBAL are names that have to be new there. @ is where a statement stands: in each of CONTEXTS.
+# PARAM and GLOBAL are names that have to be new there. @ is the place of a statement: in each of CONTEXTS.
 GRAMMAR = """
 cell       = { statement/T } "END"
 alone      = def "END"
@@ -208,7 +208,7 @@ ORDER = ["tuple", "comprehension", "set", "is", "attribute", "chained assignment
 
 
 def rules_in_text():
-    """Each nonterminal with what it is, as text, for each place where a statement may stand."""
+    """Each nonterminal with what it is, as text, for each place where a statement may come."""
     lines = re.sub(r"\n\s+\|", " |", GRAMMAR).strip().split("\n")
     for name, _, told in (it.partition("=") for it in lines):
         name, told = name.strip(), told.strip()
@@ -265,7 +265,7 @@ THE = Grammar()
 
 
 def is_new(tokens, number):
-    """Whether the name isn't one that stands after the `(` of the function around it."""
+    """Whether the name isn't one that comes after the `(` of the function around it."""
     begin = max(it for it in range(number) if tokens[it].kind == "def")
     return tokens[number].text not in {it.text for it in tokens[begin + 3 : number] if it.kind == "NAME"}
 
@@ -279,7 +279,7 @@ class Chart:
             self.close({(top, it, 0, 0) for it in THE.rules[top]})
 
     def close(self, begun):
-        """Adds a set: what is begun, what may stand there, and what has ended."""
+        """Adds a set: what is begun, what may come there, and what has ended."""
         here, items, waiting = len(self.sets), {}, collections.defaultdict(list)
         self.sets.append((items, waiting))
         left = list(begun)
@@ -301,7 +301,7 @@ class Chart:
         return self
 
     def goes_on(self, tokens, number):
-        """The chart with one token more, or None where no way of reading has it."""
+        """The chart with one token more, or None if no way of reading has it."""
         token, waiting = tokens[number], self.sets[number][1]
         found = list(waiting[f'"{token.kind}"'])
         if token.kind == "NAME":
@@ -313,7 +313,7 @@ class Chart:
         return Chart(self.top, self.sets[: number + 1]).close({(n, r, d + 1, o) for n, r, d, o in found})
 
     def name_of(self, token):
-        """What a token that can't stand after all of these is named, if it is."""
+        """What a token that can't come after all of these is named, if it is."""
         if token.kind in UNUSED:
             return token.kind
         marks = [it[1:-1].rsplit(":", 1) for it, those in self.sets[-1][1].items() if those and it.startswith("<")]
@@ -324,7 +324,7 @@ class Chart:
 
 
 def begun(tokens, top="cell"):
-    """The chart of the tokens before the failing one, and that one's number; None where all can stand."""
+    """The chart of the tokens before the failing one, and that one's number; None if none fails."""
     chart = Chart(top)
     for number in range(len(tokens)):
         more = chart.goes_on(tokens, number)
@@ -334,7 +334,7 @@ def begun(tokens, top="cell"):
     return chart, None
 
 
-# ---- parts
+# ---- nodes
 
 CLOSERS = ["END", "DEDENT", "NEWLINE", ")", "]", "}", "NAME", ":", "PARAM", "GLOBAL", "None", "else", "in", "INDENT", "[", "(", "=", "def"]
 
@@ -395,10 +395,10 @@ STATEMENTS = ("simple", "if", "while", "for", "def")
 CHAINS = ("expr", "or", "and", "not", "compare", "sum", "product", "sign")
 
 
-def parts_of(chart, tokens, top):
-    """For each token how many parts hold it."""
+def nodes_of(chart, tokens, top):
+    """For each token how many nodes hold it."""
     counts = {}
-    # (the postfixes of a primary each hold what stands before them)
+    # (the postfixes of a primary each hold what comes before them)
     def walk(name, children, depth):
         if name == "primary":
             many = len(children) - 1
@@ -418,9 +418,9 @@ def parts_of(chart, tokens, top):
 
 
 def stop_on_depth(tokens, chart, number, top):
-    """Refuses the first token before the failing one that more than 64 parts hold, however the text goes on."""
+    """Refuses the first token before the failing one that more than 64 nodes hold, however the text goes on."""
     ways = [(tokens, chart)] if number is None else [ended(chart, tokens[:number], it) for it in (False, True)]
-    counts = [parts_of(chart, those, top) for those, chart in ways]
+    counts = [nodes_of(chart, those, top) for those, chart in ways]
     for at in range(len(tokens) if number is None else number):
         if min(it[at] for it in counts) > DEEPEST:
             raise Fault(f"too deep at byte {tokens[at].at}")
@@ -450,14 +450,14 @@ def judge(code, top="cell"):
 
 
 def stray_byte(code, tokens):
-    """The first byte of a text that stands before or after its function."""
+    """The first byte of a text that comes before or after its function."""
     whole = [it for it in tokens if it.kind not in ("NEWLINE", "INDENT", "DEDENT", "END")]
     end = whole[-1].at + len(whole[-1].text)
     return 0 if whole[0].at else end if end < len(code.encode()) else None
 
 
 def with_depth(tokens, chart, top, stray):
-    """The first of the two faults: a part that is too deep, or the stray byte."""
+    """The first of the two faults: a node that is too deep, or the stray byte."""
     try:
         stop_on_depth(tokens, chart, None, top)
     except Fault as fault:
@@ -549,7 +549,7 @@ MOST_TOKENS = 3_000
 
 
 def found_of(case):
-    """What these rules say of a case beside what it expects; None where they are too slow for it."""
+    """What these rules say of a case beside what it expects; None if they are too slow for it."""
     top, of = ("alone", "source") if "source" in case else ("cell", "text" if "text" in case else "code")
     code = text_of(case[of])
     try:

@@ -6,7 +6,7 @@
 A case has a list of codes (`unmoved`), of which the first so many begin a session (`first`), lists of weights (`under`), how many
 `sessions` there are, and of how many requests each is (`length`). Of 32 requests 10 are moves, 17 cells, 2 cells that aren't stored, 2
 silent cells, and 1 is a restart, or a move if the case has `restarts` false: each by chance. The k-th cell since the opening or the last
-restart is the k-th code where k is at most `first`, by a chance of 7 in 8; else any of the codes. A sixth of the moves come on control,
+restart is the k-th code if k is at most `first`, by a chance of 7 in 8; else any of the codes. A sixth of the moves come on control,
 and so before all other requests. A move is from the host where the session is to one of the other two of three. Chance is a sequence of
 numbers of its own, so a file gives the same sessions everywhere.
 Python 3, standard library.

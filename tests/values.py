@@ -1,4 +1,4 @@
-"""Values of cells, and what is done with them: a second writing of the rules of docs/LANGUAGE.md, on which tests/cells.py stands.
+"""Values of cells, and what is done with them: a second writing of the rules of docs/LANGUAGE.md, which tests/cells.py uses.
 
 What is done with values counts steps and levels, and is charged by the meter of its session. Python 3, standard library.
 """
