@@ -23,7 +23,7 @@ one_more {A = A} bytes old out more xs i x l is e k =
     ap (bytes_from bytes 1) whole ∙ (from_more bytes 1 front x ∙ ap (λ (m : ℕ). bytes_from bytes 1 front ++ bytes m x) size) in
     k ∙ (ap (λ (zs : List ℕ). zs ++ bytes (i + 1) x) e ∙ (append_assoc old (bytes_from bytes 1 front) (bytes (i + 1) x) ∙ ap (λ (zs : List ℕ). old ++ zs) (sym last)))
 
--- what holds of the first items by their places, and of the next, holds of one more
+-- what holds of the first items by their indexes, and of the next, holds of one more
 pub each_more : {A : Type 0} (P : ℕ → A → Type 0) (xs : List A) (i : ℕ) (x : A) → i < length xs → x ≡ get_or xs i x → ((k : ℕ) (d : A) → k < i → P k (get_or xs k d)) → P i x
     → (k : ℕ) (d : A) → k < i + 1 → P k (get_or xs k d)
 each_more P xs i x l is front here k d high = elim (cases_eq k i) [

@@ -8,7 +8,7 @@ use Rattle.part_bytes.proofs.Small.{small_text}
 use Rattle.checkpoint_bytes.specs.Texts.{checkpoint_text}
 use Rattle.checkpoint_bytes.specs.Examples.{small_state, small_graph, small_plan, small_bytes}
 
--- what stands before the part, and the part
+-- what comes before the part, and the part
 abbrev with_part : List ℕ → List ℕ
 with_part part =
     69 ∷ 78 ∷ 67 ∷ 75 ∷ 0 ∷ 1 ∷ 0 ∷ 0 ∷ 0 ∷ 1 ∷ 0 ∷ 0 ∷ 0 ∷ 0 ∷ 0 ∷ 0 ∷ 0 ∷ 1

@@ -26,5 +26,5 @@ pub record IsPlainCheckpoint (s : State) (g : Graph) (p : Plan) : Type 0 where
   pub count : s.count < 2 ^ 32
   pub cells : All IsPlainCell g.cells
   pub versions : All IsPlainVersion g.versions
-  -- the parts that are copied, by the places of their versions
+  -- the parts that are copied, by the indexes of their versions
   pub parts : (k : ℕ) (d : Version) → k < length g.versions → IsPlainIfCopied s p (k + 1) (slice_index_or g.versions k d)

@@ -15,7 +15,7 @@ use plain_data::{Items, Text};
 use py_heap::State;
 use std::alloc::{AllocError, Global};
 
-// Each function puts bytes at the end. After an error the bytes stand for nothing, and are only dropped.
+// Each function puts bytes at the end. After an error the bytes mean nothing, and are only dropped.
 
 /// The letters that a checkpoint begins with, and the format's version.
 const MAGIC: [u8; 6] = [69, 78, 67, 75, 0, 1];

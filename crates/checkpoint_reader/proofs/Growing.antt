@@ -52,7 +52,7 @@ pub versions_turn : (bytes : List ℕ) (n : ℕ) (before now : Versions) (at nex
 unfolding next_version
 versions_turn bytes n before now at next a e = versions_from bytes n before now next (version bytes at) a e
 
--- so many turns were made
+-- n turns were made
 pub all_cells : (n i : ℕ) (cells : Cells) → n ≤ i → i ≤ n → AreCells i cells → AreCells n cells
 all_cells n i cells low high a = let e : i ≡ n = omega arith in subst (λ k. AreCells k cells) e a
 

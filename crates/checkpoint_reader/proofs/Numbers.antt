@@ -1,6 +1,6 @@
 -- The numbers of what the plan runs again or copies ascend, and what is copied holds at the end.
 use Rattle.std.proofs.Common.{◌≡◌, ℕ, zero, suc, ◌+◌, ◌-◌, ◌<◌, Bool, true, false, List, [], ◌∷◌, ◌++◌, length, Option, Some, None, refl, sym, ap, ◌∙◌, subst, inl, inr, arith}
-use Rattle.std.specs.Prelude.{slice_get, not, nat_eq, All, Result, Ok}
+use Rattle.std.specs.Prelude.{slice_get, not, nat_eq, Ok}
 use Rattle.std.specs.List.{AllZip}
 use Rattle.std.proofs.lemmas.Bool.{or_parts, not-false, eqb-true}
 use Rattle.std.proofs.lemmas.List.{length-append}
@@ -9,12 +9,11 @@ use Rattle.graph_model.specs.declared.graph.CellRecord.{CellRecord}
 use Rattle.graph_model.specs.declared.graph.Version.{Version}
 use Rattle.graph_model.proofs.Ascending.{ascends-push}
 use Rattle.part_bytes.specs.declared.part.PartValue.{PartValue}
-use Rattle.part_reader.specs.declared.fault.PartFault.{PartFault}
 use Rattle.part_reader.specs.Reading.{part_read}
 use Rattle.checkpoint_reader.specs.declared.fields.Cells.{Cells}
 use Rattle.checkpoint_reader.specs.declared.fields.Versions.{Versions}
-use Rattle.checkpoint_reader.specs.Fields.{marked, with_cell, with_version, with_copy, first_found, is_unlike, no_cells, no_versions}
-use Rattle.checkpoint_reader.specs.Numbered.{AreNumbers, BeganWithin, AreCells, AreVersions, IsKeptActive, IsCopyOf, IsCopyAt}
+use Rattle.checkpoint_reader.specs.Fields.{marked, with_cell, with_version, with_copy, first_found, is_unlike}
+use Rattle.checkpoint_reader.specs.Numbered.{AreNumbers, BeganWithin, AreCells, AreVersions, IsKeptActive, IsCopyAt}
 
 numbers_stay : (n : ℕ) (xs : List ℕ) → AreNumbers n xs → AreNumbers (n + 1) xs
 numbers_stay n xs a = record { ascend = a.ascend; within = λ m c. let p = a.within m c in (p.0, omega (arith, p.1)) }
@@ -32,15 +31,6 @@ numbers_marked : (n : ℕ) (xs : List ℕ) (mark : Bool) → AreNumbers n xs →
 numbers_marked n xs true a = numbers_put n xs a
 numbers_marked n xs false a = numbers_stay n xs a
 
-pub no_numbers : AreNumbers 0 []
-no_numbers = record { ascend = tt; within = λ m c. absurd (let l = c.1 in omega (arith, l)) }
-
-pub cells_begin : AreCells 0 no_cells
-cells_begin = record { size = refl; rerun = no_numbers; meters = All-nil BeganWithin }
-
-pub versions_begin : AreVersions 0 no_versions
-versions_begin = record { size = refl; copied = no_numbers; active = λ u v c. absurd (let l = c.1 in omega (arith, l)); copies = λ u. tt }
-
 one_longer : {X : Type 0} (n : ℕ) (xs : List X) (x : X) → length xs ≡ n → length (xs ++ x ∷ []) ≡ n + 1
 one_longer n xs x e = length-append xs (x ∷ []) ∙ ap (λ k. k + 1) e
 
@@ -51,7 +41,7 @@ cells_grow n before cell a within = record {
   rerun = subst (λ k. AreNumbers (n + 1) (marked before.rerun (k + 1) cell.1)) (sym a.size) (numbers_marked n before.rerun cell.1 a.rerun);
 }
 
--- an element stays where it was when others come behind it
+-- an element keeps its index when others come after it
 pub stays_at : {X : Type 0} (xs ys : List X) (i : ℕ) (x : X) → slice_get xs i ≡ Some x → slice_get (xs ++ ys) i ≡ Some x
 stays_at [] ys i x e = absurd (let n = e in cc)
 stays_at (y ∷ xs) ys zero x e = e

@@ -1,4 +1,4 @@
--- What was read is a plan of its graph, where no copied version is unlike its part.
+-- What was read is a plan of its graph, if no copied version is unlike its part.
 use Rattle.std.proofs.Common.{◌≡◌, ℕ, ◌-◌, ◌<◌, ◌≤◌, List, length, Some, None, inl, inr, arith}
 use Rattle.std.specs.Prelude.{slice_get}
 use Rattle.std.proofs.lemmas.Option.{slice_get_cases}

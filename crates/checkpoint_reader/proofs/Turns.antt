@@ -1,4 +1,4 @@
--- The turns of a loop that reads so many of a kind.
+-- The turns of a loop that reads n items of one kind.
 use Rattle.std.proofs.Common.{◌≡◌, ℕ, suc, ◌+◌, ◌-◌, ◌<◌, ◌≤◌, List, [], ◌∷◌, ◌++◌, Result, Ok, Err, refl, sym, ap, ◌∙◌, subst, arith}
 use Rattle.std.specs.Prelude.{true}
 use Rattle.checkpoint_reader.specs.declared.fault.CheckpointFault.{CheckpointFault}
@@ -38,7 +38,7 @@ item_reads {A = A} item n i before now a at next whole l inv e put =
 abbrev pub refused : (A : Type 0) → CheckpointFault → Result A CheckpointFault
 refused A fault = Err fault
 
--- a fault tells as much whatever was to be read
+-- whether a fault tells anything doesn't depend on what was to be read
 pub tells_any : (A B : Type 0) (fault : CheckpointFault) → tells (refused A fault) ≡ true → tells (refused B fault) ≡ true
 tells_any A B OutOfMemory h = h
 tells_any A B BadMagic h = refl

@@ -40,7 +40,7 @@ IsJudged read (Err (Part at f)) = ⊥
 IsJudged read (Err (Trailing at)) = ⊥
 IsJudged read (Err (BadField at)) = ⊥
 
--- the first fault of the fields; where there is none, what they are judged to be
+-- the first fault of the fields; if there is none, what they are judged to be
 abbrev pub IsAnswer : Answer Fields → Result Checkpoint CheckpointFault → Type 0
 IsAnswer (Ok read) result = IsJudged read.0 result
 IsAnswer (Err f) result = result ≡ Err f

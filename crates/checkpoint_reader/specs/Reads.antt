@@ -27,7 +27,7 @@ infixl 10 ◌>>=◌
 abbrev pub ◌>>=◌ : {A B : Type 0} → Read A → (A → Read B) → Read B
 m >>= next = λ at. after (m at) next
 
--- so many turns, each of which adds to what was read before it
+-- n turns, each of which adds to what was read before it
 abbrev pub turns : {A : Type 0} → (A → Read A) → ℕ → A → Read A
 turns turn zero before = pure before
 turns turn (suc n) before = turn before >>= λ now. turns turn n now
@@ -35,7 +35,7 @@ turns turn (suc n) before = turn before >>= λ now. turns turn n now
 abbrev pub one_more : {A : Type 0} → Read A → List A → Read (List A)
 one_more item before = item >>= λ a. pure (before ++ a ∷ [])
 
--- so many items
+-- n items
 abbrev pub many : {A : Type 0} → Read A → ℕ → Read (List A)
 many item n = turns (one_more item) n []
 

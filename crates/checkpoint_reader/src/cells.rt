@@ -77,7 +77,7 @@ fn read_next_cell(
     Ok(with_cell(before, number, cell, rerun)?)
 }
 
-/// So many cells.
+/// `count` cells.
 fn read_all_cells(
     alloc: Global,
     bytes: &[u8],
@@ -97,7 +97,7 @@ fn read_all_cells(
     Ok(cells)
 }
 
-/// The cells after their number.
+/// The cells, after how many there are.
 #[tactic(auto, unfolding(crate::specs::Fields::cells))]
 pub(crate) fn read_cells(
     alloc: Global,

@@ -15,15 +15,15 @@ pub enum CheckpointFault {
     BadVersion(u16),
     /// The bytes end within the field at that place.
     Cut(usize),
-    /// The part that begins at that place is none. The places in its fault count from there.
+    /// No text of a part begins at that place. The places in its fault count from there.
     Part { at: usize, fault: PartFault },
-    /// The graph is none.
+    /// The graph has a fault.
     Graph(GraphFault),
     /// A copied version that isn't as its part, or a version or cell at which the plan isn't feasible.
     PlanDisagrees(Item),
     /// The first byte after the last version.
     Trailing(usize),
-    /// A field whose value is none that it can have.
+    /// A field that has a value which it can't have.
     BadField(usize),
 }
 

@@ -53,7 +53,7 @@ fn read_name(alloc: Global, bytes: &[u8], spot: &mut usize) -> Result<Text, Chec
     Ok(Text::new(alloc, text)?)
 }
 
-/// So many names.
+/// `count` names.
 fn read_all_names(
     alloc: Global,
     bytes: &[u8],
@@ -70,7 +70,7 @@ fn read_all_names(
     Ok(all)
 }
 
-/// The names after their number.
+/// The names, after how many there are.
 #[tactic(auto, unfolding(crate::specs::Fields::names))]
 pub(crate) fn read_names(
     alloc: Global,
@@ -83,7 +83,7 @@ pub(crate) fn read_names(
     read_all_names(alloc, bytes, spot, count)
 }
 
-/// So many numbers.
+/// `count` numbers.
 fn read_all_numbers(
     alloc: Global,
     bytes: &[u8],
@@ -100,7 +100,7 @@ fn read_all_numbers(
     Ok(all)
 }
 
-/// The numbers after their number.
+/// The numbers, after how many there are.
 #[tactic(auto, unfolding(crate::specs::Fields::numbers))]
 pub(crate) fn read_numbers(
     alloc: Global,

@@ -96,7 +96,7 @@ fn has_no_value(values: &[Option<Value>]) -> bool
     }
 }
 
-/// Whether a part has a value where its version is absent or the other way round, or another size.
+/// Whether an absent version's part has a value, or another version's part has none or isn't of the version's size.
 #[tactic(auto, using(std::proofs::lemmas::Bool::Decides::nat_tests))]
 fn is_otherwise(version: &Version, part: &PartValue, size: usize) -> bool
     ensures { result ≡ spec.is_otherwise version.now part.now size }
@@ -191,7 +191,7 @@ fn read_next_version(
     keep_version(alloc, bytes, spot, number, before, version, copied)
 }
 
-/// So many versions.
+/// `count` versions.
 fn read_all_versions(
     alloc: Global,
     bytes: &[u8],
@@ -213,7 +213,7 @@ fn read_all_versions(
     Ok(versions)
 }
 
-/// The versions after their number.
+/// The versions, after how many there are.
 #[tactic(auto, unfolding(crate::specs::Fields::versions))]
 pub(crate) fn read_versions(
     alloc: Global,

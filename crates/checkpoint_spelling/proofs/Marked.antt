@@ -21,7 +21,7 @@ use Rattle.checkpoint_reader.specs.Fields.{marked, with_cell, is_unlike}
 use Rattle.checkpoint_spelling.specs.Spelled.{cells_after, version_after, versions_after, part_in, part_at, IsLike}
 use Rattle.checkpoint_spelling.proofs.Copied.{AllCopied, version_at}
 
--- those of so many numbers from n on that are in the list
+-- of the k numbers from n on, those that are in the list
 pub listed : List ℕ → ℕ → ℕ → List ℕ
 listed ns n zero = []
 listed ns n (suc k) = cond (lists ns n) (n ∷ listed ns (n + 1) k) (listed ns (n + 1) k)

@@ -102,7 +102,7 @@ module _ (bytes : List ℕ) where
       off_then (byte bytes) (λ n r. after (taken bytes at n r) (λ xs. text_of at xs)) (length x ∷ []) x (length x) x (off_byte (length x))
       (off_end (taken bytes at (length x)) (λ xs. text_of at xs) x x x (off_taken at (length x) x refl) (λ end. rw h.0 refl)) at s
 
-  -- ---- so many of a kind
+  -- ---- items of one kind
 
   module _ {A : Type 0} (item : Read A) (spelled : A → List ℕ) (Good : A → Type 0) (one : (a : A) → Good a → Off item (spelled a) a) where
     pub off_turns : (xs before : List A) → AllByRecursion Good xs → Off (turns (one_more item) (length xs) before) (flat_map spelled xs) (before ++ xs)

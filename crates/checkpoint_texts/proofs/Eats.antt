@@ -104,7 +104,7 @@ module _ (bytes : List ℕ) where
       → Eats m P → ((a : A) (xs : List ℕ) → P a xs → Q (g a) xs) → Eats (λ at. after (m at) (λ a. pure (g a))) Q
   eats_map {B = B} m g P Q h k = eats_end m (λ a. pure (g a)) P Q h (λ a b xs s t p e. (same_place (g a) b s t e, subst (λ (c : B). Q c xs) (same_value (g a) b s t e) (k a xs p)))
 
-  -- ---- so many turns, the n-th of which adds to what the n turns before it read
+  -- ---- turns, each of which adds to what the turns before it read
 
   module _ {A : Type 0} (turn : A → Read A) (text : A → List ℕ) (Good : ℕ → A → Type 0) where
     -- these bytes are what a turn adds to the text
@@ -130,7 +130,7 @@ module _ (bytes : List ℕ) where
 
 -- ---- the next bytes
 
--- the bytes that are taken are those that are read, and so many
+-- the bytes that are taken are those that are read, and there are n of them
 abbrev pub AreBytes : ℕ → List ℕ → List ℕ → Type 0
 AreBytes n xs ys = (ys ≡ xs) × (length xs ≡ n) × IsBytes xs
 

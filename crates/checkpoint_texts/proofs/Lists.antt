@@ -62,7 +62,7 @@ put_other : (m k : ℕ) (ns : List ℕ) → k < m → lists (ns ++ m ∷ []) k �
 put_other m k [] l = rw (ne_eqb m k (λ e. omega (arith, l, e))) refl
 put_other m k (n ∷ ns) l = ap (λ (b : Bool). (n == k) || b) (put_other m k ns l)
 
--- the number that comes next is listed where it is marked
+-- the number that comes next is listed if it is marked
 pub marked_listed : (n : ℕ) (ns : List ℕ) (b : Bool) → AreUpTo n ns → lists (marked ns (n + 1) b) (n + 1) ≡ b
 marked_listed n ns true h = put_listed (n + 1) ns
 marked_listed n ns false h = not_listed n (n + 1) ns h (omega arith)

@@ -132,10 +132,10 @@ module _ (bytes : List ℕ) (small : All (λ b. b < 256) bytes) where
       let c = text_found at xs b s t e in
       (c.0, ap (λ (k : ℕ). k ∷ ys) (sym h.1 ∙ ap (λ (zs : List ℕ). length zs) c.1) ∙ ap (λ (zs : List ℕ). length b ∷ zs) (h.0 ∙ c.1)))) at
 
-  -- ---- so many of a kind
+  -- ---- n items of one kind
 
   module _ {A : Type 0} (item : Read A) (s : A → List ℕ) (each : Eats bytes item (Spells s)) where
-    -- there are so many
+    -- there are n
     abbrev AreSo : ℕ → List A → Type 0
     AreSo n xs = length xs ≡ n
 

@@ -13,7 +13,8 @@ pub fn what_is_read_is_a_text()
         → (bytes ≡ text_of read) × (end ≡ length bytes) }
 {}
 
-/// No two lists of bytes are read as the same checkpoint, and bytes that are a checkpoint begin no longer ones that are a checkpoint.
+/// No two lists of bytes are read as the same checkpoint. If bytes are a checkpoint, the same bytes with more after them aren't
+/// one.
 pub fn a_checkpoint_has_one_text()
     ensures alone { (a b : List ℕ) (k : Checkpoint) → All (λ byte. byte < 256) a → All (λ byte. byte < 256) b
         → IsAnswer (fields a 0) (Ok k) → IsAnswer (fields b 0) (Ok k) → a ≡ b }

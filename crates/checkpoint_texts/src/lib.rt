@@ -1,5 +1,6 @@
-//! What is read as a checkpoint is a text, and each checkpoint has one text, which begins no other. Definitions and laws alone: each law
-//! is the contract of a function that does nothing.
+//! What is read as a checkpoint is a text. Each checkpoint has one text, and no other checkpoint's text begins with it.
+//!
+//! Definitions and laws alone: each law is the contract of a function that does nothing.
 #![tactic(auto)]
 
 mod laws;

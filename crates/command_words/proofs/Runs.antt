@@ -97,7 +97,7 @@ same_letter Hosts Workers e = absurd (omega arith)
 same_letter Workers Hosts e = absurd (omega arith)
 same_letter Workers Workers e = refl
 
--- what stands behind the name in its word
+-- the byte after the name in its word, or 0
 abbrev behind_name : Form → ℕ
 behind_name Spaced = 0
 behind_name Joined = 61
@@ -122,7 +122,7 @@ rest_of : (f : Form) (k : Kind) (n : ℕ) (rest : List (List ℕ)) → drop (siz
 rest_of Spaced k n rest = refl
 rest_of Joined k n rest = refl
 
--- words begin with settings of one kind and form alone, and what is behind such a setting is the same
+-- words begin with settings of one kind and form alone, and what comes after such a setting is the same
 pub same_first : (f g : Form) (k l : Kind) (m n : ℕ) (r q : List (List ℕ)) → spelled f k m ++ r ≡ spelled g l n ++ q → (k ≡ l) × (f ≡ g) × (r ≡ q)
 same_first f g k l m n r q e =
     let kinds : k ≡ l = same_letter k l (sym (letter_at f k m r) ∙ (ap (byte 2) e ∙ letter_at g l n q)) in
@@ -187,7 +187,7 @@ module _ (words behind rest : List (List ℕ)) (s t : Setting) (is : words ≡ s
       let second = next behind rest t then b more first.1 in
       once 0 1 a (omega arith) (omega arith) (sym first.0 ∙ (same ∙ second.0))
 
--- the words behind `run` are those of no command
+-- `run` with these words after it says no command
 pub no_run : (words : List (List ℕ)) → SayNone words → (c : Command) → ¬ IsCommand (codes "run" ∷ words) c
 no_run words none (Run h w) is = none is.0 is.1.allowed is.1.once (ap (drop 1) is.2)
 no_run words none (Plan w) is = let same = ap (byte 0) is.1 in let no : ⊥ = omega (arith, same) in no

@@ -5,7 +5,7 @@ use Rattle.command_words.specs.declared.settings.Form.{Form}
 use Rattle.command_words.specs.declared.settings.Setting.{Setting}
 use Rattle.command_words.specs.Grammar.{most, spelled, words_of, IsWithin, IsAllowed}
 
--- the words begin with this setting, and the rest is behind it
+-- the words begin with this setting, and the rest comes after it
 abbrev pub IsFirst : Setting → List (List ℕ) → List (List ℕ) → Type 0
 IsFirst s words rest = IsAllowed s × (words ≡ words_of s ++ rest)
 

@@ -8,6 +8,12 @@ ghost use Rattle.command_words.specs.Grammar.{name_of, most, spelled, words_of, 
 
 use crate::numbers::number_of;
 
+/// The greatest number of hosts.
+const MOST_HOSTS: u64 = 64;
+
+/// The greatest number of workers of a host.
+const MOST_WORKERS: u64 = 16;
+
 /// What `run` can be told.
 #[derive(Clone, Copy)]
 pub enum Kind {
@@ -26,7 +32,7 @@ pub enum Form {
     Joined,
 }
 
-/// What `run` is told in one place, and how.
+/// A setting of `run`, and how it is written.
 #[derive(Clone, Copy)]
 pub struct Setting {
     pub kind: Kind,
@@ -50,8 +56,8 @@ fn most_of(kind: Kind) -> u64
     ensures { result ≡ most kind }
 {
     match kind {
-        Kind::Hosts => 64,
-        Kind::Workers => 16,
+        Kind::Hosts => MOST_HOSTS,
+        Kind::Workers => MOST_WORKERS,
     }
 }
 
@@ -82,7 +88,7 @@ fn joined(word: &str) -> Option<Setting>
     }
 }
 
-/// The setting that a name says with the first word behind it, and the words behind that.
+/// The setting that a name says with the first word after it, and the words after that.
 fn spaced<'a>(name: &str, words: &'a [String]) -> Option<(Setting, &'a [String])>
     ensures { MatchOption result (NoneBegins form_of.Spaced (name.now ∷ map string_bytes words.now)) (λ x. IsFirst x.0 (name.now ∷ map string_bytes words.now) (map string_bytes x.1.now)) }
 {
@@ -95,7 +101,7 @@ fn spaced<'a>(name: &str, words: &'a [String]) -> Option<(Setting, &'a [String])
     }
 }
 
-/// The setting that the words begin with, and the words behind it.
+/// The setting that the words begin with, and the words after it.
 pub fn first_of(words: &[String]) -> Option<(Setting, &[String])>
     ensures { MatchOption result ((form : Way) → NoneBegins form (map string_bytes words.now)) (λ x. IsFirst x.0 (map string_bytes words.now) (map string_bytes x.1.now)) }
 {

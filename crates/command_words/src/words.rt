@@ -12,7 +12,7 @@ use graph_model::Weights;
 /// What the words of the command line ask for.
 #[derive(Clone, Copy, Debug, PartialEq, Eq)]
 pub enum Command {
-    /// `run`: the frames of the source are served, by so many hosts with so many workers each.
+    /// `run`: the frames of the source are served, by this number of hosts with this number of workers each.
     Run { hosts: u32, workers: u32 },
     /// `plan c b r s`: a least-cost plan of a checkpoint's graph, under these weights.
     Plan(Weights),
@@ -22,7 +22,7 @@ pub enum Command {
     Restore,
 }
 
-/// How many hosts and workers there are where no setting says it.
+/// How many hosts and workers there are if no setting says it.
 const UNSAID: u32 = 1;
 
 /// The greatest weight.
@@ -111,7 +111,7 @@ fn run_of(words: &[String]) -> Option<Command>
     run_with_both(first, second)
 }
 
-/// The command with this first word, and these behind it.
+/// The command with this first word, and these after it.
 fn command_with(first: &str, words: &[String]) -> Option<Command>
     ensures { MatchOption result ((c : Asked) → ¬ IsCommand (first.now ∷ map string_bytes words.now) c) (IsCommand (first.now ∷ map string_bytes words.now)) }
 {

@@ -49,7 +49,7 @@ arc_of from to capacity = record { from = from; to = to; capacity = capacity }
 same_arc : (a b c p q r : ℕ) → a ≡ p → b ≡ q → c ≡ r → arc_of a b c ≡ arc_of p q r
 same_arc a b c p q r e f g = ap (λ (n : ℕ). arc_of n b c) e ∙ (ap (λ (n : ℕ). arc_of p n c) f ∙ ap (λ (n : ℕ). arc_of p q n) g)
 
--- the node of the active version at place i
+-- the node of the active version at index i
 pub node_at : (g : Graph) (active : List ℕ) (i : ℕ) → active ≡ actives g → i < length active → i + 2 ≡ number_of g (node.Version (get_or active i 0))
 node_at g active i e l =
     let P : List ℕ → Type 0 = λ xs. i < length xs in
@@ -124,7 +124,7 @@ network-numbers g w =
     ∙ (ap (λ (arcs : List Arc). (map (copy_numbers g w) (actives g) ++ map (writer_numbers g) (actives g)) ++ arcs ++ N D) c
     ∙ ap (λ (arcs : List Arc). ((map (copy_numbers g w) (actives g) ++ map (writer_numbers g) (actives g)) ++ flat_map (reads_numbers g) (cell_numbers g)) ++ arcs) d)))))
 
--- the four segments, one behind the other, are the network
+-- the four segments, one after the other, are the network
 pub built : (g : Graph) (w : Weights) (n : ℕ) (net one two three four : Net) → n ≡ node_count g → net ≡ record { nodes = n; arcs = [] }
     → one ≡ more net (map (copy_numbers g w) (actives g)) → two ≡ more one (map (writer_numbers g) (actives g))
     → three ≡ more two (flat_map (reads_numbers g) (cell_numbers g)) → four ≡ more three (map (rerun_numbers g w) (cell_numbers g)) → four ≡ net_of g w

@@ -1,4 +1,4 @@
--- Where nothing is stuck, no flow of the plan network reaches 2^63.
+-- If nothing is stuck, no flow of the plan network reaches 2^63.
 use Rattle.std.proofs.Common.{◌≡◌, ℕ, ◌<◌, not, List, length, sym, ap, ◌∙◌, inl, inr, arith}
 use Rattle.std.specs.Prelude.{filter}
 use Rattle.std.proofs.lemmas.Bool.{cases_Bool, not_from_false, not-true, false_from_ne_true}

@@ -22,7 +22,7 @@ filter_yes p xs i l h = filter_more p xs i 0 l ∙ ap (λ (ys : List ℕ). filte
 pub filter_no : (p : ℕ → Bool) (xs : List ℕ) (i : ℕ) → i < length xs → p (get_or xs i 0) ≡ false → filter p (take (i + 1) xs) ≡ filter p (take i xs)
 filter_no p xs i l h = filter_more p xs i 0 l ∙ (ap (λ (ys : List ℕ). filter p (take i xs) ++ ys) (cond-false (p (get_or xs i 0)) _ _ h) ∙ append-nil (filter p (take i xs)))
 
--- the side of the active version at place i
+-- the side of the active version at index i
 pub version_side : (g : Graph) (active : List ℕ) (inside : List Bool) (i : ℕ) (b : Bool) → active ≡ actives g → i < length active → get_or inside (i + 2) false ≡ b
     → side inside (number_of g (node.Version (get_or active i 0))) ≡ b
 version_side g active inside i b e l h = ap (side inside) (sym (node_at g active i e l)) ∙ h

@@ -38,7 +38,7 @@ rising_unique (x ∷ xs) (y ∷ ys) a b f g =
       ]
     ]
 
--- as many stand below a number as its place says
+-- the count of the numbers below one of them is its index
 pub rank-of : (xs : List ℕ) (i d : ℕ) → Rises xs → i < length xs → count_by (λ u. nat_lt u (get_or xs i d)) xs ≡ i
 rank-of [] i d r l = absurd (omega arith)
 rank-of (x ∷ xs) zero d r l =

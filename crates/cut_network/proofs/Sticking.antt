@@ -17,7 +17,7 @@ use Rattle.plan_model.proofs.Ascents.{Rises, rises-upto}
 use Rattle.cut_network.specs.Drawn.{HasDrawn, LeadsTo}
 use Rattle.cut_network.specs.Drawn.{itself, further}
 
--- the first place of numbers that rise at which a fact holds has the least such number
+-- the first index of a rising list at which a fact holds has the least such number
 pub first_at : (P : ℕ → Type 0) (xs : List ℕ) (i : ℕ) → Rises xs → i < length xs → ((k d : ℕ) → k < i → P (get_or xs k d) → ⊥) → P (get_or xs i 0)
     → IsFirst (λ n. Contains xs n × P n) (get_or xs i 0)
 first_at P xs i r l h p = (

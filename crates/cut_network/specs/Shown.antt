@@ -6,7 +6,7 @@ use Rattle.graph_model.specs.declared.plan.Node.TheVariants.{Source, Sink}
 use Rattle.graph_model.specs.declared.plan.Node.TheVariants as node
 use Rattle.graph_model.specs.declared.plan.FlowArc.{FlowArc}
 
--- the node of an active version, or of a cell behind them
+-- the node of an active version, or, after these, of a cell
 abbrev pub inner_node : List ℕ → ℕ → Node
 inner_node active n = elim (slice_get active (n - 2)) [ None ↦ node.Cell (n - 1 - length active) | Some v ↦ node.Version v ]
 

@@ -8,7 +8,7 @@ use plan_model::{copy_weight, rerun_weight};
 /// More than every plan costs: the capacity of an arc that no least cut crosses.
 pub(crate) const UNBOUNDED: u64 = 1 << 63;
 
-/// What copying version `v` costs; more than every plan where it holds a handle.
+/// What copying version `v` costs; more than every plan if it holds a handle.
 pub(crate) fn copy_capacity(graph: &Graph, weights: &Weights, v: u32) -> u64
     requires { AreAdmitted graph.now weights.now }
     ensures { result ≡ copy_capacity graph.now weights.now v }
@@ -20,7 +20,7 @@ pub(crate) fn copy_capacity(graph: &Graph, weights: &Weights, v: u32) -> u64
     }
 }
 
-/// What running cell `c` again costs; more than every plan where it drew.
+/// What running cell `c` again costs; more than every plan if it drew.
 pub(crate) fn rerun_capacity(graph: &Graph, weights: &Weights, c: u32) -> u64
     requires { AreAdmitted graph.now weights.now }
     ensures { result ≡ rerun_capacity graph.now weights.now c }

@@ -2,11 +2,11 @@
 //!
 //! The network has the source, the active versions, the cells and the sink. A version that a cut separates from the source
 //! is copied, and a cell that stays with the source runs again: what the cut severs is what that costs, so a least cut is a
-//! plan of least cost. No least cut severs an arc whose capacity is 2^63, as from a version to its writer: where no version
-//! is stuck, some plan costs less.
+//! plan of least cost. No least cut severs an arc whose capacity is 2^63, as from a version to its writer: if no version is
+//! stuck, some plan costs less.
 //!
 //! What the contracts leave open: when memory runs out, so that a body which always answers so meets them, and `network_of`
-//! and `plan` run in tests; which plan is given where several cost least, and which greatest flow shows it; and the words in
+//! and `plan` run in tests; which plan is given if several cost least, and which greatest flow shows it; and the words in
 //! which a fault is shown.
 #![tactic(auto)]
 

@@ -110,7 +110,7 @@ fn plan_by(
     })
 }
 
-/// A least-cost plan where nothing is stuck.
+/// A least-cost plan if nothing is stuck.
 fn least_plan(alloc: Global, graph: &Graph, weights: &Weights) -> Result<Certified, AllocError>
     requires graph { IsGraph graph.now }
     requires weights { AreAdmitted graph.now weights.now }
@@ -129,9 +129,9 @@ fn least_plan(alloc: Global, graph: &Graph, weights: &Weights) -> Result<Certifi
     })
 }
 
-/// A plan of least cost, with the arcs of a greatest flow of the plan network, whose value is that cost; or else the
-/// version that can be neither copied nor computed again, and the cell that stands against it, the first such version
-/// and of it the first such cell.
+/// A plan of least cost, with the arcs of a greatest flow of the plan network, whose value is that cost. If there is no
+/// plan, the error names the first version that can be neither copied nor computed again, and the first cell that it
+/// needs and that can't run again.
 pub fn plan(alloc: Global, graph: &Graph, weights: &Weights) -> Result<Certified, PlanFault>
     requires graph { IsGraph graph.now }
     requires weights { AreAdmitted graph.now weights.now }

@@ -5,7 +5,7 @@ use flow_model::Arc;
 use graph_model::{FlowArc, Node};
 use std::alloc::{AllocError, Global};
 
-/// The node of an active version, or of a cell behind them.
+/// The node of an active version, or, after these, of a cell.
 fn inner_node(active: &[u32], number: u32) -> Node
     ensures { result ≡ inner_node active.now number }
 {

@@ -156,7 +156,7 @@ fn may_stick(graph: &Graph, v: u32, marks: &[bool]) -> bool
     }
 }
 
-/// The least cell with which version `v` is stuck; its need is looked at only where its writer has a mark.
+/// The least cell with which version `v` is stuck; its need is looked at only if its writer has a mark.
 fn stuck_cell_by(
     alloc: Global,
     graph: &Graph,

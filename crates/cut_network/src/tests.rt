@@ -182,7 +182,7 @@ fn some_reads(
     Ok(reads)
 }
 
-/// A graph of so many cells, each of which reads some versions and writes some of three names.
+/// A graph of that many cells, each of which reads some versions and writes some of three names.
 fn grow(rt: &impl Abort, alloc: Global, dice: &mut Dice, count: u32) -> Result<Graph, AllocError> {
     let mut cells = Vec::new(alloc);
     let mut versions: Vec<Version> = Vec::new(alloc);
@@ -211,7 +211,7 @@ fn grow(rt: &impl Abort, alloc: Global, dice: &mut Dice, count: u32) -> Result<G
     })
 }
 
-/// What a plan costs; none where it is none of the graph, or not feasible.
+/// What a plan costs; none if it is no plan of the graph, or not feasible.
 fn price(
     rt: &(impl Abort + AllocGlobal),
     graph: &Graph,
@@ -264,7 +264,7 @@ fn least_price(
     Ok(least)
 }
 
-/// What `plan` says its plan costs; none where it says that some pair is stuck.
+/// What `plan` says its plan costs; none if it says that some pair is stuck.
 fn plan_price(
     rt: &(impl Abort + AllocGlobal),
     alloc: Global,

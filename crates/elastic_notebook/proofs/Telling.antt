@@ -54,10 +54,6 @@ said_status Restore bytes status text (inr (f, are, e, is)) = restored_status by
 pub said_answered : (q : Question) (bytes : List ℕ) (status : ℕ) (text : List ℕ) → Says q bytes status text → IsAnswered status
 said_answered q bytes status text says = or_left (is_said status) ((status == 4) || is_silent status) (said_status q bytes status text says)
 
--- none of them is that of no command
-pub never_one : (s : ℕ) → IsAnswered s → s ≡ 1 → ⊥
-never_one s answered one = false≢true (subst IsAnswered one answered)
-
 -- ---- over a source that tells
 
 -- nothing is said

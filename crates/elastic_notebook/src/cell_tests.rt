@@ -4,7 +4,7 @@ use crate::test_streams::{answered, cells_of, count_of, wrong};
 use std::alloc::{AllocError, Global};
 use std::test::Fail;
 
-// The lengths of the output come from a reading of the rules in Python, outside this repository.
+// The lengths of the output are those of the second writing of the rules in Python: tests/tools, `Lengths`.
 
 #[test]
 fn two_cells(rt: HostRuntime) -> Result<(), Fail> {
@@ -136,7 +136,7 @@ struct Row {
     frames: &'static [(&'static str, usize)],
 }
 
-// The worked rows of the language.
+// The worked examples of the language.
 static ROWS: [Row; 12] = [
     Row {
         codes: &["a = [1]", "b = a", "b.append(2)", "a"],
@@ -262,7 +262,7 @@ fn worked_rows(rt: HostRuntime) -> Result<(), Fail> {
     Ok(())
 }
 
-/// A line, and so often another, and a third, as a JSON text.
+/// A line, another this number of times, and a third, as a JSON text.
 fn repeated(
     alloc: Global,
     first: &str,
@@ -299,7 +299,7 @@ fn levels_and_steps_end(rt: HostRuntime) -> Result<(), Fail> {
     Ok(())
 }
 
-/// So many lines that print, as a JSON text.
+/// Many lines that print, as a JSON text.
 fn many_prints(alloc: Global) -> Result<String, AllocError> {
     let mut code = String::new(alloc);
     for _ in 0..29_127 {

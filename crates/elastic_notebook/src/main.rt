@@ -3,8 +3,8 @@
 //! The contract of `run::top` is what the program does; everything else here is below it. `main` makes the real source,
 //! sink and feeds, calls it, and ends with its status.
 //!
-//! The contract leaves open when memory runs out, so that a body which always answers 5 meets it: the tests run each command on its
-//! happy path.
+//! The contract leaves open when memory runs out, so a body that always answers 5 meets it. Therefore the tests run each command
+//! on its happy path.
 #![tactic(auto)]
 
 #[cfg(test)]
@@ -19,18 +19,12 @@ mod streams;
 #[cfg(test)]
 mod test_streams;
 
-use nb_outside::{RandomFeeds, StdSink, StdSource};
+use nb_outside::{RandomFeeds, StdSink, StdSource, status};
 use run::top;
 use std::alloc::{AllocError, Global};
 use std::env::Env;
 use std::process::ExitCode;
 use std::{env, io};
-
-/// The status if the words are no command, as words that are no text.
-const NO_COMMAND: u8 = 1;
-
-/// The status if memory runs out.
-const OUT_OF_MEMORY: u8 = 5;
 
 /// The words of the command line after the program's name.
 fn words_of<R: Env + AllocGlobal>(rt: &R) -> io::Result<Vec<String>> {
@@ -45,9 +39,10 @@ fn main(rt: HostRuntime) -> ExitCode {
     let words = match words_of(&rt) {
         Ok(words) => words,
         Err(error) if error.kind() == io::ErrorKind::OutOfMemory => {
-            return ExitCode::from(OUT_OF_MEMORY);
+            return ExitCode::from(status::OUT_OF_MEMORY);
         }
-        Err(_) => return ExitCode::from(NO_COMMAND),
+        // Words that are no text are no command.
+        Err(_) => return ExitCode::from(status::NO_COMMAND),
     };
     let mut source = StdSource::new(rt.stdin());
     let mut sink = StdSink::new(rt.stdout());

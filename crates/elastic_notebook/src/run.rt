@@ -13,42 +13,43 @@ ghost use Rattle.elastic_notebook.specs.Statuses.{IsStatusOf};
 
 use crate::say::{Question, say};
 use command_words::{Command, command_of};
-use nb_outside::{Feeds, Sink, Source};
+use nb_outside::{Feeds, Sink, Source, status};
 use node_run::run_stream;
 use notebook_engine::Notebook;
 use save_command::save;
 
 /// Does what the words say, and gives the exit status of the program. The words leave out the program's name.
 ///
-/// `run` takes in the frames of the source: sessions are opened on hosts, and asked to run cells and to move. When the source has ended, each
-/// session is served in the order of opening, its control requests first, on a kernel and with a feed of its own; then the errors of
-/// the stream are written, and each session's frames. The contract says that each session's journal is a legal history, in which each
-/// reply is that of a kernel that never moved, and a move is by a plan that none undercuts; and that what is written is what the
-/// journals say. `--hosts n` is how many hosts there are, from 1 to 64, and `--workers n` how many workers each has, from 1 to 16; one
-/// thread does the work of all.
+/// `run` takes in the frames of the source: sessions are opened on hosts, and asked to run cells and to move. When the source has
+/// ended, each session is served in the order of opening, its control requests first, on a kernel and with a feed of its own.
+/// Then the errors of the stream are written, and each session's frames. The contract says that each session's journal is a legal
+/// history, in which each reply is that of a kernel that never moved, and each move is by a plan that no plan undercuts. It also
+/// says that what is written is what the journals say. `--hosts n` is how many hosts there are, from 1 to 64, and `--workers n`
+/// how many workers each has, from 1 to 16. One thread does the work of all.
 ///
-/// `save c b r s` serves the source as `run` does on one host, and then writes, in place of frames, the checkpoint of the session that
-/// was opened first, under a least-cost plan: a copy costs c and b for each byte, a cell that is run again r and s for each step, each
-/// from 0 to 1,000,000.
+/// `save c b r s` serves the source as `run` does on one host, and then writes, in place of frames, the checkpoint of the session
+/// that was opened first, under a least-cost plan: a copy costs c and b for each byte, a cell that is run again r and s for each
+/// step, each from 0 to 1,000,000.
 ///
 /// `plan c b r s` reads a checkpoint from the source and prints a least-cost plan of its graph under such weights.
 ///
-/// `restore` reads a checkpoint from the source, restores it on host 0, and prints a line `name = value` for each name, in ascending order,
-/// and one with the count and the meter.
+/// `restore` reads a checkpoint from the source, restores it on host 0, and prints a line `name = value` for each name, in
+/// ascending order, and one with the count and the meter.
 ///
 /// The statuses:
 ///
 /// - 0: the input was read to its end, and everything was written.
 /// - 1: the words are no command. Nothing is read or written.
-/// - 2: `run`, `save`: a length outside 1 to 1,048,576 comes where a frame begins, or the input ends within a frame. `run` serves and writes
-///   what comes before, with an error that names the place; `save` writes nothing.
+/// - 2: `run`, `save`: a length outside 1 to 1,048,576 comes where a frame begins, or the input ends within a frame. `run` serves
+///   and writes what comes before, with an error that names the place; `save` writes nothing.
 /// - 3: the source met a fault. `run`: what it gave before is served and written; else nothing is written.
 /// - 4: the sink met a fault. What is out is a prefix of what was to be written.
-/// - 5: memory ran out outside a cell; `save`: or the first session died of it. `run`: what is out is a prefix of what was to be written;
-///   else nothing is written.
-/// - 6: `plan`: the weights sum to 2^63 or more. `save`: this, a part of the first session that can be neither copied nor computed again, no
-///   session, or a dead one.
-/// - 7: `plan`, `restore`: the input was read to its end and is no checkpoint. The line names the first byte, version or cell by which it is none.
+/// - 5: memory ran out outside a cell; `save`: or the first session died of it. `run`: what is out is a prefix of what was to be
+///   written; else nothing is written.
+/// - 6: `plan`: the weights sum to 2^63 or more. `save`: this, a part of the first session that can be neither copied nor
+///   computed again, no session, or a dead one.
+/// - 7: `plan`, `restore`: the input was read to its end and is no checkpoint. The line names the first byte, version or cell
+///   that shows it.
 /// - 8: `restore`: a cell that is run again calls `draw()`.
 /// - 9: `restore`: the state isn't as the checkpoint says: a version isn't as it was, or a name is in none.
 /// - 10: 4,294,967,295 reads each took a byte. `run`: what they gave is served and written; else nothing is written.
@@ -95,6 +96,6 @@ pub fn top<R: AllocGlobal, S: Source, K: Sink, D: Feeds>(
         Some(Command::Save(weights)) => save(alloc, source, sink, feeds, &weights),
         Some(Command::Plan(weights)) => say(alloc, source, sink, &Question::Plan(weights)),
         Some(Command::Restore) => say(alloc, source, sink, &Question::Restore),
-        None => 1,
+        None => status::NO_COMMAND,
     }
 }

@@ -4,7 +4,7 @@ ghost use Rattle.elastic_notebook.specs.Saying.{IsAsked, IsAnswered, Says, SaysT
 
 use crate::streams::{ReadingEnd, read_all};
 use graph_model::Weights;
-use nb_outside::{Sink, Source};
+use nb_outside::{Sink, Source, status};
 use node_run::write_all;
 use plan_command::{Said, planned};
 use restore_command::restored;
@@ -47,15 +47,15 @@ pub fn say<S: Source, K: Sink>(
     let mut bytes = Vec::new(alloc);
     match read_all(alloc, source, &mut bytes) {
         ReadingEnd::End => {}
-        ReadingEnd::Failed => return 3,
-        ReadingEnd::TooMany => return 10,
-        ReadingEnd::OutOfMemory => return 5,
+        ReadingEnd::Failed => return status::SOURCE_FAULT,
+        ReadingEnd::TooMany => return status::TOO_MANY_READS,
+        ReadingEnd::OutOfMemory => return status::OUT_OF_MEMORY,
     }
     let Ok(said) = said_of(alloc, question, bytes.as_slice()) else {
-        return 5;
+        return status::OUT_OF_MEMORY;
     };
     match write_all(sink, said.text.as_str().as_bytes()) {
         Ok(()) => said.status,
-        Err(_) => 4,
+        Err(_) => status::SINK_FAULT,
     }
 }

@@ -22,7 +22,7 @@ pub enum ReadingEnd {
 /// How many bytes each read asks for.
 const PIECE: usize = 65_536;
 
-/// Reads one piece and adds it to the bytes. `None` where there may be more.
+/// Reads one piece and adds it to the bytes. `None` if there may be more.
 fn read_piece<S: Source>(
     source: &mut S,
     piece: &mut [u8],
@@ -47,7 +47,7 @@ fn read_piece<S: Source>(
     }
 }
 
-/// Room for a piece of so many bytes.
+/// Room for a piece with this number of bytes.
 fn room(alloc: Global, count: usize) -> Result<Vec<u8>, AllocError>
     ensures { IfOk result (λ piece. vec_len piece ≡ count) }
 {

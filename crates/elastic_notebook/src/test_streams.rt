@@ -11,9 +11,10 @@ pub enum Asked {
     /// A cell with this code, written as a JSON text.
     Cell(&'static str),
     SilentCell(&'static str),
-    /// A cell of so many letters `x`.
+    /// A cell of this number of letters `x`.
     LongCell(u32),
-    /// A move to this host: copies cost the first for each and the second for each byte, cells that run again the third and, for each step, the fourth.
+    /// A move to this host: copies cost the first for each and the second for each byte, cells that run again the third and, for
+    /// each step, the fourth.
     Move(u32, [u32; 4]),
     /// The same, on the control channel.
     MoveAtOnce(u32, [u32; 4]),
@@ -123,7 +124,7 @@ fn feeds(alloc: Global) -> Result<MemFeeds, AllocError> {
     Ok(MemFeeds::new(vec![in alloc; Drawn::Failed, Drawn::Word(7)]?))
 }
 
-/// What a command answers and writes for these bytes, where the calls with these numbers fail.
+/// What a command answers and writes for these bytes, if the calls with these numbers fail.
 pub fn answered(
     rt: &HostRuntime,
     words: &[&str],
@@ -160,7 +161,8 @@ pub fn count_of(bytes: &[u8], text: &str) -> usize {
         .count()
 }
 
-/// What is wrong with what a command answers and writes: the status, if it isn't 0, and each text that doesn't come in it so often.
+/// What is wrong with what a command answers and writes: the status, if it isn't 0, and each text that doesn't come in it this
+/// number of times.
 pub fn wrong(
     rt: &HostRuntime,
     words: &[&str],

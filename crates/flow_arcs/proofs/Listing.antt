@@ -185,7 +185,7 @@ taken_small (arc ∷ arcs) (x ∷ on) node h =
     let b = h 0 in
     elim (arc.to == node) as (λ c. cond c x 0 + taken arcs on node ≤ (suc (length arcs)) * 2 ^ 64) [ true ↦ omega arith | false ↦ omega arith ]
 
--- a walk begins where no later arc leaves the node
+-- a walk begins at an entry above the numbers of all arcs that leave the node
 pub walk_begins : (ts xs : List ℕ) (node place : ℕ) → length xs ≡ length ts → place ≤ length ts → ((e : ℕ) → place ≤ e → e < length ts → get_or ts e 0 ≢ node)
     → below (length ts) ts xs node ≡ below place ts xs node
 walk_begins ts xs node place l b f = below_skip (length ts - place) place (length ts) ts xs node (omega arith) (omega arith) l f
@@ -236,6 +236,6 @@ listed_more nodes arcs arc first first' next h j f r a b = record {
       (let l = length-set first' arc.from (length next + 1) in omega arith));
 }
 
--- the lists have two places for each arc
+-- the lists have two entries for each arc
 pub listed_length : (nodes : ℕ) (arcs : List Arc) (first next : List ℕ) → IsListed (record { nodes = nodes; arcs = arcs }) first next → length next ≡ 2 * length arcs
 listed_length nodes arcs first next h = h.lists.nexts ∙ (length_tails arcs ∙ length_heads arcs)

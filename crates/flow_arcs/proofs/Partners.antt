@@ -187,7 +187,7 @@ pub length_heads : (arcs : List Arc) → length (heads arcs) ≡ 2 * length arcs
 length_heads [] = refl
 length_heads (arc ∷ arcs) = let e = length_heads arcs in omega arith
 
--- nothing is left behind the last arc
+-- nothing is left after the last arc
 pub carried_none : (arcs : List Arc) (rest : List ℕ) (n : ℕ) → IsPaired arcs rest → length arcs ≤ n → carried (drop (2 * n) rest) ≡ []
 carried_none arcs rest n h l = let e = pairs_length arcs rest h in let d = length_heads arcs in rw (drop_all (2 * n) rest (omega arith))
 

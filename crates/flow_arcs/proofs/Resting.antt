@@ -20,7 +20,7 @@ rests_carried rest on i x y l e h more =
     rw (append_assoc (rest ++ x ∷ []) (y ∷ []) more, append_assoc rest (x ∷ []) (y ∷ more))
     (h (x ∷ y ∷ more) ∙ (sym (append_assoc (take i on) (y ∷ []) (carried more)) ∙ ap (λ xs. xs ++ carried more) (ap (λ n. take i on ++ n ∷ []) e ∙ sym (take_more on i 0 l))))
 
--- behind the last arc
+-- after the last arc
 pub all_paired : (arcs : List Arc) (rest : List ℕ) (i : ℕ) → length arcs ≤ i → ((more : List ℕ) → IsPaired (drop i arcs) more → IsPaired arcs (rest ++ more)) → IsPaired arcs rest
 all_paired arcs rest i l h = let p = h [] (rw (drop_all i arcs l) tt) in rw append-nil at p
 

@@ -9,7 +9,7 @@ use Rattle.flow_arcs.specs.declared.search.Reached.{Reached}
 use Rattle.flow_arcs.specs.Ends.{arc_at, far_end}
 use Rattle.flow_arcs.specs.Searches.{reached_at, IsLinked, zeros, IsSearch, IsDone, IsClosed}
 
--- a place with a number that isn't 0 is within the list
+-- an index with a number that isn't 0 is within the list
 pub below_length : (xs : List ℕ) (i : ℕ) → 0 < get_or xs i 0 → i < length xs
 below_length xs i h = elim (cases_lt i (length xs)) [ inl l ↦ l | inr g ↦ absurd (let e = get_or_past xs i 0 g in omega arith) ]
 

@@ -23,7 +23,7 @@ within_each [] (x ∷ flow) e h = absurd (omega arith)
 within_each (arc ∷ arcs) [] e h = absurd (omega arith)
 within_each (arc ∷ arcs) (x ∷ flow) e h = (h 0 (omega arith), within_each arcs flow (omega arith) (λ i k. h (suc i) (omega arith)))
 
--- the capacity at a place of the list of capacities
+-- the capacity at an index of the list of capacities
 pub capacity_at : (arcs : List Arc) (i : ℕ) → get_or (map (λ (arc : Arc). arc.capacity) arcs) i 0 ≡ (get_or arcs i no_arc).capacity
 capacity_at [] i = refl
 capacity_at (arc ∷ arcs) zero = refl

@@ -69,7 +69,7 @@ pub way_fits : (arcs : List Arc) (rest rank : List ℕ) (stop : Stop) (more : Li
 way_fits arcs rest rank stop [] h = h.1
 way_fits arcs rest rank stop (before ∷ more) h = let r = way_fits arcs rest rank before more h.1 in let a = h.0.asked in omega arith
 
--- a stop that sent on a part of what it asks
+-- a stop that sent on some of what it asks
 abbrev pub sent : Stop → ℕ → Stop
 sent stop amount = record { node = stop.node; arc = stop.arc; need = stop.need - amount; got = stop.got + amount }
 
@@ -166,7 +166,7 @@ left_source net rest rank rank' turn stop mark h r = record {
   way = h.way;
 }
 
--- another place in the list of the last stop's node
+-- another entry of the list of the last stop's node
 pub went_on : (net : Net) (rest rank turn : List ℕ) (stop : Stop) (more : List Stop) (arc place : ℕ) → IsNet net → IsSending net rest rank turn stop more → get_or (tails net.arcs) arc 0 ≡ stop.node
     → ((e : ℕ) → place ≡ e + 1 → (e < length (heads net.arcs)) × (get_or (tails net.arcs) e 0 ≡ get_or (tails net.arcs) arc 0))
     → IsSending net rest rank (set turn stop.node place) stop more

@@ -7,7 +7,8 @@ use Rattle.flow_arcs.specs.Ends.{arc_at, near_end, spare_room}
 abbrev pub HasRoom : Bool → List Arc → List ℕ → ℕ → Type 0
 HasRoom leaving arcs on a = 0 < spare_room leaving (arc_at arcs a) (slice_index on a)
 
--- those with room of the first `count` arcs, linked: a place holds one more than an arc's number, or 0, and skips no such arc of the same node
+-- those with room of the first `count` arcs, linked: an entry is one more than an arc's number, or 0, and skips no such arc
+-- of the same node
 pub record IsChain (leaving : Bool) (nodes : ℕ) (arcs : List Arc) (on : List ℕ) (count : ℕ) (first next : List ℕ) : Type 0 where
   pub firsts : length first ≡ nodes
   pub nexts : length next ≡ count

@@ -2,14 +2,14 @@
 use Rattle.std.specs.Prelude.{ℕ, ◌-◌, Bool, true, false, List, slice_index_or}
 use Rattle.flow_model.specs.declared.Arc.{Arc}
 
--- what is read behind the end of a list of arcs
+-- what is read after the end of a list of arcs
 abbrev pub no_arc : Arc
 no_arc = record { from = 0; to = 0; capacity = 0 }
 
 abbrev pub arc_at : List Arc → ℕ → Arc
 arc_at arcs number = slice_index_or arcs number no_arc
 
--- the end at which a push begins: the first node where it goes along the arc, else the second
+-- the end at which a push begins: the first node if it goes along the arc, else the second
 abbrev pub near_end : Bool → Arc → ℕ
 near_end true arc = arc.from
 near_end false arc = arc.to

@@ -4,7 +4,8 @@ use Rattle.flow_model.specs.Flows.{Net}
 use Rattle.flow_arcs.specs.Networks.{IsNumbered}
 use Rattle.flow_arcs.specs.Pairs.{tails}
 
--- each node's list has each directed arc that leaves it once: a place holds one more than an arc's number, or 0, and skips no arc of the same node
+-- each node's list has each directed arc that leaves it once: an entry is one more than an arc's number, or 0, and skips no
+-- arc of the same node
 pub record IsLists (tails first next : List ℕ) : Type 0 where
   pub nexts : length next ≡ length tails
   pub first_low : (node : ℕ) → slice_index first node ≤ length tails

@@ -36,7 +36,7 @@ carried [] = []
 carried (x ∷ []) = []
 carried (x ∷ y ∷ rest) = y ∷ carried rest
 
--- an amount goes along a directed arc: it may carry so much less, and its partner so much more
+-- an amount goes along a directed arc: it may carry that much less, and its partner that much more
 abbrev pub pushed : List ℕ → ℕ → ℕ → List ℕ
 pushed [] e amount = []
 pushed (x ∷ []) e amount = x ∷ []

@@ -5,11 +5,12 @@ use Rattle.flow_model.specs.Flows.{IsWithin}
 use Rattle.flow_arcs.specs.declared.search.Reached.{Reached}
 use Rattle.flow_arcs.specs.Ends.{arc_at, near_end, far_end, spare_room}
 
--- the entry at a place of the tree
+-- the entry at an index of the tree
 abbrev pub reached_at : List Reached → ℕ → Reached
 reached_at tree k = slice_index_or tree k (record { node = 0; arc = 0; back = 0; leaving = false; room = 0 })
 
--- an entry of the tree: an arc with room leads to its node from the node of an earlier entry, and its room is at most that of each arc on the way
+-- an entry of the tree: an arc with room leads to its node from the node of an earlier entry, and its room is at most that
+-- of each arc on the way
 pub record IsLinked (arcs : List Arc) (on : List ℕ) (tree : List Reached) (k : ℕ) (entry : Reached) : Type 0 where
   pub earlier : entry.back < k
   pub numbered : entry.arc < length arcs
@@ -25,7 +26,7 @@ abbrev pub zeros : List ℕ → ℕ
 zeros [] = 0
 zeros (x ∷ xs) = cond (x == 0) 1 0 + zeros xs
 
--- a tree of reached nodes, and for each node one more than its place there, or 0
+-- a tree of reached nodes, and for each node one more than its index there, or 0
 pub record IsSearch (arcs : List Arc) (on : List ℕ) (tree : List Reached) (seen : List ℕ) : Type 0 where
   pub within : IsWithin arcs on
   pub joined : (leaving : Bool) (a : ℕ) → a < length arcs → far_end leaving (arc_at arcs a) < length seen

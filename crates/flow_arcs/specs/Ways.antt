@@ -1,15 +1,15 @@
--- The way on which flow is sent, from the source down to the node where it is by now.
+-- The way on which flow is sent, from the source down to the node that it has reached.
 use Rattle.std.specs.Prelude.{◌≡◌, ◌≢◌, ℕ, ◌+◌, ◌^◌, ◌<◌, ◌≤◌, cond, ◌==◌, List, [], ◌∷◌, length, slice_index}
 use Rattle.flow_model.specs.declared.Arc.{Arc}
 use Rattle.flow_model.specs.Flows.{Net, given, taken}
 use Rattle.flow_arcs.specs.declared.send.Stop.{Stop}
 use Rattle.flow_arcs.specs.Pairs.{heads, tails, carried, IsPaired}
 
--- each place is 0 or one more than the number of a directed arc that leaves this node
+-- each entry is 0 or one more than the number of a directed arc that leaves this node
 abbrev pub LeavesEach : List Arc → List ℕ → Type 0
 LeavesEach arcs places = (node e : ℕ) → slice_index places node ≡ e + 1 → (e < length (heads arcs)) × (slice_index (tails arcs) e ≡ node)
 
--- each place is 0 or one more than the number of a directed arc that leaves the same node as this one
+-- each entry is 0 or one more than the number of a directed arc that leaves the same node as this one
 abbrev pub LeavesSame : List Arc → List ℕ → Type 0
 LeavesSame arcs places = (d e : ℕ) → slice_index places d ≡ e + 1 → (e < length (heads arcs)) × (slice_index (tails arcs) e ≡ slice_index (tails arcs) d)
 

@@ -7,8 +7,8 @@ use crate::ends::{near_end, spare_room};
 use flow_model::Arc;
 use std::alloc::{AllocError, Global};
 
-/// The arcs with room that begin at each node, or those that end there: linked lists from the latest arc to the first. A
-/// place holds one more than an arc's number, and 0 where the list ends.
+/// The arcs with room that begin at each node, or those that end there: linked lists from the latest arc to the first. An
+/// entry is one more than an arc's number, or 0 if the list ends.
 #[derive(Drop)]
 pub struct Chain {
     pub first: Vec<u32>,

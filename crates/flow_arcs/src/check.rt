@@ -2,7 +2,7 @@ ghost use Rattle.std.specs.Prelude.{◌≡◌, MatchResult};
 ghost use Rattle.flow_model.specs.Flows.{IsLegal};
 ghost use Rattle.flow_arcs.specs.Faults.{IsFirstFault};
 
-use crate::flow::{Flow, sums_at};
+use crate::flow::{ArcFlow, sums_at};
 use crate::network::Network;
 use std::error::Error;
 use std::fmt;
@@ -31,7 +31,7 @@ impl fmt::Display for FlowFault {
 impl Error for FlowFault {}
 
 /// Whether a flow is legal, and else its first fault: its length, then the arcs, then the nodes. Takes no memory.
-pub fn check_flow(net: &Network, flow: &Flow) -> Result<(), FlowFault>
+pub fn check_flow(net: &Network, flow: &ArcFlow) -> Result<(), FlowFault>
     ensures { MatchResult result (λ _. IsLegal net.now flow.now.on) (IsFirstFault net.now flow.now.on) }
 {
     let arcs = net.arcs();

@@ -3,7 +3,7 @@ ghost use Rattle.flow_arcs.specs.Ends.{near_end, far_end, spare_room};
 
 use flow_model::Arc;
 
-/// The end at which a push begins: the first node where it goes along the arc, else the second.
+/// The end at which a push begins: the first node if it goes along the arc, else the second.
 pub fn near_end(arc: &Arc, leaving: bool) -> u32
     ensures { result ≡ near_end leaving arc.now }
 {

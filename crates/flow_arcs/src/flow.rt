@@ -7,7 +7,7 @@ use plain_data::Items;
 
 /// One number for each arc: what it carries.
 #[derive(Debug, Drop)]
-pub struct Flow {
+pub struct ArcFlow {
     pub on: Items<u64>,
 }
 
@@ -17,7 +17,7 @@ pub struct Cut {
     pub inside: Items<bool>,
 }
 
-impl Flow {
+impl ArcFlow {
     /// What leaves the source. Takes no memory.
     pub fn value(&self, net: &Network) -> u128
         requires { length self.now.on ≡ length net.now.arcs }

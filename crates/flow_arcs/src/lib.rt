@@ -5,7 +5,7 @@
 //! node to node as one. Then, as long as a search from the source reaches the sink, they send flow along the path that it
 //! found, and down the distances to the sink until that sends none. The nodes that the last search reached are a cut whose
 //! capacity is the flow's value, so no flow is greater: that rests on this search alone, and each pass before it keeps the
-//! flow legal. So the ranks, by which flow is sent, promise their number alone, and whatever they are the flow is greatest.
+//! flow legal. The ranks, by which flow is sent, promise only how many they are: the flow is greatest whatever they are.
 //! `check_flow` says whether a flow is legal, and else its first fault, by one walk along each node's list.
 //!
 //! What the contracts leave open: when memory runs out, so that a body which always answers so meets them, and the calls run
@@ -30,7 +30,7 @@ mod solve;
 mod turns;
 
 pub use check::{FlowFault, check_flow};
-pub use flow::{Cut, Flow};
+pub use flow::{ArcFlow, Cut};
 pub use network::Network;
 pub use solve::{max_flow, max_flow_with_cut};
 

@@ -3,15 +3,15 @@ ghost use Rattle.std.specs.Vec.{vec_len, vec_capacity};
 
 use std::alloc::{AllocError, Global};
 
-/// The directed arcs of each node as linked lists, from the latest to the first. A place holds one more than an arc's
-/// number, and 0 where the list ends.
+/// The directed arcs of each node as linked lists, from the latest to the first. An entry is one more than an arc's
+/// number, or 0 if the list ends.
 #[derive(Debug, Drop)]
 pub struct Lists {
     pub first: Vec<u32>,
     pub next: Vec<u32>,
 }
 
-/// The number at that place, and 0 behind the end.
+/// The number at that index, or 0 after the end.
 pub fn number_at(numbers: &[u32], at: u32) -> u32
     ensures { result ≡ slice_index numbers.now at }
 {

@@ -45,7 +45,7 @@ impl Network {
         }
     }
 
-    /// Adds an arc, and gives its number: how many there were before. After an error, which also comes where there would
+    /// Adds an arc, and gives its number: how many there were before. After an error, which also comes if there would
     /// be 2^31 arcs, nothing has changed.
     pub fn add(&mut self, from: u32, to: u32, capacity: u64) -> Result<u32, AllocError>
         requires from_within { from < self.old.nodes }

@@ -9,7 +9,7 @@ pub fn partner(arc: u32) -> u32
     if arc % 2 == 0 { arc + 1 } else { arc - 1 }
 }
 
-/// Sends the amount along a directed arc: it may carry so much less from then on, and its partner so much more.
+/// Sends the amount along a directed arc: from then on it may carry that much less, and its partner that much more.
 pub fn push(rest: &mut Vec<u64>, arc: u32, amount: u64)
     requires arc { arc < length rest.old.items }
     requires back { partner arc < length rest.old.items }

@@ -3,10 +3,10 @@ ghost use Rattle.flow_model.specs.Flows.{IsLegal, value};
 ghost use Rattle.flow_arcs.specs.Searches.{IsSearch};
 
 use crate::network::Network;
-use crate::search::Search;
+use crate::search::RoomSearch;
 
 /// Pushes along the path on which a search reached the sink as much as it has room for.
-pub fn push_along(net: &Network, on: &mut [u64], search: &Search)
+pub fn push_along(net: &Network, on: &mut [u64], search: &RoomSearch)
     requires legal { IsLegal net.now on.old }
     requires search { IsSearch net.now.arcs on.old search.now.tree.items search.now.seen.items }
     requires reached { 0 < slice_index search.now.seen.items 1 }

@@ -70,7 +70,7 @@ impl Ranking {
     }
 }
 
-/// How far each node is from the sink along arcs that may carry more; shut where it doesn't reach the sink.
+/// How far each node is from the sink along arcs that may carry more; shut if it doesn't reach the sink.
 pub fn distances(
     alloc: Global,
     net: &Network,
@@ -110,7 +110,7 @@ fn lift(arcs: &[Arc], rank: &mut Vec<u32>) -> bool
     lifted
 }
 
-/// An order of the nodes in which each arc goes to a lower rank, where a few walks over the arcs find one. Else arcs
+/// An order of the nodes in which each arc goes to a lower rank, if a few walks over the arcs find one. Else arcs
 /// may go up.
 pub fn downward(alloc: Global, net: &Network) -> Result<Vec<u32>, AllocError>
     ensures { IfOk result (λ rank. length rank.items ≡ net.now.nodes) }

@@ -10,7 +10,7 @@ use crate::network::Network;
 use flow_model::Arc;
 use std::alloc::{AllocError, Global};
 
-/// A node that a search reached: by which arc, whether along it, from the entry at which place, and how much may be
+/// A node that a search reached: by which arc, whether along it, from the entry at which index, and how much may be
 /// pushed there from the source.
 #[derive(Clone, Copy)]
 pub struct Reached {
@@ -21,21 +21,21 @@ pub struct Reached {
     pub room: u64,
 }
 
-/// What a search reached, in the order in which it did, and for each node one more than its place there, or 0.
+/// What a search reached, in the order in which it did, and for each node one more than its index there, or 0.
 #[derive(Drop)]
-pub struct Search {
+pub struct RoomSearch {
     pub tree: Vec<Reached>,
     pub seen: Vec<usize>,
 }
 
-/// Reaches the far end of an arc that has room, where it wasn't reached before.
+/// Reaches the far end of an arc that has room, if it wasn't reached before.
 fn look_along(
     arcs: &[Arc],
     on: &[u64],
     number: u32,
     at: usize,
     leaving: bool,
-    search: &mut Search,
+    search: &mut RoomSearch,
 ) -> Result<(), AllocError>
     requires search { IsSearch arcs.now on.now search.old.tree.items search.old.seen.items }
     requires at { at < length search.old.tree.items }
@@ -69,7 +69,7 @@ fn spread_from(
     chain: &Chain,
     at: usize,
     leaving: bool,
-    search: &mut Search,
+    search: &mut RoomSearch,
 ) -> Result<(), AllocError>
     requires few { length arcs.now < 2 ^ 32 }
     requires search { IsSearch arcs.now on.now search.old.tree.items search.old.seen.items }
@@ -89,7 +89,7 @@ fn spread_from(
 }
 
 /// Searches from the source along arcs with room, nearest nodes first, until the sink is reached or nothing is left.
-pub fn search_room(alloc: Global, net: &Network, on: &[u64]) -> Result<Search, AllocError>
+pub fn search_room(alloc: Global, net: &Network, on: &[u64]) -> Result<RoomSearch, AllocError>
     requires within { IsWithin net.now.arcs on.now }
     ensures search { IfOk result (λ search. IsSearch net.now.arcs on.now search.tree.items search.seen.items) }
     ensures nodes { IfOk result (λ search. length search.seen.items ≡ net.now.nodes) }
@@ -109,7 +109,7 @@ pub fn search_room(alloc: Global, net: &Network, on: &[u64]) -> Result<Search, A
 }
 
 /// The search that has reached the source alone.
-fn begin_search(alloc: Global, net: &Network, on: &[u64]) -> Result<Search, AllocError>
+fn begin_search(alloc: Global, net: &Network, on: &[u64]) -> Result<RoomSearch, AllocError>
     requires { IsWithin net.now.arcs on.now }
     ensures search { IfOk result (λ search. IsSearch net.now.arcs on.now search.tree.items search.seen.items) }
     ensures nodes { IfOk result (λ search. length search.seen.items ≡ net.now.nodes) }
@@ -124,5 +124,5 @@ fn begin_search(alloc: Global, net: &Network, on: &[u64]) -> Result<Search, Allo
         leaving: true,
         room: u64::MAX,
     })?;
-    Ok(Search { tree, seen })
+    Ok(RoomSearch { tree, seen })
 }

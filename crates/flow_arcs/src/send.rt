@@ -24,8 +24,8 @@ pub struct Stop {
     pub got: u64,
 }
 
-/// For each directed arc the node that it enters, and the directed arcs of each node as linked lists. A place holds one
-/// more than an arc's number, and 0 where the list ends.
+/// For each directed arc the node that it enters, and the directed arcs of each node as linked lists. An entry is one
+/// more than an arc's number, or 0 if the list ends.
 #[derive(Drop)]
 pub struct Turns {
     pub to: Vec<u32>,
@@ -40,9 +40,9 @@ pub struct Sender {
     pub rest: Vec<u64>,
     /// The rank of each node.
     pub rank: Vec<u32>,
-    /// Where each node is in its list of arcs.
+    /// For each node the arc of its list whose turn it is: one more than the arc's number, or 0 after the last.
     pub turn: Vec<u32>,
-    /// The node where it is by now.
+    /// The node that it has reached.
     pub last: Stop,
     /// The stops before it, back to the source.
     pub before: Stack<Stop>,
@@ -166,7 +166,7 @@ impl Sender {
         Ok(())
     }
 
-    /// One step: along the arc whose turn it is, or back to the stop before. False where nothing is left to do.
+    /// One step: along the arc whose turn it is, or back to the stop before. False if nothing is left to do.
     fn step(&mut self, net: &Network, turns: &Turns) -> Result<bool, AllocError>
         requires few { length (heads net.now.arcs) < 2 ^ 32 }
         requires net { IsNet net.now }

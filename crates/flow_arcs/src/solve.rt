@@ -3,7 +3,7 @@ ghost use Rattle.flow_model.specs.Flows.{IsLegal, IsGreatest, IsCut, value, cut_
 ghost use Rattle.flow_arcs.specs.Sides.{side};
 
 use crate::fast::{levelled_flow, swept_flow};
-use crate::flow::{Cut, Flow};
+use crate::flow::{ArcFlow, Cut};
 use crate::network::Network;
 use crate::push::push_along;
 use crate::search::search_room;
@@ -11,7 +11,7 @@ use plain_data::Items;
 use std::alloc::{AllocError, Global};
 
 /// A greatest flow.
-pub fn max_flow(alloc: Global, net: &Network) -> Result<Flow, AllocError>
+pub fn max_flow(alloc: Global, net: &Network) -> Result<ArcFlow, AllocError>
     ensures legal { IfOk result (λ flow. IsLegal net.now flow.on) }
     ensures greatest { IfOk result (λ flow. IsGreatest net.now flow.on) }
 {
@@ -20,7 +20,7 @@ pub fn max_flow(alloc: Global, net: &Network) -> Result<Flow, AllocError>
 }
 
 /// A greatest flow, and a cut of that capacity, which says of each node whether it is in.
-pub fn max_flow_with_cut(alloc: Global, net: &Network) -> Result<(Flow, Cut), AllocError>
+pub fn max_flow_with_cut(alloc: Global, net: &Network) -> Result<(ArcFlow, Cut), AllocError>
     ensures legal { IfOk result (λ both. IsLegal net.now both.0.on) }
     ensures cut { IfOk result (λ both. IsCut (side both.1.inside)) }
     ensures nodes { IfOk result (λ both. length both.1.inside ≡ net.now.nodes) }
@@ -32,7 +32,7 @@ pub fn max_flow_with_cut(alloc: Global, net: &Network) -> Result<(Flow, Cut), Al
     loop {
         let search = search_room(alloc, net, &on)?;
         if search.seen[1] == 0 {
-            let flow = Flow {
+            let flow = ArcFlow {
                 on: Items::from_vec(on),
             };
             let cut = Cut {

@@ -1,4 +1,4 @@
-use crate::{Flow, FlowFault, Network, check_flow, max_flow, max_flow_with_cut};
+use crate::{ArcFlow, FlowFault, Network, check_flow, max_flow, max_flow_with_cut};
 use flow_model::Arc;
 use plain_data::Items;
 use std::alloc::{AllocError, Global};
@@ -10,7 +10,7 @@ fn arc(from: u32, to: u32, capacity: u64) -> Arc {
     Arc { from, to, capacity }
 }
 
-/// The network with these arcs, numbered as they stand.
+/// The network with these arcs, numbered in their order.
 fn build(rt: &impl Abort, alloc: Global, nodes: u32, arcs: &[Arc]) -> Result<Network, AllocError> {
     assert!(rt; nodes >= 2);
     let mut net = Network::new(alloc, nodes);
@@ -97,7 +97,7 @@ fn ends(arcs: &[Arc], number: usize) -> (u32, u32) {
     }
 }
 
-/// The number at that place, and 0 behind the end.
+/// The number at that index, or 0 after the end.
 fn at(numbers: &[u64], place: usize) -> u64 {
     match numbers.get(place) {
         Some(number) => *number,
@@ -221,7 +221,7 @@ fn fault_of(
     on: &[u64],
 ) -> Result<Option<FlowFault>, AllocError> {
     let net = build(rt, alloc, 4, arcs)?;
-    let flow = Flow {
+    let flow = ArcFlow {
         on: Items::from_slice(alloc, on)?,
     };
     Ok(check_flow(&net, &flow).err())

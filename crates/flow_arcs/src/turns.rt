@@ -74,7 +74,7 @@ fn link(net: &Network, turns: &mut Turns, arc: u32)
 }
 
 /// Puts the arcs that enter the sink, or those that don't, before the others of their nodes, in the order in which they
-/// were added; the ways back too, where they are wanted.
+/// were added; the ways back too, if they are wanted.
 fn link_arcs(net: &Network, turns: &mut Turns, to_sink: bool, back: bool)
     requires few { length (heads net.now.arcs) < 2 ^ 32 }
     requires net { IsNet net.now }
@@ -92,7 +92,7 @@ fn link_arcs(net: &Network, turns: &mut Turns, to_sink: bool, back: bool)
 }
 
 /// The arcs of each node in the order in which flow is sent along them: first those that enter the sink, then the others,
-/// as they were added. The ways back are among them where they are wanted.
+/// as they were added. The ways back are among them if they are wanted.
 pub fn turns_of(alloc: Global, net: &Network, back: bool) -> Result<Turns, AllocError>
     requires few { length (heads net.now.arcs) < 2 ^ 32 }
     requires net { IsNet net.now }

@@ -73,7 +73,7 @@ total-step : (b : Bool) (x y t u v : ℕ) → x ≡ y → t ≡ v + u → cond b
 total-step true x y t u v e h = omega arith
 total-step false x y t u v e h = omega arith
 
--- over the nodes of a cut below n, what they give is the source's part and what they take
+-- over the nodes of a cut below n, what they give is what the source gives and what they take
 total-balanced : (side : ℕ → Bool) (f g : ℕ → ℕ) (n : ℕ) → side 0 ≡ true → side 1 ≡ false → g 0 ≡ 0 → ((k : ℕ) → 1 < k → k < suc n → g k ≡ f k)
     → total side (suc n) f ≡ f 0 + total side (suc n) g
 total-balanced side f g zero s t z h = rw (s, z) (omega arith)

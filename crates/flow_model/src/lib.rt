@@ -1,6 +1,6 @@
 //! Networks and flows as definitions, and the law that a cut bounds every flow.
 //!
-//! Node 0 of a network is the source and node 1 the sink. A flow gives each arc a number; it is legal where no arc
+//! Node 0 of a network is the source and node 1 the sink. A flow gives each arc a number; it is legal if no arc
 //! carries more than its capacity and each inner node gives what it takes. A cut is a set of nodes with the source and
 //! without the sink. (Any textbook on flows.)
 #![tactic(auto)]

@@ -1,8 +1,8 @@
-//! Entries of a journal, from the parts that a line has.
+//! Entries of a journal, from the members of a line.
 //!
 //! `request` is the message that is answered. By `entry`: `opened` has host; `ran` has reply, which is `executed` (count,
-//! silent, printed, shown, ename, evalue), `info`, `complete`, `incomplete` (indent), `invalid` or `shut` (restart); `died` has count
-//! and cause, `memory` or `full`; `dead` has count. `moves` has the others.
+//! silent, printed, shown, ename, evalue), `info`, `complete`, `incomplete` (indent), `invalid` or `shut` (restart); `died` has
+//! count and cause, `memory` or `full`; `dead` has count. `moves` has the others.
 
 use crate::members::{copy_in, message_in, small_in, text_in, truth_in};
 use crate::moves::move_of;
@@ -116,6 +116,7 @@ fn dead(alloc: Global, line: &Value) -> Result<Entry> {
     })
 }
 
+/// The entry that a line tells.
 pub fn entry_of(alloc: Global, line: &Value) -> Result<Entry> {
     match text_in(line, "entry")? {
         "opened" => opened(alloc, line),

@@ -31,6 +31,7 @@ fn about_in(alloc: Global, line: &Value) -> Result<Option<About>> {
     Ok(Some(About { kernel, header }))
 }
 
+/// The error that a line tells.
 pub fn error_of(alloc: Global, line: &Value) -> Result<NodeError> {
     Ok(NodeError {
         kind: kind_of(alloc, line)?,

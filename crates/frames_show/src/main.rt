@@ -1,14 +1,14 @@
 //! Shows what is written and read as frames, for tables of cases.
 //!
-//! Each line of standard input is a JSON object, by one of whose members it is known what is asked. For each, one line of
-//! JSON is printed. Bytes are written as hexadecimal digits.
+//! Each line of standard input is a JSON object. One of its members tells what is asked. For each, one line of JSON is printed.
+//! Bytes are written as hexadecimal digits.
 //!
-//! - `entry`, the kind of an entry of a journal, with its parts (`entries`): the running number after its frames, and the
-//!   frames, numbered from `first` on;
-//! - `error`, the name of a node's error, with its parts (`errors`): its frame;
+//! - `entry`, the kind of an entry of a journal, with the members that `entries` lists: the running number after its frames, and
+//!   the frames, numbered from `first` on;
+//! - `error`, the name of a node's error, with the members that `errors` lists: its frame;
 //! - `message`, a text: what is read of it as a message, or what its fault says;
-//! - `stream`, bytes, and `piece`: the bodies of the frames that are given for the bytes in pieces of so many, and how the
-//!   stream ends;
+//! - `stream`, bytes, and `piece`, a number: the bodies of the frames that are given for the bytes in pieces of that size, and
+//!   how the stream ends;
 //! - `bodies`, a list of bytes: their frames.
 #![tactic(auto)]
 

@@ -6,6 +6,7 @@ use plain_data::{Items, Text};
 use serde_json::Value;
 use std::alloc::Global;
 
+/// The member with this name, which has to be there. The same holds for each function here that takes a name.
 pub fn member<'a>(line: &'a Value, name: &str) -> Result<&'a Value> {
     match line.get(name) {
         Some(value) => Ok(value),
@@ -13,6 +14,7 @@ pub fn member<'a>(line: &'a Value, name: &str) -> Result<&'a Value> {
     }
 }
 
+/// The text that a member is.
 pub fn text_in<'a>(line: &'a Value, name: &str) -> Result<&'a str> {
     match member(line, name)?.as_str() {
         Some(text) => Ok(text),
@@ -20,10 +22,12 @@ pub fn text_in<'a>(line: &'a Value, name: &str) -> Result<&'a str> {
     }
 }
 
+/// A copy of the text that a member is.
 pub fn copy_in(alloc: Global, line: &Value, name: &str) -> Result<Text> {
     Ok(Text::new(alloc, text_in(line, name)?)?)
 }
 
+/// The number that a member is.
 pub fn number_in(line: &Value, name: &str) -> Result<u64> {
     match member(line, name)?.as_u64() {
         Some(number) => Ok(number),
@@ -38,10 +42,12 @@ fn small(number: u64) -> Result<u32> {
     }
 }
 
+/// The number below 2^32 that a member is.
 pub fn small_in(line: &Value, name: &str) -> Result<u32> {
     small(number_in(line, name)?)
 }
 
+/// The truth value that a member is.
 pub fn truth_in(line: &Value, name: &str) -> Result<bool> {
     match member(line, name)?.as_bool() {
         Some(truth) => Ok(truth),
@@ -49,6 +55,7 @@ pub fn truth_in(line: &Value, name: &str) -> Result<bool> {
     }
 }
 
+/// The items of the list that a member is.
 pub fn list_in<'a>(line: &'a Value, name: &str) -> Result<&'a [Value]> {
     match member(line, name)?.as_array() {
         Some(items) => Ok(items.as_slice()),
@@ -56,6 +63,7 @@ pub fn list_in<'a>(line: &'a Value, name: &str) -> Result<&'a [Value]> {
     }
 }
 
+/// The number below 2^32 that an item is.
 pub fn small_of(value: &Value) -> Result<u32> {
     match value.as_u64() {
         Some(number) => small(number),
@@ -63,6 +71,7 @@ pub fn small_of(value: &Value) -> Result<u32> {
     }
 }
 
+/// The text that an item is.
 pub fn text_of(value: &Value) -> Result<&str> {
     match value.as_str() {
         Some(text) => Ok(text),
@@ -70,6 +79,7 @@ pub fn text_of(value: &Value) -> Result<&str> {
     }
 }
 
+/// The numbers, each below 2^32, in the list that a member is.
 pub fn numbers_in(alloc: Global, line: &Value, name: &str) -> Result<Items<u32>> {
     let mut numbers = Vec::new(alloc);
     for item in list_in(line, name)? {
@@ -78,6 +88,7 @@ pub fn numbers_in(alloc: Global, line: &Value, name: &str) -> Result<Items<u32>>
     Ok(Items::from_vec(numbers))
 }
 
+/// Copies of the texts in the list that a member is.
 pub fn texts_in(alloc: Global, line: &Value, name: &str) -> Result<Items<Text>> {
     let mut texts = Vec::new(alloc);
     for item in list_in(line, name)? {

@@ -1,4 +1,4 @@
-//! What is read of a message: its parts, or what its fault says.
+//! What is read of a message, or what its fault says.
 
 use anyhow::{Result, bail};
 use jupyter_messages::{Ask, Channel, Header, Message, MessageKind, read_message};
@@ -112,6 +112,7 @@ fn message_shown(alloc: Global, message: Message) -> Result<Value, AllocError> {
     }
 }
 
+/// What is read of a text as a message, or what its fault says.
 pub fn read_of(alloc: Global, text: &str) -> Result<Value> {
     match read_message(alloc, text.as_bytes()) {
         Ok(message) => Ok(message_shown(alloc, message)?),

@@ -1,4 +1,4 @@
-//! The entries of moves, from the parts that a line has.
+//! The entries of moves, from the members of a line.
 //!
 //! By `entry`: `sealed` and `moved` have to; `adopted` has from, to, copied, rerun, cost, arcs (lists of two nodes and the
 //! flow; a node is a list of `s`, `v`, `c` or `t` and its number) and objects; `refused` has host and reason, which is `stuck`
@@ -124,6 +124,7 @@ fn resumed(alloc: Global, line: &Value) -> Result<Entry> {
     })
 }
 
+/// The entry of this kind that a line tells.
 pub fn move_of(alloc: Global, kind: &str, line: &Value) -> Result<Entry> {
     match kind {
         "sealed" => sealed(alloc, line),

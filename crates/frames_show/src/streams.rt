@@ -6,6 +6,9 @@ use jupyter_frames::{FrameFault, Framer, Next, write_frame};
 use serde_json::{Value, json};
 use std::alloc::Global;
 
+/// The most bytes of a frame's body that is read.
+const MOST_BODY: usize = 1_048_576;
+
 /// Takes the frames that are whole so far.
 fn take_all(
     alloc: Global,
@@ -59,7 +62,7 @@ pub fn written_of(alloc: Global, line: &Value) -> Result<Value> {
     let mut out = Vec::new(alloc);
     for item in list_in(line, "bodies")? {
         let body = hex::decode(alloc, text_of(item)?)?;
-        if body.is_empty() || body.len() > 1_048_576 {
+        if body.is_empty() || body.len() > MOST_BODY {
             bail!("no frame has such a body");
         }
         write_frame(body.as_slice(), &mut out)?;

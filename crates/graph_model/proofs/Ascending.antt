@@ -3,7 +3,7 @@ use Rattle.std.proofs.Common.{suc, List, [], ◌∷◌, ◌++◌, refl, arith}
 use Rattle.std.specs.Prelude.{Contains}
 use Rattle.graph_model.specs.Faults.{Ascends}
 
--- one element more at the end, that each other stands before
+-- one element more at the end, after each other one
 pub ascends-push : {X : Type 0} (Below : X → X → Type 0) (xs : List X) (y : X) → Ascends Below xs → ((x : X) → Contains xs x → Below x y) → Ascends Below (xs ++ y ∷ [])
 ascends-push Below [] y a h = tt
 ascends-push Below (x ∷ []) y a h = (h x (0, omega arith, refl), tt)

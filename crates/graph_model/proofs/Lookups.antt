@@ -27,7 +27,7 @@ version_within g v x h = let p : 0 < v = h.0 in let l = slice_get_within g.versi
 pub cell_within : (g : Graph) (c : ℕ) (x : CellRecord) → CellAt g c x → (0 < c) × (c ≤ length g.cells)
 cell_within g c x h = let p : 0 < c = h.0 in let l = slice_get_within g.cells (c - 1) x h.1 in (p, omega arith)
 
--- an element of the list of versions, by its place
+-- an element of the list of versions, by its index
 pub version_read : (g : Graph) (ys : List Version) (i : ℕ) (x : Version) → ys ≡ g.versions → i < length ys → x ≡ get_or ys i x → VersionAt g (i + 1) x
 version_read g ys i x same l e =
     let e1 : i + 1 - 1 ≡ i = omega arith in

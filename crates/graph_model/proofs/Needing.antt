@@ -128,7 +128,7 @@ marks_all g reads old marks i low high m w = (
   ]),
 )
 
--- among the first i places, `numbers` are those with a mark
+-- `numbers` are those below i with a mark
 pub record NumbersSo (marks : List Bool) (numbers : List ℕ) (i : ℕ) : Type 0 where
   pub ascends : Ascends (λ m n. m < n) numbers
   pub sound : (k : ℕ) → Contains numbers k → (k < i) × IsMarked marks k
@@ -160,7 +160,7 @@ numbers_same marks numbers i n h = record {
   ];
 }
 
--- the marks stand only at cells that version v needs, and each marked cell above `left` has its writers marked
+-- the marks are only at cells that version v needs, and each marked cell above `left` has its writers marked
 pub record NeedSo (g : Graph) (v : ℕ) (marks : List Bool) (left : ℕ) : Type 0 where
   pub room : length marks ≡ length g.cells + 1
   pub within : left ≤ length g.cells

@@ -5,7 +5,7 @@ use Rattle.std.proofs.lemmas.List.{get_or_read}
 use Rattle.std.proofs.lemmas.Bool.{cases_lt, cases_order}
 use Rattle.flow_model.specs.First.{IsFirst}
 
--- what fails at each place fails of each element
+-- what fails at each index fails of each element
 pub none_contained : {X : Type 0} (P : X → Type 0) (xs : List X) → ((k : ℕ) (d : X) → k < length xs → P (get_or xs k d) → ⊥) → (x : X) → Contains xs x → P x → ⊥
 none_contained P xs h x c p = h c.0 x c.1 (subst P (sym c.2) p)
 

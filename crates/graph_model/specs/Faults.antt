@@ -12,11 +12,11 @@ use Rattle.graph_model.specs.declared.graph.GraphFault.{GraphFault}
 use Rattle.graph_model.specs.declared.graph.GraphFault.TheVariants.{BadWriter, BadRead, TwoActive, BadNames}
 use Rattle.graph_model.specs.Graphs.{CellAt, VersionAt}
 
--- x stands before y, by the bytes
+-- x comes before y, by the bytes
 abbrev pub TextBelow : List ℕ → List ℕ → Type 0
 TextBelow x y = slice_cmp nat_cmp x y ≡ Less
 
--- each item but the last stands before the next
+-- each item but the last comes before the next
 abbrev pub Ascends : {X : Type 0} → (X → X → Type 0) → List X → Type 0
 Ascends Below [] = Unit {0}
 Ascends Below (x ∷ []) = Unit {0}
@@ -46,7 +46,7 @@ HasBadNames g v = (x : Version) × VersionAt g v x × NamesAreBad x
 abbrev pub ComesBefore : Version → Version → Type 0
 ComesBefore x y = (x.writer < y.writer) ⊎ ((x.writer ≡ y.writer) × TextBelow (least_name x.names) (least_name y.names))
 
--- among so many cells, a version has no writer or is replaced by no later cell
+-- a version has no writer among this number of cells, or is replaced, but by none of the later ones
 abbrev pub CellsAreBad : ℕ → Version → Type 0
 CellsAreBad cells x = (x.writer ≡ 0) ⊎ (cells < x.writer) ⊎ ((x.replaced ≢ 0) × ((x.replaced ≤ x.writer) ⊎ (cells < x.replaced)))
 
@@ -65,7 +65,8 @@ HasName g name u = (y : Version) × VersionAt g u y × Contains y.names name
 abbrev pub IsNextWith : Graph → ℕ → List ℕ → ℕ → Type 0
 IsNextWith g v name u = IsFirst (λ n. (v < n) × HasName g name n) u
 
--- version v is not replaced exactly by the first later cell that wrote one of its names, or shares a name with a version of its own writer
+-- version v is not replaced exactly by the first later cell that wrote one of its names, or shares a name with a version of
+-- its own writer
 abbrev pub IsTwoActive : Graph → ℕ → Type 0
 IsTwoActive g v = (x : Version) × VersionAt g v x ×
     (((name : List ℕ) × (u : ℕ) × (y : Version) × Contains x.names name × IsNextWith g v name u × VersionAt g u y × (y.writer ≢ x.replaced))

@@ -16,7 +16,7 @@ VersionAt g v x = (0 < v) × (slice_get g.versions (v - 1) ≡ Some x)
 abbrev pub IsActive : Graph → ℕ → Version → Type 0
 IsActive g v x = VersionAt g v x × (x.replaced ≡ 0)
 
--- cell c read a version that is replaced by now, and w wrote that version
+-- cell c read a version that is replaced, and w wrote that version
 abbrev pub ReadsOldOf : Graph → ℕ → ℕ → Type 0
 ReadsOldOf g c w = (cell : CellRecord) × (v : ℕ) × (x : Version) × CellAt g c cell × Contains cell.reads v × VersionAt g v x × (x.replaced ≢ 0) × (x.writer ≡ w)
 

@@ -8,10 +8,10 @@ use Rattle.graph_model.specs.Graphs.{VersionAt}
 abbrev pub IsMarked : List Bool → ℕ → Type 0
 IsMarked marks c = IsTrue (slice_index_or marks c false)
 
--- version v is replaced by now, and cell w wrote it
+-- version v is replaced, and cell w wrote it
 abbrev pub WroteOld : Graph → ℕ → ℕ → Type 0
 WroteOld g v w = (x : Version) × VersionAt g v x × (x.replaced ≢ 0) × (x.writer ≡ w)
 
--- cell w wrote a version of these that is replaced by now
+-- cell w wrote a version of these that is replaced
 abbrev pub WroteOldOf : Graph → List ℕ → ℕ → Type 0
 WroteOldOf g reads w = (v : ℕ) × Contains reads v × WroteOld g v w

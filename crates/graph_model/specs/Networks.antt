@@ -22,7 +22,7 @@ pub record PlanArc : Type 0 where
 abbrev pub unbounded : ℕ
 unbounded = 9223372036854775808
 
--- so many numbers from the first on
+-- as many numbers as the count, from the first on
 abbrev pub count_up : ℕ → ℕ → List ℕ
 count_up first zero = []
 count_up first (suc more) = first ∷ count_up (suc first) more
@@ -49,11 +49,11 @@ reads_of g c = elim (slice_get g.cells (c - 1)) [ None ↦ [] | Some x ↦ x.rea
 abbrev pub old_writers : Graph → ℕ → List ℕ
 old_writers g c = filter (λ w. list_any (is_old_of g w) (reads_of g c)) (cell_numbers g)
 
--- copying costs its weight, and can't be done where there is a handle
+-- copying costs its weight, and can't be done if there is a handle
 abbrev pub copy_capacity : Graph → Weights → ℕ → ℕ
 copy_capacity g w v = elim (slice_get g.versions (v - 1)) [ None ↦ 0 | Some x ↦ cond x.handle unbounded (copy_weight w x) ]
 
--- running again costs its weight, and can't be done where the cell drew
+-- running again costs its weight, and can't be done if the cell drew
 abbrev pub rerun_capacity : Graph → Weights → ℕ → ℕ
 rerun_capacity g w c = elim (slice_get g.cells (c - 1)) [ None ↦ 0 | Some x ↦ cond x.drew unbounded (rerun_weight w x) ]
 

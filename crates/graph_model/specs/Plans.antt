@@ -23,7 +23,7 @@ pub record IsFeasible (g : Graph) (p : Plan) : Type 0 where
   pub no_handle : (v : ℕ) (x : Version) → Contains p.copied v → VersionAt g v x → x.handle ≡ false
   pub no_draw : (c : ℕ) (x : CellRecord) → Contains p.rerun c → CellAt g c x → x.drew ≡ false
 
--- what copying a version costs: nothing where it is absent
+-- what copying a version costs: nothing if it is absent
 abbrev pub copy_weight : Weights → Version → ℕ
 copy_weight w x = cond x.absent 0 (w.copy_base + w.per_byte * x.size)
 
@@ -51,7 +51,7 @@ finite_rerun w x = cond x.drew 0 (rerun_weight w x)
 abbrev pub total_weight : Graph → Weights → ℕ
 total_weight g w = sum_by (finite_copy w) g.versions + sum_by (finite_rerun w) g.cells
 
--- weights are admitted where none of the four exceeds 1,000,000 and the finite weights sum below 2^63
+-- weights are admitted if none of the four exceeds 1,000,000 and the finite weights sum below 2^63
 pub record AreAdmitted (g : Graph) (w : Weights) : Type 0 where
   pub copy_base : w.copy_base ≤ 1000000
   pub per_byte : w.per_byte ≤ 1000000

@@ -189,7 +189,7 @@ impl Graph {
         None
     }
 
-    /// The first version with a bad writer or place.
+    /// The first version with a bad writer, or out of order.
     fn first_bad_writer(&self) -> Option<u32>
         requires { length self.now.versions < 2 ^ 32 }
         ensures { MatchOption result (Never (HasBadWriter self.now)) (λ n. IsFirst (HasBadWriter self.now) n) }
@@ -217,9 +217,9 @@ impl Graph {
         None
     }
 
-    /// Whether the graph is one: four walks, over the versions their names, their writers and order, their
-    /// replacements; then over the cells what they read and missed. The first walk that meets a fault names it, at the
-    /// least number. The last two look names up in an index, for which memory may be wanting.
+    /// Whether the graph is one. Four walks look: at the names of the versions, at their writers and order, at their
+    /// replacements, and at what the cells read and missed. The first walk that meets a fault names it, at the least
+    /// number. The last two walks look names up in an index, for which memory may run out.
     pub fn check(&self, alloc: Global) -> Result<Result<(), GraphFault>, AllocError>
         requires cells { length self.now.cells < 2 ^ 32 }
         requires versions { length self.now.versions < 2 ^ 32 }

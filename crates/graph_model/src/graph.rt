@@ -32,7 +32,7 @@ pub struct Version {
     pub absent: bool,
     /// Whether the part holds a handle. Such a version is never copied.
     pub handle: bool,
-    /// The length of the part's text, in bytes; 0 where it is absent or holds a handle.
+    /// The length of the part's text, in bytes; 0 if it is absent or holds a handle.
     pub size: u32,
 }
 
@@ -43,14 +43,15 @@ pub struct Graph {
     pub versions: Items<Version>,
 }
 
-/// What is wrong with a graph, in the order in which it is looked for.
+/// What is wrong with a graph, with the number of the version or of the cell.
 #[derive(Clone, Copy, Debug, PartialEq, Eq)]
 pub enum GraphFault {
     /// The version's writer or the order of the versions.
     BadWriter(u32),
     /// What the cell read or missed.
     BadRead(u32),
-    /// Two versions of one name that hold at once.
+    /// The version isn't replaced exactly by the first later cell that wrote one of its names, or it shares a name with a
+    /// version of its own writer.
     TwoActive(u32),
     /// The version's names.
     BadNames(u32),

@@ -62,7 +62,7 @@ impl Graph {
         Ok(())
     }
 
-    /// The least version that clashes of those from `v` on, where that of those after it is known.
+    /// Of the versions from `v` on, the least that clashes; `later` is that of the versions after `v`.
     fn least_clash(
         &self,
         index: &TextMap<u32>,
@@ -82,7 +82,7 @@ impl Graph {
         }
     }
 
-    /// Takes version `v` in, after those behind it.
+    /// Takes version `v` in, once the versions after it are in.
     fn take_in(&self, alloc: Global, v: u32, found: &mut Replacements) -> Result<(), AllocError>
         requires index { IsIndex self.now v found.old.index }
         requires clash { IsLeastClash self.now v found.old.clash }

@@ -23,7 +23,7 @@ fn marked_numbers(alloc: Global, marks: &[bool]) -> Result<Vec<u32>, AllocError>
 }
 
 impl Graph {
-    /// The cell that wrote version `v`, where that is replaced by now.
+    /// The cell that wrote version `v`, if the version is replaced.
     pub fn old_writer(&self, v: u32) -> Option<u32>
         ensures { MatchOption result ((w : ℕ) → ¬ WroteOld self.now v w) (λ w. WroteOld self.now v w) }
     {

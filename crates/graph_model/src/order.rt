@@ -3,7 +3,7 @@ ghost use Rattle.graph_model.specs.Faults.{TextBelow, Ascends, least_name};
 
 use plain_data::Text;
 
-/// Whether the first text stands before the second, by the bytes.
+/// Whether the first text comes before the second, by the bytes.
 pub(crate) fn is_below(x: &str, y: &str) -> bool
     ensures { IsTrue result ↔ TextBelow x.now y.now }
 {
@@ -17,7 +17,7 @@ fn is_same(x: &Text, y: &Text) -> bool
     x == y
 }
 
-/// Whether each text but the last stands before the next.
+/// Whether each text but the last comes before the next.
 pub(crate) fn texts_ascend(texts: &[Text]) -> bool
     ensures { IsTrue result ↔ Ascends TextBelow texts.now }
 {
@@ -61,7 +61,7 @@ pub(crate) fn has_name(names: &[Text], name: &Text) -> bool
     false
 }
 
-/// The first of the names; the empty text where there is none.
+/// The first of the names; the empty text if there is none.
 pub(crate) fn least_name(names: &[Text]) -> &str
     ensures { result.now ≡ least_name names.now }
 {

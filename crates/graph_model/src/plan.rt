@@ -1,6 +1,6 @@
 use plain_data::Items;
 
-/// What copying and running again cost. Each number is at most 1,000,000 where it is admitted.
+/// What copying and running again cost. Each number is at most 1,000,000 if it is admitted.
 #[derive(Clone, Copy, Debug, PartialEq, Eq)]
 pub struct Weights {
     pub copy_base: u64,

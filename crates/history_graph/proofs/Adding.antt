@@ -72,7 +72,7 @@ module _ (names : List Name) (i : ℕ) (x : Name) (l : i < length names) (e : ge
       ],
     )
 
--- ---- an element by its place
+-- ---- an element by its index
 
 pub place_is : {X : Type 0} (xs : List X) (i : ℕ) (x d : X) → i < length xs → x ≡ get_or xs i x → get_or xs i d ≡ x
 place_is xs i x d l e = get_or_default xs i d x l ∙ sym e

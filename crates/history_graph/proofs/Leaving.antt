@@ -1,10 +1,11 @@
 -- The versions of what a cell left.
-use Rattle.std.proofs.Common.{◌≡◌, ℕ, ◌+◌, ◌<◌, List, [], ◌∷◌, ◌++◌, length, get_or, take, Option, Some, None, refl, sym, ap, ◌∙◌, inl, inr, subst}
+use Rattle.std.proofs.Common.{◌≡◌, ℕ, ◌+◌, ◌<◌, List, [], ◌∷◌, ◌++◌, All, length, get_or, take, Option, Some, None, refl, sym, ap, ◌∙◌, inl, inr, subst}
 use Rattle.std.specs.Prelude.{Contains, is_some}
 use Rattle.std.specs.List.{AllZip}
 use Rattle.std.specs.FinMap as finite
 use Rattle.std.proofs.lemmas.Bool.{false≢true}
 use Rattle.std.proofs.lemmas.List.{take_more}
+use Rattle.std.proofs.lemmas.List.Elements.{Contains-get_or}
 use Rattle.std.proofs.lemmas.Option.{same_Some}
 use Rattle.py_heap.specs.declared.state.State.{State}
 use Rattle.py_machine.specs.declared.marks.Marks.{Marks}
@@ -91,3 +92,16 @@ zip_ascends R h (x ∷ v ∷ xs) (y ∷ u ∷ ys) z a = (
   subst (λ m. TextBelow m (least_name u.names)) (sym (h x y z.0)) (subst (TextBelow x) (sym (h v u z.1.0)) a.0),
   zip_ascends R h (v ∷ xs) (u ∷ ys) z.1 a.1,
 )
+
+-- ---- the versions hold
+
+holds_by : (s : State) (now : Parts) (w : ℕ) (name : Name) (o : Option Left) (x : Version) → IsOfLeft s now w name o x → x.replaced ≡ 0
+holds_by s now w name (Some (left.Part n)) x is = is.2.replaced
+holds_by s now w name (Some left.Gone) x is = is.replaced
+holds_by s now w name None x is = absurd is
+
+pub news_hold : (s : State) (now : Parts) (w : ℕ) (heads : Heads) (names : List Name) (news : List Version) → AreOfLeft s now w heads names news → All (λ (x : Version). x.replaced ≡ 0) news
+news_hold s now w heads names news made k d l =
+    let x : Version = get_or news k d in
+    let b = zip_back (λ name y. IsOfLeft s now w name (finite.get heads name) y) names news made x (Contains-get_or news k d l) in
+    holds_by s now w b.0 (finite.get heads b.0) x b.2

@@ -1,5 +1,6 @@
 pub mod Adding
 pub mod Keys
+pub mod Listing
 pub mod Reading
 pub mod Missed
 pub mod Least

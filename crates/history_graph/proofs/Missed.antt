@@ -1,56 +1,60 @@
 -- The names that a cell misses: those that it looked up and that no version that holds has.
-use Rattle.std.proofs.Common.{◌≡◌, ℕ, ◌+◌, Bool, true, false, cond, not, List, [], ◌∷◌, length, refl, sym, ◌⊎◌, inl, inr, subst, arith}
+use Rattle.std.proofs.Common.{◌≡◌, ℕ, ◌≤◌, Bool, true, false, cond, not, List, [], ◌∷◌, ◌++◌, length, take, refl, sym, ◌⊎◌, inl, inr, subst, take_all}
 use Rattle.std.specs.Prelude.{Contains, ◌↔◌, filter}
 use Rattle.std.specs.FinMap as finite
-use Rattle.std.proofs.lemmas.Bool.{cases_Bool, cases_eq, false≢true}
+use Rattle.std.proofs.lemmas.Bool.{cases_Bool, false≢true}
+use Rattle.std.proofs.lemmas.List.Elements.{Contains-push_cases, Contains-push, Contains-append_left}
 use Rattle.py_laws.proofs.Members.{no_name}
 use Rattle.py_laws.proofs.Partners.{none_in, first_in, later_in}
 use Rattle.py_machine.specs.declared.marks.Marks.{Marks}
 use Rattle.py_machine.specs.Marked.{Name, has_member}
 use Rattle.graph_model.specs.declared.graph.Version.{Version}
 use Rattle.graph_model.specs.declared.graph.Graph.{Graph}
-use Rattle.graph_model.specs.Graphs.{VersionAt}
+use Rattle.graph_model.specs.Graphs.{VersionAt, IsActive}
 use Rattle.graph_model.specs.Faults.{TextBelow, Ascends}
-use Rattle.graph_model.proofs.Lookups.{same_version, version_within}
+use Rattle.graph_model.proofs.Lookups.{same_version}
 use Rattle.linked_parts.proofs.Lists.{cons_cases, below_on}
 use Rattle.history_graph.specs.Sets.{Names, Has, IsWithThose}
-use Rattle.history_graph.specs.Touched.{IsHeld, IsHeldTo, AreHeldTo, Misses}
+use Rattle.history_graph.specs.Active.{AreActive}
+use Rattle.history_graph.specs.Touched.{IsHeldAmong, AreHeldAmong, AreHeld, Misses}
 use Rattle.history_graph.proofs.Keys.{keys_ascend, in_keys, of_keys}
 
--- ---- which names are held
+-- ---- which names a version that holds has
 
-pub held_none : (g : Graph) (marks : Marks) → AreHeldTo g marks 0 finite.empty
+pub held_none : (g : Graph) (marks : Marks) → AreHeldAmong g marks [] finite.empty
 held_none g marks = λ name. (
   λ h. absurd (no_name name (record { is = h })),
-  λ k. let l = k.0.2 in let p = k.0.3.0.0 in let none : ⊥ = omega (arith, p, l) in absurd none,
+  λ k. absurd (none_in k.0.0 k.0.2),
 )
 
-module _ (g : Graph) (marks : Marks) (i : ℕ) (held : Names) (h : AreHeldTo g marks i held) (x : Version) (at : VersionAt g (i + 1) x) where
-  still : (name : Name) → IsHeldTo g i name → IsHeldTo g (i + 1) name
-  still name k = (k.0, k.1, let l = k.2 in omega (arith, l), k.3, k.4)
+module _ (g : Graph) (marks : Marks) (among : List ℕ) (held : Names) (h : AreHeldAmong g marks among held) (v : ℕ) (x : Version) (at : IsActive g v x) where
+  still : (name : Name) → IsHeldAmong g among name → IsHeldAmong g (among ++ v ∷ []) name
+  still name k = (k.0, k.1, Contains-append_left among (v ∷ []) k.0 k.2, k.3, k.4)
 
-  earlier : (name : Name) → IsHeldTo g (i + 1) name → IsHeldTo g i name ⊎ ((x.replaced ≡ 0) × Contains x.names name)
-  earlier name k = elim (cases_eq k.0 (i + 1)) [
-    | inl e ↦
-        let same : k.1 ≡ x = same_version g (i + 1) k.1 x (subst (λ n. VersionAt g n k.1) e k.3.0) at in
-        inr (subst (λ (y : Version). y.replaced ≡ 0) same k.3.1, subst (λ (y : Version). Contains y.names name) same k.4)
-    | inr other ↦ inl (k.0, k.1, let l = k.2 in omega (arith, l, other), k.3, k.4)
+  earlier : (name : Name) → IsHeldAmong g (among ++ v ∷ []) name → IsHeldAmong g among name ⊎ Contains x.names name
+  earlier name k = elim (Contains-push_cases among v k.0 k.2) [
+    | inl c ↦ inl (k.0, k.1, c, k.3, k.4)
+    | inr e ↦
+        let same : k.1 ≡ x = same_version g v k.1 x (subst (λ n. VersionAt g n k.1) (sym e) k.3.0) at.0 in
+        inr (subst (λ (y : Version). Contains y.names name) same k.4)
   ]
 
-  pub held_more : (now : Names) → x.replaced ≡ 0 → IsWithThose held x.names marks.looked now → AreHeldTo g marks (i + 1) now
-  held_more now e w = λ name. (
+  pub held_more : (now : Names) → IsWithThose held x.names marks.looked now → AreHeldAmong g marks (among ++ v ∷ []) now
+  held_more now w = λ name. (
     λ k. elim ((w name).0 k) [
       | inl o ↦ let a = (h name).0 o in (still name a.0, a.1)
-      | inr c ↦ ((i + 1, x, omega arith, (at, e), c.0), c.1)
+      | inr c ↦ ((v, x, Contains-push among v, at, c.0), c.1)
     ],
-    λ k. elim (earlier name k.0) [ inl b ↦ (w name).1 (inl ((h name).1 (b, k.1))) | inr c ↦ (w name).1 (inr (c.1, k.1)) ],
+    λ k. elim (earlier name k.0) [ inl b ↦ (w name).1 (inl ((h name).1 (b, k.1))) | inr c ↦ (w name).1 (inr (c, k.1)) ],
   )
 
-  pub held_skip : (x.replaced ≡ 0 → ⊥) → AreHeldTo g marks (i + 1) held
-  held_skip n = λ name. (
-    λ k. let a = (h name).0 k in (still name a.0, a.1),
-    λ k. elim (earlier name k.0) [ inl b ↦ (h name).1 (b, k.1) | inr c ↦ absurd (n c.0) ],
-  )
+pub held_all : (g : Graph) (marks : Marks) (active : List ℕ) (i : ℕ) (held : Names) → AreActive g active → length active ≤ i → AreHeldAmong g marks (take i active) held → AreHeld g marks held
+held_all g marks active i held is l k =
+    let h : AreHeldAmong g marks active held = subst (λ ns. AreHeldAmong g marks ns held) (take_all i active l) k in
+    λ name. (
+      λ t. let a = (h name).0 t in ((a.0.0, a.0.1, a.0.3, a.0.4), a.1),
+      λ t. (h name).1 ((t.0.0, t.0.1, (is.holds t.0.0).1 (t.0.1, t.0.2), t.0.2, t.0.3), t.1),
+    )
 
 -- ---- a filter of names that ascend
 
@@ -107,10 +111,7 @@ module _ (p : Name → Bool) where
 not_held : (held : Names) (name : Name) → not (has_member held name) ≡ true → ¬ Has held name
 not_held held name e h = cc (e, h)
 
-is_held_to : (g : Graph) (name : Name) → IsHeld g name → IsHeldTo g (length g.versions) name
-is_held_to g name k = (k.0, k.1, (version_within g k.0 k.1 k.2.0).1, k.2, k.3)
-
-pub missing_are : (g : Graph) (marks : Marks) (held : Names) (missing : List Name) → AreHeldTo g marks (length g.versions) held
+pub missing_are : (g : Graph) (marks : Marks) (held : Names) (missing : List Name) → AreHeld g marks held
     → missing ≡ filter (λ name. not (has_member held name)) (finite.keys marks.looked)
     → Ascends TextBelow missing × ((name : Name) → Contains missing name ↔ Misses g marks name)
 missing_are g marks held missing h e =
@@ -120,9 +121,9 @@ missing_are g marks held missing h e =
         λ c.
             let a = of_filter p (finite.keys marks.looked) name (subst (λ ns. Contains ns name) e c) in
             let looked : Has marks.looked name = of_keys marks.looked name a.0 in
-            (looked, λ k. not_held held name a.1 ((h name).1 (is_held_to g name k, looked))),
+            (looked, λ k. not_held held name a.1 ((h name).1 (k, looked))),
         λ m. subst (λ ns. Contains ns name) (sym e) (in_filter p (finite.keys marks.looked) name (in_keys marks.looked name m.0) (elim (cases_Bool (has_member held name)) [
-          | inl t ↦ absurd (m.1 (let k = ((h name).0 t).0 in (k.0, k.1, k.3, k.4)))
+          | inl t ↦ absurd (m.1 ((h name).0 t).0)
           | inr f ↦ subst (λ b. not b ≡ true) (sym f) refl
         ])),
       ),

@@ -1,46 +1,26 @@
--- The versions that a cell reads, one version after the other.
-use Rattle.std.proofs.Common.{ℕ, ◌+◌, ◌<◌, ◌≤◌, List, [], ◌∷◌, ◌++◌, length, sym, inl, inr, subst, arith}
+-- The versions that a cell reads, one version that holds after the other.
+use Rattle.std.proofs.Common.{◌≡◌, ℕ, ◌+◌, ◌<◌, ◌≤◌, List, [], ◌∷◌, ◌++◌, length, get_or, take}
 use Rattle.std.specs.Prelude.{Contains, ◌↔◌}
-use Rattle.std.proofs.lemmas.Bool.{cases_eq}
-use Rattle.std.proofs.lemmas.List.Elements.{Contains-push_cases, Contains-push, Contains-append_left}
 use Rattle.py_machine.specs.declared.marks.Marks.{Marks}
 use Rattle.graph_model.specs.declared.graph.Version.{Version}
 use Rattle.graph_model.specs.declared.graph.Graph.{Graph}
-use Rattle.graph_model.specs.Graphs.{VersionAt}
-use Rattle.graph_model.proofs.Ascending.{ascends-push}
-use Rattle.graph_model.proofs.Lookups.{of_version, version_within}
-use Rattle.history_graph.specs.Touched.{IsTouched, Reads, AreReadsTo}
+use Rattle.graph_model.specs.Graphs.{IsActive}
+use Rattle.graph_model.proofs.Lookups.{of_version}
+use Rattle.history_graph.specs.Active.{AreActive, AreThose}
+use Rattle.history_graph.specs.Touched.{AreTouched, Reads}
+use Rattle.history_graph.proofs.Listing.{Ascend, those_push, those_skip, those_all}
 
-module _ (g : Graph) (marks : Marks) (i : ℕ) (reads : List ℕ) (h : AreReadsTo g marks i reads) (x : Version) (at : VersionAt g (i + 1) x) where
-  pub reads_push : IsTouched marks x → AreReadsTo g marks (i + 1) (reads ++ (i + 1) ∷ [])
-  reads_push t = record {
-    ascends = ascends-push (λ m n. m < n) reads (i + 1) h.ascends (λ v c. let l = ((h.reads v).0 c).0 in omega (arith, l));
-    reads = λ v. (
-      λ c. elim (Contains-push_cases reads (i + 1) v c) [
-        | inl k ↦ let w = (h.reads v).0 k in (let l = w.0 in omega (arith, l), w.1)
-        | inr e ↦ (omega (arith, e), subst (Reads g marks) e (x, at, t))
-      ],
-      λ k. elim (cases_eq v (i + 1)) [
-        | inl e ↦ subst (λ n. Contains (reads ++ (i + 1) ∷ []) n) (sym e) (Contains-push reads (i + 1))
-        | inr other ↦ Contains-append_left reads ((i + 1) ∷ []) v ((h.reads v).1 (let l = k.0 in omega (arith, l, other), k.1))
-      ],
-    );
-  }
+module _ (g : Graph) (marks : Marks) (active : List ℕ) (i v : ℕ) (a : Ascend active) (l : i < length active) (is : v ≡ get_or active i v) (reads : List ℕ)
+    (h : AreThose (Reads g marks) (take i active) reads) (x : Version) (at : IsActive g v x) where
+  pub reads_push : AreTouched marks x.names → AreThose (Reads g marks) (take (i + 1) active) (reads ++ v ∷ [])
+  reads_push t = those_push (Reads g marks) active i v a l is reads h (x, at.0, (at.1, t))
 
-  pub reads_skip : ¬ IsTouched marks x → AreReadsTo g marks (i + 1) reads
-  reads_skip n = record {
-    ascends = h.ascends;
-    reads = λ v. (
-      λ c. let w = (h.reads v).0 c in (let l = w.0 in omega (arith, l), w.1),
-      λ k. elim (cases_eq v (i + 1)) [
-        | inl e ↦ absurd (n (of_version (IsTouched marks) g (i + 1) x k.1.0 at (subst (λ m. VersionAt g m k.1.0) e k.1.1) k.1.2))
-        | inr other ↦ (h.reads v).1 (let l = k.0 in omega (arith, l, other), k.1)
-      ],
-    );
-  }
+  pub reads_skip : ¬ AreTouched marks x.names → AreThose (Reads g marks) (take (i + 1) active) reads
+  reads_skip n =
+      those_skip (Reads g marks) active i v a l is reads h (λ k. n (of_version (λ (y : Version). AreTouched marks y.names) g v x k.0 at.0 k.1 k.2.1))
 
-pub reads_all : (g : Graph) (marks : Marks) (i : ℕ) (reads : List ℕ) → AreReadsTo g marks i reads → length g.versions ≤ i → (v : ℕ) → Contains reads v ↔ Reads g marks v
-reads_all g marks i reads h l = λ v. (
-  λ c. ((h.reads v).0 c).1,
-  λ k. (h.reads v).1 (let b = (version_within g v k.0 k.1).1 in omega (arith, b, l), k),
-)
+pub reads_all : (g : Graph) (marks : Marks) (active : List ℕ) (i : ℕ) (reads : List ℕ) → AreActive g active → length active ≤ i → AreThose (Reads g marks) (take i active) reads
+    → (v : ℕ) → Contains reads v ↔ Reads g marks v
+reads_all g marks active i reads is l h =
+    let k = those_all (Reads g marks) active i reads l h in
+    λ v. (λ c. ((k.those v).0 c).1, λ r. (k.those v).1 ((is.holds v).1 (r.0, (r.1, r.2.0)), r))

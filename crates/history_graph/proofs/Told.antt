@@ -1,5 +1,5 @@
 -- What the call that ends a cell answers.
-use Rattle.std.proofs.Common.{◌≡◌, ℕ, ◌<◌, ◌≤◌, false, List, [], ◌∷◌, length, Option, Some, None, refl, sym, ap, subst, arith, length-append}
+use Rattle.std.proofs.Common.{◌≡◌, ℕ, ◌+◌, ◌<◌, ◌≤◌, false, List, [], ◌∷◌, length, Option, Some, None, refl, sym, ap, subst, arith, length-append}
 use Rattle.std.specs.Prelude.{slice_get}
 use Rattle.std.specs.List.{AllZip}
 use Rattle.std.specs.FinMap as finite
@@ -48,6 +48,13 @@ zip_length R [] [] z = refl
 zip_length R [] (y ∷ ys) z = absurd z
 zip_length R (x ∷ xs) [] z = absurd z
 zip_length R (x ∷ xs) (y ∷ ys) z = let e = zip_length R xs ys z.1 in omega (arith, e)
+
+pub few_news : (s : State) (now : Parts) (w cells versions names : ℕ) (heads : Heads) (news : List Version) → IsFirstOf cells versions (length (finite.keys heads)) names None
+    → AreOfLeft s now w heads (finite.keys heads) news → versions + length news < 4294967296
+few_news s now w cells versions names heads news room made =
+    let e = zip_length (λ name x. IsOfLeft s now w name (finite.get heads name) x) (finite.keys heads) news made in
+    let l = room.1 in
+    omega (arith, e, l)
 
 pub few_then : (s : State) (now : Parts) (w names : ℕ) (heads : Heads) (cell : CellRecord) (news : List Version) (g k : Graph)
     → IsFirstOf (length g.cells) (length g.versions) (length (finite.keys heads)) names None → AreOfLeft s now w heads (finite.keys heads) news → IsGrown w cell news g k

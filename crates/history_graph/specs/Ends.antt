@@ -14,7 +14,7 @@ use Rattle.part_bytes.specs.Texts.{part_text}
 use Rattle.history_graph.specs.declared.history.History.{History}
 use Rattle.history_graph.specs.Touched.{IsHeld}
 
--- a graph with so many cells, whose versions were written and replaced by them, and in which each name of a version is one of
+-- a graph with c cells, whose versions were written and replaced by them, and in which each name of a version is one of
 -- a version that holds
 pub record HasCells (c : ℕ) (g : Graph) : Type 0 where
   pub cells : length g.cells ≡ c
@@ -23,7 +23,7 @@ pub record HasCells (c : ℕ) (g : Graph) : Type 0 where
   pub held : (v : ℕ) (x : Version) (name : Name) → VersionAt g v x → Contains x.names name → IsHeld g name
 
 -- this is what the run has of the cell after cell c: the state at its end, its code, the meter as it began, its steps and its
--- marks; and its sizes are the lengths of the texts of parts, and 0 where there is a handle or no value
+-- marks; and its sizes are the lengths of the texts of parts, and 0 if there is a handle or no value
 pub record IsCell (r : Run) (c : ℕ) (s : State) (text : List ℕ) (units taken : ℕ) (noted : Marks) : Type 0 where
   pub state : r.state (suc c) ≡ s
   pub code : r.code (suc c) ≡ text
@@ -34,7 +34,7 @@ pub record IsCell (r : Run) (c : ℕ) (s : State) (text : List ℕ) (units taken
   pub handles : (names : List Name) → HasHandle s names → r.size (suc c) names ≡ 0
   pub absent : (x : Name) → HasNone s x → r.size (suc c) (x ∷ []) ≡ 0
 
--- the history stands as cell c of the run left it
+-- the history is as cell c of the run left it
 pub record StandsAfter (r : Run) (c : ℕ) (h : History) : Type 0 where
   pub graph : HasCells c h.graph
   pub parts : ArePartsOf (r.state c) h.parts

@@ -1,10 +1,11 @@
 -- A graph with one more cell.
-use Rattle.std.specs.Prelude.{◌≡◌, ◌≢◌, ℕ, ◌<◌, ◌≤◌, ◌⊎◌, List, [], ◌∷◌, ◌++◌, Contains, length, slice_index_or}
+use Rattle.std.specs.Prelude.{◌≡◌, ℕ, zero, suc, ◌+◌, List, [], ◌∷◌, ◌++◌, Contains, length, slice_index_or}
 use Rattle.std.specs.List.{AllZip}
 use Rattle.py_machine.specs.Marked.{Name}
 use Rattle.graph_model.specs.declared.graph.CellRecord.{CellRecord}
 use Rattle.graph_model.specs.declared.graph.Version.{Version}
 use Rattle.graph_model.specs.declared.graph.Graph.{Graph}
+use Rattle.graph_model.specs.Graphs.{VersionAt}
 use Rattle.run_graph.specs.Growing.{IsAged}
 use Rattle.history_graph.specs.Sets.{Names, Has, HasOneOf}
 
@@ -13,22 +14,20 @@ abbrev pub AreNamesOf : List Version → Names → Type 0
 AreNamesOf news fresh = ((name : Name) → Has fresh name → (y : Version) × Contains news y × Contains y.names name)
     × ((name : Name) (y : Version) → Contains news y → Contains y.names name → Has fresh name)
 
--- y is x, but replaced by the cell of number w if x stood and has one of these names
-pub record IsAgedBy (w : ℕ) (fresh : Names) (x y : Version) : Type 0 where
-  pub names : y.names ≡ x.names
-  pub writer : y.writer ≡ x.writer
-  pub absent : y.absent ≡ x.absent
-  pub handle : y.handle ≡ x.handle
-  pub size : y.size ≡ x.size
-  pub replaced : ((x.replaced ≢ 0) × (y.replaced ≡ x.replaced))
-      ⊎ ((x.replaced ≡ 0) × HasOneOf fresh x.names × (y.replaced ≡ w))
-      ⊎ ((x.replaced ≡ 0) × (¬ HasOneOf fresh x.names) × (y.replaced ≡ 0))
+-- the version of that number has one of these names
+abbrev pub HasFresh : Graph → Names → ℕ → Type 0
+HasFresh g fresh v = (x : Version) × VersionAt g v x × HasOneOf fresh x.names
 
--- the first versions, as many as the count, are aged, and the others stay
-pub record AreAgedTo (w : ℕ) (fresh : Names) (count : ℕ) (old now : List Version) : Type 0 where
+-- the numbers after the last one, as many as the count
+abbrev pub count_on : ℕ → ℕ → List ℕ
+count_on last zero = []
+count_on last (suc n) = count_on last n ++ (last + n + 1) ∷ []
+
+-- the versions of these numbers are marked as replaced by the cell of number w, and the others stay
+pub record AreMarked (w : ℕ) (numbers : List ℕ) (old now : List Version) : Type 0 where
   pub size : length now ≡ length old
-  pub aged : (k : ℕ) (d : Version) → k < count → IsAgedBy w fresh (slice_index_or old k d) (slice_index_or now k d)
-  pub rest : (k : ℕ) (d : Version) → count ≤ k → slice_index_or now k d ≡ slice_index_or old k d
+  pub marked : (k : ℕ) (d : Version) → Contains numbers (k + 1) → slice_index_or now k d ≡ record (slice_index_or old k d) { replaced = w }
+  pub rest : (k : ℕ) (d : Version) → ¬ Contains numbers (k + 1) → slice_index_or now k d ≡ slice_index_or old k d
 
 -- k is g with this record and, after its own versions as the cell of number w leaves them, these
 pub record IsGrown (w : ℕ) (cell : CellRecord) (news : List Version) (g k : Graph) : Type 0 where

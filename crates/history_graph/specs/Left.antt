@@ -49,7 +49,7 @@ pub record AreHeads (before now : Parts) (marks : Marks) (s : State) (heads : He
 abbrev pub AreWithin : Parts → Heads → Type 0
 AreWithin now heads = (name : Name) (n : ℕ) → finite.get heads name ≡ Some (left.Part n) → n < length now.list
 
--- the length of the text of a part, or 0 where it holds a handle
+-- the length of the text of a part, or 0 if it holds a handle
 abbrev pub part_size : State → Part → ℕ
 part_size s p = cond p.handle 0 (length (part_text s p.names))
 

@@ -1,4 +1,5 @@
 pub mod Sets
+pub mod Active
 pub mod Touched
 pub mod Written
 pub mod Left

@@ -1,5 +1,5 @@
 -- What a cell reads and misses, by its marks and the versions that hold as it begins.
-use Rattle.std.specs.Prelude.{◌≡◌, ℕ, ◌<◌, ◌≤◌, ◌↔◌, Bool, ◌&&◌, ◌||◌, IsTrue, nat_lt, List, Contains, length}
+use Rattle.std.specs.Prelude.{◌≡◌, ℕ, ◌<◌, ◌↔◌, Bool, ◌&&◌, ◌||◌, IsTrue, nat_lt, List, Contains, length}
 use Rattle.py_machine.specs.declared.marks.Marks.{Marks}
 use Rattle.py_machine.specs.Marked.{Name, has_member}
 use Rattle.graph_model.specs.declared.graph.CellRecord.{CellRecord}
@@ -24,22 +24,21 @@ IsTouched marks x = (x.replaced ≡ 0) × AreTouched marks x.names
 abbrev pub Reads : Graph → Marks → ℕ → Type 0
 Reads g marks v = (x : Version) × VersionAt g v x × IsTouched marks x
 
--- of the first versions, as many as the count, those that the cell reads
-pub record AreReadsTo (g : Graph) (marks : Marks) (count : ℕ) (found : List ℕ) : Type 0 where
-  pub ascends : Ascends (λ m n. m < n) found
-  pub reads : (v : ℕ) → Contains found v ↔ ((v ≤ count) × Reads g marks v)
-
 -- one of the versions that hold has the name
 abbrev pub IsHeld : Graph → Name → Type 0
 IsHeld g name = (v : ℕ) × (x : Version) × IsActive g v x × Contains x.names name
 
--- of the first versions one that holds has the name
-abbrev pub IsHeldTo : Graph → ℕ → Name → Type 0
-IsHeldTo g count name = (v : ℕ) × (x : Version) × (v ≤ count) × IsActive g v x × Contains x.names name
+-- one of the versions of these numbers holds and has the name
+abbrev pub IsHeldAmong : Graph → List ℕ → Name → Type 0
+IsHeldAmong g among name = (v : ℕ) × (x : Version) × Contains among v × IsActive g v x × Contains x.names name
 
 -- the names that were looked up and that such a version has
-abbrev pub AreHeldTo : Graph → Marks → ℕ → Names → Type 0
-AreHeldTo g marks count held = (name : Name) → Has held name ↔ (IsHeldTo g count name × Has marks.looked name)
+abbrev pub AreHeldAmong : Graph → Marks → List ℕ → Names → Type 0
+AreHeldAmong g marks among held = (name : Name) → Has held name ↔ (IsHeldAmong g among name × Has marks.looked name)
+
+-- the names that were looked up and that a version that holds has
+abbrev pub AreHeld : Graph → Marks → Names → Type 0
+AreHeld g marks held = (name : Name) → Has held name ↔ (IsHeld g name × Has marks.looked name)
 
 -- it was looked up, and no version that holds has it
 abbrev pub Misses : Graph → Marks → Name → Type 0

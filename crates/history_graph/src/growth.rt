@@ -1,6 +1,8 @@
-ghost use Rattle.std.specs.Prelude.{◌≡◌, ◌++◌, ◌≤◌, length, take, IfOk, OnOk, OnErr};
-ghost use Rattle.history_graph.specs.Grown.{AreNamesOf, IsAgedBy, AreAgedTo, IsGrown};
+ghost use Rattle.std.specs.Prelude.{◌≡◌, ◌+◌, ◌<◌, ◌≤◌, ◌^◌, ◌++◌, ◌∷◌, [], All, length, take, IfOk, OnOk, OnErr};
+ghost use Rattle.history_graph.specs.Active.{AreActive, AreThose};
+ghost use Rattle.history_graph.specs.Grown.{AreNamesOf, HasFresh, count_on, AreMarked};
 
+use crate::active::active_version;
 use crate::sets::{add_names, has_one_of};
 use graph_model::{CellRecord, Graph, Version};
 use plain_data::{Items, TextMap};
@@ -8,7 +10,7 @@ use std::alloc::{AllocError, Global};
 use std::mem::replace;
 
 /// The names of the versions.
-fn names_of(alloc: Global, versions: &[Version]) -> Result<TextMap<()>, AllocError>
+pub(crate) fn names_of(alloc: Global, versions: &[Version]) -> Result<TextMap<()>, AllocError>
     ensures { IfOk result (λ fresh. AreNamesOf versions.now fresh) }
 {
     let mut fresh = TextMap::new(alloc);
@@ -18,23 +20,59 @@ fn names_of(alloc: Global, versions: &[Version]) -> Result<TextMap<()>, AllocErr
     Ok(fresh)
 }
 
-/// Marks the version as replaced by the cell with that number, if it stands and has one of the names.
-fn age_one(version: &mut Version, writer: u32, fresh: &TextMap<()>)
-    ensures { IsAgedBy writer fresh.now version.old version.new }
-{
-    if version.replaced == 0 && has_one_of(fresh, version.names.as_slice()) {
-        version.replaced = writer;
-    }
+/// The numbers of versions that held before a cell, each list ascending.
+#[derive(Drop)]
+pub(crate) struct Turnover {
+    /// Of those that hold after it too.
+    pub(crate) stay: Items<u32>,
+    /// Of those that it replaces.
+    pub(crate) go: Items<u32>,
 }
 
-/// Marks the first versions, as many as the count.
-fn age(alloc: Global, versions: &mut Items<Version>, count: usize, writer: u32, fresh: &TextMap<()>)
-    requires { count ≤ length versions.old }
-    ensures { AreAgedTo writer fresh.now count versions.old versions.new }
+/// Of the active versions those that go are those that have one of the names.
+pub(crate) fn turnover_of(
+    alloc: Global,
+    graph: &Graph,
+    active: &[u32],
+    fresh: &TextMap<()>,
+) -> Result<Turnover, AllocError>
+    requires { AreActive graph.now active.now }
+    ensures stay { IfOk result (λ it. AreThose (λ v. ¬ HasFresh graph.now fresh.now v) active.now it.stay) }
+    ensures go { IfOk result (λ it. AreThose (HasFresh graph.now fresh.now) active.now it.go) }
+{
+    let mut stay = Items::new(alloc);
+    let mut go = Items::new(alloc);
+    for v in active {
+        let version = active_version(graph, *v);
+        if has_one_of(fresh, version.names.as_slice()) {
+            go.push(*v)?;
+        } else {
+            stay.push(*v)?;
+        }
+    }
+    Ok(Turnover { stay, go })
+}
+
+/// Puts the next numbers at the end, as many as the count. After an error some of them may be there.
+pub(crate) fn add_numbers(numbers: &mut Items<u32>, last: u32, count: u32) -> Result<(), AllocError>
+    requires { last + count < 2 ^ 32 }
+    ensures { OnOk result (numbers.new ≡ numbers.old ++ count_on last count) }
+{
+    for index in 0..count {
+        numbers.push(last + index + 1)?;
+    }
+    Ok(())
+}
+
+/// Marks the versions of these numbers as replaced by the cell with that number.
+pub(crate) fn age(alloc: Global, versions: &mut Items<Version>, numbers: &[u32], writer: u32)
+    requires { All (λ v. (0 < v) × (v ≤ length versions.old)) numbers.now }
+    ensures { AreMarked writer numbers.now versions.old versions.new }
 {
     let mut all = replace(versions, Items::new(alloc)).into_vec();
-    for index in 0..count {
-        age_one(&mut all[index], writer, fresh);
+    for v in numbers {
+        let version = &mut all[*v as usize - 1];
+        version.replaced = writer;
     }
     *versions = Items::from_vec(all);
 }
@@ -55,7 +93,7 @@ fn append(
     appended
 }
 
-/// Takes all but the first versions off, as many as the count.
+/// Takes all versions off but the first `count`.
 fn cut(alloc: Global, versions: &mut Items<Version>, count: usize)
     ensures { versions.new ≡ take count versions.old }
 {
@@ -64,26 +102,21 @@ fn cut(alloc: Global, versions: &mut Items<Version>, count: usize)
     *versions = Items::from_vec(all);
 }
 
-/// Adds a cell with its record and its versions to a graph, and marks the older versions that these replace. After an error
-/// nothing is changed.
-pub(crate) fn grow(
+/// Puts the record of a cell and its versions at the end. After an error nothing is changed.
+pub(crate) fn add_cell(
     alloc: Global,
     graph: &mut Graph,
     cell: CellRecord,
     news: Items<Version>,
-    writer: u32,
 ) -> Result<(), AllocError>
-    ensures ok { OnOk result (IsGrown writer cell news graph.old graph.new) }
+    ensures ok { OnOk result (graph.new ≡ record { cells = graph.old.cells ++ cell ∷ []; versions = graph.old.versions ++ news }) }
     ensures err { OnErr result (graph.new ≡ graph.old) }
 {
-    let fresh = names_of(alloc, news.as_slice())?;
     let count = graph.versions.len();
     append(alloc, &mut graph.versions, news)?;
     let pushed = graph.cells.push(cell);
     if pushed.is_err() {
         cut(alloc, &mut graph.versions, count);
-        return pushed;
     }
-    age(alloc, &mut graph.versions, count, writer, &fresh);
-    Ok(())
+    pushed
 }

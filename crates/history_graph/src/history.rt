@@ -8,8 +8,8 @@ ghost use Rattle.history_graph.specs.Tallies.{OnTally, IsOver, IsFirstOver};
 ghost use Rattle.history_graph.specs.Room.{IsFirstOf};
 ghost use Rattle.history_graph.specs.Ends.{Makes};
 
+use crate::active::ActiveGraph;
 use crate::fault::HistoryFault;
-use crate::growth::grow;
 use crate::heads::heads_of;
 use crate::record::record_of;
 use crate::room::first_over;
@@ -24,7 +24,7 @@ use std::alloc::{AllocError, Global};
 /// The graph of the cells of a session so far, and the parts of its state.
 #[derive(Debug, Drop)]
 pub struct History {
-    pub graph: Graph,
+    pub graph: ActiveGraph,
     pub parts: Parts,
 }
 
@@ -34,44 +34,46 @@ impl History {
         ensures { result ≡ record { graph = record { cells = []; versions = [] }; parts = record { list = [] } } }
     {
         History {
-            graph: Graph {
-                cells: Items::new(alloc),
-                versions: Items::new(alloc),
-            },
+            graph: ActiveGraph::new(alloc),
             parts: Parts {
                 list: Items::new(alloc),
             },
         }
     }
 
+    /// That with this graph and these parts. Goes once over the versions.
+    pub fn of(alloc: Global, graph: Graph, parts: Parts) -> Result<History, AllocError>
+        requires { length graph.versions < 2 ^ 32 }
+        ensures { IfOk result (λ it. it ≡ record { graph = graph; parts = parts }) }
+    {
+        let graph = ActiveGraph::of(alloc, graph)?;
+        Ok(History { graph, parts })
+    }
+
     /// The graph.
     pub fn graph(&self) -> &Graph
         ensures { result.now ≡ self.now.graph }
     {
-        &self.graph
+        self.graph.graph()
     }
 
-    /// The first of the numbers of cells, of versions and of names that is 2^32 or more, with a cell that leaves so many
+    /// The first of the numbers of cells, of versions and of names that is 2^32 or more, with a cell that leaves `news`
     /// versions and ends in this state.
     fn over(&self, alloc: Global, state: &State, news: usize) -> Result<Option<Tally>, AllocError>
         ensures { IfOk result (λ over. IsFirstOf (length self.now.graph.cells) (length self.now.graph.versions) news (length (finite.keys state.now.globals)) over) }
     {
         let names = state.names(alloc)?;
-        Ok(first_over(
-            self.graph.cells.len(),
-            self.graph.versions.len(),
-            news,
-            names.len(),
-        ))
+        let graph = self.graph.graph();
+        Ok(first_over(graph.cells.len(), graph.versions.len(), news, names.len()))
     }
 
     /// Adds a cell that ended in this state, with its code, the meter as it began, its steps and its marks: its record, and
     /// a version of each part that it wrote and of each name that it deleted. After `OutOfMemory` nothing is changed; after
     /// `TooMany` a history is only dropped.
     ///
-    /// It goes once over the versions, the names of those that hold, and the names and objects of the state; each name is
-    /// looked for in an ordered map. So the cost is that of finding the parts, and beside it near-linear in the names of the
-    /// session and in what the cell touched, but for one look at each version that was ever written.
+    /// It goes over the versions that hold and their names, and over the names and objects of the state; each name is looked
+    /// for in an ordered map. So the cost is that of finding the parts, and beside it near-linear in the names of the session
+    /// and in what the cell touched. It doesn't grow with the number of cells, nor with that of replaced versions.
     pub fn end_cell(
         &mut self,
         alloc: Global,
@@ -96,9 +98,9 @@ impl History {
             return Err(HistoryFault::TooMany(tally));
         }
         let cell = record_of(alloc, &self.graph, code, meter, steps, marks)?;
-        let writer = self.graph.cells.len() as u32 + 1;
+        let writer = self.graph.graph().cells.len() as u32 + 1;
         let news = versions_of(alloc, state, &parts, &heads, names.as_slice(), writer)?;
-        grow(alloc, &mut self.graph, cell, news, writer)?;
+        self.graph.grow(alloc, cell, news, writer)?;
         self.parts = parts;
         Ok(())
     }

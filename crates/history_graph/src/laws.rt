@@ -23,7 +23,7 @@ pub fn checked_graphs_have_cells()
     ensures { (g : Graph) → IsGraph g → HasCells (length g.cells) g }
 {}
 
-/// Where a graph was the history of the first cells of a run, it is that of one cell more once that cell has ended.
+/// If a graph was the history of the first cells of a run, it is that of one cell more once that cell has ended.
 pub fn a_history_stays_one()
     ensures { (r : Run) (c : ℕ) (s : State) (code : List ℕ) (meter steps : ℕ) (marks : Marks) (old now : History)
         → Makes s code meter steps marks old now → IsCell r c s code meter steps marks → ArePartsOf (r.state c) old.parts
@@ -31,7 +31,8 @@ pub fn a_history_stays_one()
 {}
 
 /// A graph without a fault, whose active versions were the parts of the state, is one once the cell has ended; it need not be
-/// the history of a run. The second is so where closed states that are the same tell one length of a part's text.
+/// the history of a run. Its active versions stay the parts if closed states that are the same tell one length of a
+/// part's text.
 pub fn a_checked_graph_stays_one()
     ensures checks { (r : Run) (c : ℕ) (s : State) (code : List ℕ) (meter steps : ℕ) (marks : Marks) (old now : History)
         → Makes s code meter steps marks old now → IsCell r c s code meter steps marks → ArePartsOf (r.state c) old.parts

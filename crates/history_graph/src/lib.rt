@@ -5,6 +5,7 @@
 //! docs/HISTORY.md. (Li et al., ElasticNotebook, PVLDB 17(2).)
 #![tactic(auto)]
 
+mod active;
 mod fault;
 mod growth;
 mod heads;
@@ -18,6 +19,7 @@ mod sets;
 mod versions;
 mod written;
 
+pub use active::ActiveGraph;
 pub use fault::HistoryFault;
 pub use history::History;
 pub use laws::{

@@ -1,8 +1,10 @@
-ghost use Rattle.std.specs.Prelude.{ℕ, ◌≡◌, ◌↔◌, List, Contains, IfOk, filter, not, length};
+ghost use Rattle.std.specs.Prelude.{ℕ, ◌≡◌, ◌↔◌, List, Contains, IfOk, filter, not};
 ghost use Rattle.py_machine.specs.Marked.{has_member};
 ghost use Rattle.graph_model.specs.Faults.{TextBelow, Ascends};
-ghost use Rattle.history_graph.specs.Touched.{AreHeldTo, Misses};
+ghost use Rattle.history_graph.specs.Active.{AreActive};
+ghost use Rattle.history_graph.specs.Touched.{AreHeld, Misses};
 
+use crate::active::active_version;
 use crate::sets::{add_those, is_in};
 use graph_model::Graph;
 use plain_data::{Items, Text, TextMap};
@@ -10,16 +12,19 @@ use py_machine::Marks;
 use std::alloc::{AllocError, Global};
 
 /// The names that were looked up and that a version that holds has.
-fn held_names(alloc: Global, graph: &Graph, marks: &Marks) -> Result<TextMap<()>, AllocError>
-    ensures { IfOk result (λ held. AreHeldTo graph.now marks.now (length graph.now.versions) held) }
+fn held_names(
+    alloc: Global,
+    graph: &Graph,
+    active: &[u32],
+    marks: &Marks,
+) -> Result<TextMap<()>, AllocError>
+    requires { AreActive graph.now active.now }
+    ensures { IfOk result (λ held. AreHeld graph.now marks.now held) }
 {
-    let versions = graph.versions.as_slice();
     let mut held = TextMap::new(alloc);
-    for index in 0..versions.len() {
-        let version = &versions[index];
-        if version.replaced == 0 {
-            add_those(alloc, &mut held, version.names.as_slice(), &marks.looked)?;
-        }
+    for v in active {
+        let version = active_version(graph, *v);
+        add_those(alloc, &mut held, version.names.as_slice(), &marks.looked)?;
     }
     Ok(held)
 }
@@ -41,12 +46,14 @@ fn outside(alloc: Global, names: &[Text], set: &TextMap<()>) -> Result<Items<Tex
 pub(crate) fn missing_of(
     alloc: Global,
     graph: &Graph,
+    active: &[u32],
     marks: &Marks,
 ) -> Result<Items<Text>, AllocError>
+    requires { AreActive graph.now active.now }
     ensures ascends { IfOk result (λ missing. Ascends TextBelow missing) }
     ensures missing { IfOk result (λ missing. (name : List ℕ) → Contains missing name ↔ Misses graph.now marks.now name) }
 {
-    let held = held_names(alloc, graph, marks)?;
+    let held = held_names(alloc, graph, active, marks)?;
     let looked = marks.looked.names(alloc)?;
     outside(alloc, looked.as_slice(), &held)
 }

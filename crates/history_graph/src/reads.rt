@@ -1,7 +1,9 @@
-ghost use Rattle.std.specs.Prelude.{ℕ, ◌≡◌, ◌<◌, ◌↔◌, ◌^◌, length, IsTrue, Contains, IfOk};
+ghost use Rattle.std.specs.Prelude.{ℕ, ◌≡◌, ◌<◌, ◌↔◌, IsTrue, Contains, IfOk};
 ghost use Rattle.graph_model.specs.Faults.{Ascends};
-ghost use Rattle.history_graph.specs.Touched.{is_read_by, AreTouched, IsTouched, Reads};
+ghost use Rattle.history_graph.specs.Active.{AreActive};
+ghost use Rattle.history_graph.specs.Touched.{is_read_by, AreTouched, Reads};
 
+use crate::active::active_version;
 use crate::sets::is_in;
 use graph_model::{Graph, Version};
 use plain_data::{Items, Text};
@@ -30,29 +32,30 @@ fn are_touched(marks: &Marks, names: &[Text]) -> bool
     false
 }
 
-/// Whether the cell reads the version.
+/// Whether the cell reads the version, if it holds.
 fn is_touched(marks: &Marks, version: &Version) -> bool
-    ensures { IsTrue result ↔ IsTouched marks.now version.now }
+    ensures { IsTrue result ↔ AreTouched marks.now version.now.names }
 {
-    version.replaced == 0 && are_touched(marks, version.names.as_slice())
+    are_touched(marks, version.names.as_slice())
 }
 
-/// The versions that a cell with these marks reads, ascending: those that hold of which it looked a name up, and those of two
-/// names or more of which it bound one.
+/// The versions that a cell with these marks reads, ascending. It reads a version that holds if it looked one of its names
+/// up, or if it bound one of them and the version has two or more.
 pub(crate) fn reads_of(
     alloc: Global,
     graph: &Graph,
+    active: &[u32],
     marks: &Marks,
 ) -> Result<Items<u32>, AllocError>
-    requires { length graph.now.versions < 2 ^ 32 }
+    requires { AreActive graph.now active.now }
     ensures ascends { IfOk result (λ reads. Ascends (λ m n. m < n) reads) }
     ensures reads { IfOk result (λ reads. (v : ℕ) → Contains reads v ↔ Reads graph.now marks.now v) }
 {
-    let versions = graph.versions.as_slice();
     let mut reads = Items::new(alloc);
-    for index in 0..versions.len() {
-        if is_touched(marks, &versions[index]) {
-            reads.push(index as u32 + 1)?;
+    for v in active {
+        let version = active_version(graph, *v);
+        if is_touched(marks, version) {
+            reads.push(*v)?;
         }
     }
     Ok(reads)

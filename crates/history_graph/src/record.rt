@@ -1,9 +1,10 @@
-ghost use Rattle.std.specs.Prelude.{◌<◌, ◌^◌, length, IfOk};
+ghost use Rattle.std.specs.Prelude.{IfOk};
 ghost use Rattle.history_graph.specs.Touched.{IsRecordOf};
 
+use crate::active::ActiveGraph;
 use crate::missing::missing_of;
 use crate::reads::reads_of;
-use graph_model::{CellRecord, Graph};
+use graph_model::CellRecord;
 use plain_data::Text;
 use py_machine::Marks;
 use std::alloc::{AllocError, Global};
@@ -11,17 +12,16 @@ use std::alloc::{AllocError, Global};
 /// The record of a cell with this code and these marks.
 pub(crate) fn record_of(
     alloc: Global,
-    graph: &Graph,
+    graph: &ActiveGraph,
     code: &str,
     meter: u32,
     steps: u32,
     marks: &Marks,
 ) -> Result<CellRecord, AllocError>
-    requires { length graph.now.versions < 2 ^ 32 }
     ensures { IfOk result (λ cell. IsRecordOf graph.now code.now meter steps marks.now cell) }
 {
-    let reads = reads_of(alloc, graph, marks)?;
-    let missing = missing_of(alloc, graph, marks)?;
+    let reads = reads_of(alloc, graph.graph(), graph.active(), marks)?;
+    let missing = missing_of(alloc, graph.graph(), graph.active(), marks)?;
     Ok(CellRecord {
         code: Text::new(alloc, code)?,
         meter,

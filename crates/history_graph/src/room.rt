@@ -4,7 +4,8 @@ ghost use Rattle.history_graph.specs.Room.{IsFirstOf};
 
 use graph_model::Tally;
 
-/// The first that is 2^32 or more of: a cell more than these; versions and new ones together; names.
+/// The first of these numbers that is 2^32 or more: one cell more than these; the versions and the new ones together; the
+/// names.
 pub(crate) fn first_over(cells: usize, versions: usize, news: usize, names: usize) -> Option<Tally>
     ensures { IsFirstOf cells versions news names result }
 {

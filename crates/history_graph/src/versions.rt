@@ -28,7 +28,7 @@ fn copies(alloc: Global, texts: &[Text]) -> Result<Items<Text>, AllocError>
     Ok(copies)
 }
 
-/// The length of the text of a part, and 0 where it holds a handle.
+/// The length of the text of a part, in bytes, and 0 if it holds a handle.
 fn size_of(alloc: Global, state: &State, part: &Part) -> Result<u32, HistoryFault>
     requires { IsClosed state.now }
     ensures ok { IfOk result (λ size. size ≡ part_size state.now part.now) }
@@ -105,7 +105,7 @@ fn version_of(
     }
 }
 
-/// A version of what the cell with that number left under each of the names, which are all that it left something under.
+/// For each of the names a version of what the cell with that number left under it. Under other names it left nothing.
 pub(crate) fn versions_of(
     alloc: Global,
     state: &State,

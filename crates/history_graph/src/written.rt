@@ -12,7 +12,7 @@ use plain_data::{Text, TextMap};
 use py_machine::Marks;
 use std::alloc::{AllocError, Global};
 
-/// The first of the names; the empty text where there is none.
+/// The first of the names; the empty text if there is none.
 pub(crate) fn first_name(alloc: Global, names: &[Text]) -> Result<Text, AllocError>
     ensures { IfOk result (λ name. name ≡ least_name names.now) }
 {
@@ -78,7 +78,7 @@ fn has_changed(marks: &Marks, objects: &[u32]) -> bool
     false
 }
 
-/// Whether a cell with these marks wrote the part, where these were the parts before it.
+/// Whether a cell with these marks wrote the part, if these were the parts before it.
 pub(crate) fn is_written(parts: &Parts, index: &TextMap<usize>, marks: &Marks, part: &Part) -> bool
     requires { IsByLeast parts.now (length parts.now.list) index.now }
     ensures { (s : State) → ArePartsOf s parts.now → IsSorted parts.now marks.now part.now result }

@@ -8,9 +8,9 @@
 //!     version 2: x, by 2, replaced by 4, absent
 //!     version 3: y, by 3, size 27
 //!
-//! and an empty line. A line may also be an object with `cells`, such an array, and `weights`, an array of what a copy costs, each of
-//! its bytes, a run and each of its steps. Then lines of a plan of least cost come after the graph, and the session's checkpoint
-//! under that plan:
+//! and an empty line. A line may also be an object with `cells`, such an array, and `weights`, an array of what a copy costs,
+//! each of its bytes, a run and each of its steps. Then the graph is followed by the lines of a plan of least cost and the
+//! session's checkpoint under that plan:
 //!
 //!     cost 2 flow 2
 //!     copy v2 y
@@ -18,7 +18,7 @@
 //!     arc s v1 2
 //!     checkpoint 454e434b0001..
 //!
-//! or `stuck v2 c1`, where version 2 can neither be copied nor made again, since cell 1 drew.
+//! or `stuck v2 c1`, if version 2 can neither be copied nor made again, since cell 1 drew.
 #![tactic(auto)]
 
 ghost use Rattle.std.specs.Prelude.{IfOk};
@@ -33,19 +33,19 @@ use graph_model::Weights;
 use plain_data::Text;
 use plans::put_checkpoint;
 use serde_json::Value;
-use session::Session;
+use session::ShownSession;
 use std::alloc::Global;
 use std::io::{BufRead, BufReader};
 use words::graph_text;
 
 /// A session that ran these cells.
-fn session_of(alloc: Global, cells: &Value) -> Result<Session>
+fn session_of(alloc: Global, cells: &Value) -> Result<ShownSession>
     ensures { IfOk result (λ session. IsClosed session.kernel.state) }
 {
     let Some(codes) = cells.as_array() else {
         bail!("the cells are no array of codes")
     };
-    let mut session = Session::new(alloc)?;
+    let mut session = ShownSession::new(alloc)?;
     for code in codes.as_slice() {
         let Some(code) = code.as_str() else {
             bail!("a code is no text")
@@ -82,7 +82,7 @@ fn weights_of(weights: &Value) -> Result<Weights> {
 fn shown(alloc: Global, line: &Value) -> Result<Text> {
     let cells = line.get("cells").unwrap_or(line);
     let session = session_of(alloc, cells)?;
-    let graph = &session.history.graph;
+    let graph = session.history.graph();
     let mut text = graph_text(alloc, graph)?;
     if let Some(weights) = line.get("weights") {
         let weights = weights_of(weights)?;

@@ -62,20 +62,20 @@ fn raise_count(kernel: &mut Kernel)
 
 /// A session that keeps its history.
 #[derive(Drop)]
-pub struct Session {
+pub struct ShownSession {
     pub kernel: Kernel,
     pub feed: MemFeed,
     pub history: History,
 }
 
-impl Session {
+impl ShownSession {
     /// One without cells, which draws 7, 8 and 9.
-    pub fn new(alloc: Global) -> Result<Session, AllocError>
+    pub fn new(alloc: Global) -> Result<ShownSession, AllocError>
         ensures { IfOk result (λ session. IsClosed session.kernel.state) }
     {
         operations_keep_closed();
         let draws = vec![in alloc; Drawn::Word(7), Drawn::Word(8), Drawn::Word(9)]?;
-        Ok(Session {
+        Ok(ShownSession {
             kernel: Kernel::new(alloc, 0),
             feed: MemFeed::new(draws),
             history: History::new(alloc),

@@ -1,4 +1,7 @@
-//! The engine that does nothing, for tests and measurements of what stands around an engine.
+//! The engine that does nothing, for tests and measurements of what is around an engine.
+//!
+//! The contracts leave open when memory runs out, so a run that always answers that it ran out meets them. Therefore the tests
+//! of `session_threads` run it.
 #![tactic(auto)]
 
 ghost use Rattle.std.specs.Prelude.{◌≡◌, []};

@@ -100,11 +100,11 @@ bytes_of_all bytes all i =
 bytes_dropped : (n : ℕ) (bytes : List ℕ) → IsBytes bytes → IsBytes (drop n bytes)
 bytes_dropped n bytes fits i = rw (get_or-drop n bytes i 0) (fits (n + i))
 
--- no frame stands at the front
+-- no whole frame is at the front
 no_frame : (bytes : List ℕ) → IsRest bytes → Cutting bytes
 no_frame bytes rest = record { bodies = []; rest = bytes; are_bodies = tt; is_rest = rest; is_stream = refl }
 
--- a frame stands at the front
+-- a whole frame is at the front
 frame_first : (bytes : List ℕ) (n : ℕ) → IsBytes bytes → n ≡ length_of bytes → 4 + n ≤ length bytes → (0 < n) × (n ≤ most_bytes) → Cutting (drop (4 + n) bytes) → Cutting bytes
 frame_first bytes n fits is long sized more =
     let body = take n (drop 4 bytes) in

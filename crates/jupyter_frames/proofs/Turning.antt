@@ -22,7 +22,7 @@ first_ones (b ∷ bs) (c ∷ cs) held rest h k r e =
     let more = first_ones bs cs held rest h.1 k.1 r both.1 in
     (more.0, ap (λ z. z ∷ cs) (sym both.0) ∙ ap (λ zs. b ∷ zs) more.1)
 
--- what turns keep in which these bytes came and these bodies were given
+-- what is kept by turns in which these bytes came and these bodies were given
 record Goes (old : Held) (bytes : List ℕ) (bodies : List (List ℕ)) (new : Held) : Type 0 where
   is_stream : old.bytes ++ bytes ≡ stream bodies new.bytes
   are_bodies : AllByRecursion IsBody bodies

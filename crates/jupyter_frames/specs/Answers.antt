@@ -6,8 +6,8 @@ use Rattle.jupyter_frames.specs.declared.framer.Next.{Next}
 use Rattle.jupyter_frames.specs.declared.framer.Next.TheVariants.{Frame, NotYet, Bad, OutOfMemory}
 use Rattle.jupyter_frames.specs.Framing.{frame, IsBody, IsBegun, IsBad, place_after, Held}
 
--- The next whole frame is taken off the front; where none stands there, the bytes begin one, or have a bad length, and
--- nothing is changed.
+-- The next whole frame is taken off the front. If none is there, the bytes begin one, or have a bad length, and nothing is
+-- changed.
 abbrev pub Gives : Held → Next → Held → Type 0
 Gives old (Frame body) new = IsBody body × (old.bytes ≡ frame body ++ new.bytes) × (new.place ≡ place_after old.place (4 + length body))
 Gives old NotYet new = IsBegun old.bytes × (new ≡ old)
@@ -15,7 +15,7 @@ Gives old (Bad (BadLength place n)) new = IsBad old.bytes n × (place ≡ old.pl
 Gives old (Bad (Cut place)) new = ⊥
 Gives old OutOfMemory new = new ≡ old
 
--- a stream ends within a frame exactly where bytes are held
+-- a stream ends within a frame exactly if bytes are held
 abbrev pub IsCut : Held → Result (Unit {0}) FrameFault → Type 0
 IsCut held (Ok u) = held.bytes ≡ []
 IsCut held (Err (Cut place)) = (held.bytes ≢ []) × (place ≡ held.place)

@@ -7,11 +7,11 @@ use Rattle.std.specs.Int.{w32, to_be_bytes, from_be_bytes}
 abbrev pub most_bytes : ℕ
 most_bytes = 1048576
 
--- 2^64 - 1, where a place is no longer counted on
+-- 2^64 - 1, past which no place is counted
 abbrev pub last_place : ℕ
 last_place = 18446744073709551615
 
--- a body behind its length, as four bytes with the high byte first
+-- a body after its length, which is four bytes with the high byte first
 abbrev pub frame : List ℕ → List ℕ
 frame body = to_be_bytes w32 (length body) ++ body
 
@@ -35,11 +35,11 @@ IsBad bytes n = (4 ≤ length bytes) × (n ≡ length_of bytes) × ((n ≡ 0) �
 abbrev pub stream : List (List ℕ) → List ℕ → List ℕ
 stream bodies rest = flat_map frame bodies ++ rest
 
--- Where no frame stands any more: what comes after the last whole frame begins another, or has a bad length.
+-- What comes after the last whole frame: it begins another, or has a bad length.
 abbrev pub IsRest : List ℕ → Type 0
 IsRest rest = IsBegun rest ⊎ ((n : ℕ) × IsBad rest n)
 
--- a stream cut into its whole frames, up to the first place where none stands
+-- a stream cut into its whole frames, up to the first place where no whole frame begins
 pub record Cutting (bytes : List ℕ) : Type 0 where
   pub bodies : List (List ℕ)
   pub rest : List ℕ
@@ -47,7 +47,7 @@ pub record Cutting (bytes : List ℕ) : Type 0 where
   pub is_rest : IsRest rest
   pub is_stream : bytes ≡ stream bodies rest
 
--- the place so many bytes on
+-- the place n bytes on
 abbrev pub place_after : ℕ → ℕ → ℕ
 place_after place n = min (place + n) last_place
 

@@ -9,11 +9,11 @@ use std::error::Error;
 use std::fmt;
 use std::marker::Model;
 
-/// What is wrong with a stream. Places are those of the first byte of a frame's length, counted from the stream's first
-/// byte; they stand still at 2^64 - 1.
+/// What is wrong with a stream. A place is that of the first byte of a frame's length, counted from the stream's first byte.
+/// Places aren't counted past 2^64 - 1.
 #[derive(Clone, Copy, Debug, PartialEq, Eq)]
 pub enum FrameFault {
-    /// At that place stands this length, which is 0 or above 1,048,576.
+    /// At that place the stream has this length, which is 0 or above 1,048,576.
     BadLength(u64, u32),
     /// The stream ends in a frame that began at that place.
     Cut(u64),
@@ -39,7 +39,7 @@ pub enum Next {
     Frame(Items<u8>),
     /// All whole frames so far were given.
     NotYet,
-    /// They were given, and after them stands a bad length. It stays so.
+    /// They were given, and a bad length comes after them. Each later `next` answers the same.
     Bad(FrameFault),
     /// Memory ran out; nothing is changed.
     OutOfMemory,
@@ -106,7 +106,7 @@ impl Framer {
         if self.at == 0 {
             return self.bytes.extend_from_slice(piece);
         }
-        // What was given is let go of.
+        // The bytes that were given are dropped.
         let mut bytes = Vec::from_slice(alloc, &self.bytes[self.at..])?;
         bytes.extend_from_slice(piece)?;
         self.bytes = bytes;
@@ -140,7 +140,7 @@ impl Framer {
         }
     }
 
-    /// Whether the stream may end here: `Cut` where bytes of a frame are held.
+    /// Whether the stream may end here: `Cut` if bytes are held that weren't given.
     pub fn end(&self) -> Result<(), FrameFault>
         ensures { IsCut self.now result }
     {

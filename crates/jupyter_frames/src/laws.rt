@@ -20,7 +20,7 @@ pub fn every_stream_has_a_cutting()
     ensures { (bytes : List ℕ) → All (λ b. b < 256) bytes → Cutting bytes }
 {}
 
-/// A piece more and a frame less leave the stream as it is: what was given, what is held and what comes make it up.
+/// Taking a piece or giving a frame doesn't change the stream: what was given, what is held and what comes make it up.
 pub fn giving_keeps_the_stream()
     ensures fed { (given : List (List ℕ)) (held piece : List ℕ) → stream given (held ++ piece) ≡ stream given held ++ piece }
     ensures taken { (given : List (List ℕ)) (held body rest : List ℕ) → held ≡ frame body ++ rest → stream (given ++ body ∷ []) rest ≡ stream given held }
@@ -31,8 +31,9 @@ pub fn a_bad_length_stays()
     ensures { (held piece : List ℕ) (n : ℕ) → IsBad held n → IsBad (held ++ piece) n }
 {}
 
-/// However a stream is cut into pieces, and whenever frames are asked for: what was given are the first frames of what came,
-/// in order, and all of them where `next` says that there is none; what is held comes after them, and its place is theirs.
+/// However a stream is cut into pieces, and whenever frames are asked for, what was given is the first frames of what came, in
+/// order. It is all of them if `next` says that no whole frame is left. What is held comes after them, and its place is where
+/// they end.
 pub fn however_a_stream_comes()
     ensures held { (turns : List Turn) (held : Held) → DoAll nothing_held turns held → came turns ≡ stream (given turns) held.bytes }
     ensures place { (turns : List Turn) (held : Held) → DoAll nothing_held turns held → held.place ≡ place_after 0 (length (flat_map frame (given turns))) }

@@ -1,10 +1,10 @@
-//! Frames: a length of four bytes with the high byte first, and a body of so many bytes.
+//! Frames: a length of four bytes with the high byte first, and a body with that many bytes.
 //!
 //! A `Framer` takes a stream in pieces, however it was cut, and gives its frames in order. `laws` says that a stream has one
 //! cutting into frames, and that this is what a `Framer` gives.
 //!
-//! The contracts leave open when memory runs out, so that a body which always answers so meets them: the calls run in `frames_show`.
-//! They leave open the words in which a fault is shown, too.
+//! The contracts leave open when memory runs out, so a body that always answers that it ran out meets them. Therefore
+//! `frames_show` runs the calls. The contracts leave open the words in which a fault is shown, too.
 #![tactic(auto)]
 
 mod framer;

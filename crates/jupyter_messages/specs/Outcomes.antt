@@ -3,7 +3,7 @@ use Rattle.std.specs.Prelude.{◌≡◌, Bool, true, false, Result, Ok, Err}
 use Rattle.jupyter_messages.specs.declared.fault.MessageFault.{MessageFault}
 use Rattle.jupyter_messages.specs.declared.fault.MessageFault.TheVariants.{OutOfMemory, NotJson, NoField, WrongKind, BadUuid, UnknownType}
 
--- the next step, where there is a value
+-- the next step, if there is a value
 infixl 10 ◌>>=◌
 abbrev pub ◌>>=◌ : {A B : Type 0} → Result A MessageFault → (A → Result B MessageFault) → Result B MessageFault
 (Ok x) >>= next = next x

@@ -98,7 +98,7 @@ channel_named text = cond (same_text text (codes "shell")) (Ok Shell) (cond (sam
 unfoldable pub channel_of : Data → Result Channel MessageFault
 channel_of d = elim (get (codes "channel") d) [ None ↦ Ok Shell | Some x ↦ text_of (codes "channel") x >>= channel_named ]
 
--- the number that a UUID's text stands for, in any of its spellings
+-- the number that a UUID's text means, in any of its spellings
 unfoldable pub kernel_named : List ℕ → Result ℕ MessageFault
 kernel_named text = elim (parsed text) [ None ↦ Err BadUuid | Some bytes ↦ Ok (from_be_bytes w128 bytes) ]
 

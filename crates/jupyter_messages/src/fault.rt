@@ -6,8 +6,8 @@ use std::alloc::AllocError;
 use std::error::Error;
 use std::fmt;
 
-/// Why no message was read: the first check that fails, in this order of a message's parts: JSON, the object, its header,
-/// its channel, its kernel, its type, whether the channel is one of the type's, its content.
+/// Why no message was read: the fault of the first check that fails. The checks come in this order: JSON, the object, its
+/// header, its channel, its kernel, its type, whether the channel is one of the type's, its content.
 #[derive(Debug, Drop)]
 pub enum MessageFault {
     /// Memory ran out.

@@ -3,7 +3,8 @@
 //! A message is a JSON object in the form of the Jupyter messaging protocol 5.3, with a member `channel`. `docs/PROTOCOL.md`
 //! lists its members.
 //!
-//! The contracts leave open when memory runs out, so that a body which always answers so meets them: the calls run in `frames_show`.
+//! The contracts leave open when memory runs out, so a body that always answers that it ran out meets them. Therefore
+//! `frames_show` runs the calls.
 #![tactic(auto)]
 
 mod content;

@@ -10,6 +10,9 @@ use plain_data::Text;
 use serde_json::Value;
 use std::alloc::Global;
 
+/// The most bytes of a header's text.
+const MOST_TEXT: usize = 256;
+
 /// The fault that a member isn't there.
 pub fn no_field<T: Drop>(alloc: Global, name: &str) -> Result<T, MessageFault>
     ensures { Gives result (Err (MessageFault.NoField name.now)) }
@@ -30,7 +33,7 @@ fn short_text(alloc: Global, name: &str, value: &Value) -> Result<Text, MessageF
     ensures { Gives result (spec.short_text name.now (view value.now)) }
 {
     match value.as_str() {
-        Some(text) if text.len() <= 256 => Ok(Text::new(alloc, text)?),
+        Some(text) if text.len() <= MOST_TEXT => Ok(Text::new(alloc, text)?),
         _ => wrong_kind(alloc, name),
     }
 }

@@ -117,7 +117,7 @@ fn is_on_shell_alone(kind: RequestType) -> bool
     matches!(kind, RequestType::Execute | RequestType::Complete)
 }
 
-/// The channel, where it is one of the type's.
+/// The channel, if it is one of the type's.
 #[tactic(auto, unfolding(crate::specs::Reading::channel_for))]
 fn channel_for(alloc: Global, kind: RequestType, channel: Channel) -> Result<Channel, MessageFault>
     ensures { Gives result (spec.channel_for kind channel) }
@@ -138,7 +138,7 @@ fn is_control(channel: Channel) -> bool
     }
 }
 
-/// The value, where it is an object.
+/// The value, if it is an object.
 #[tactic(auto, unfolding(crate::specs::Reading::whole_of))]
 fn whole_of(alloc: Global, value: &Value) -> Result<&Value, MessageFault>
     ensures { GivesAs (λ v. view v.now) result (spec.whole_of (view value.now)) }

@@ -11,7 +11,7 @@ use Rattle.linked_parts.specs.Parts.{Reaches, Linked, itself, shared, back, on}
 use Rattle.linked_parts.specs.Labels.{name_at, joined, IsRelabelled, Joins, Meets, IsMet, AreMet, AreClasses, IsLabelling}
 use Rattle.linked_parts.proofs.Names.{AreNames, one_place, linked_values}
 
--- ---- one label in place of another, one place after the other
+-- ---- one label in place of another, name by name
 
 pub record IsRelabelledTo (from into : ℕ) (old now : List ℕ) (count : ℕ) : Type 0 where
   pub size : length now ≡ length old
@@ -201,7 +201,7 @@ module _ (s : State) (names : List Name) (labels : List ℕ) (owners : List (Opt
 
 -- ---- one name after the other
 
--- a name was met at so many of its objects, and those before it at all
+-- a name was met at as many of its objects as the count, and those before it at all of theirs
 pub record IsNoted (s : State) (names : List Name) (labels : List ℕ) (owners : List (Option ℕ)) (name : ℕ) (found : List ℕ) (count : ℕ) : Type 0 where
   pub classes : AreClasses s names labels owners
   pub met : AreMet s names labels owners name

@@ -23,7 +23,7 @@ module _ {X : Type 0} where
   pub one_in : (y x : X) → Contains (y ∷ []) x → y ≡ x
   one_in y x h = elim (cons_cases y [] x h) [ inl e ↦ e | inr none ↦ absurd (none_in x none) ]
 
-  -- where each stands before all later ones, each stands before the next
+  -- if each comes before all later ones, each comes before the next
   pub ascends_by_pairs : (Below : X → X → Type 0) (xs : List X) → AllPairs Below xs → Ascends Below xs
   ascends_by_pairs Below [] h = tt
   ascends_by_pairs Below (x ∷ []) h = tt

@@ -13,7 +13,7 @@ name_at names k = slice_index_or names k []
 abbrev pub joined : ℕ → ℕ → ℕ → ℕ
 joined from into label = cond (label == from) into label
 
--- where a name had the one label, it has the other
+-- if a name had the one label, it has the other
 pub record IsRelabelled (from into : ℕ) (old now : List ℕ) : Type 0 where
   pub size : length now ≡ length old
   pub labels : (k : ℕ) → k < length old → slice_index now k ≡ joined from into (slice_index old k)
@@ -48,11 +48,11 @@ pub record AreClasses (s : State) (names : List Name) (labels : List ℕ) (owner
       → Linked s (name_at names j) (name_at names k)
   pub owned : (at k : ℕ) → IsOwner owners at k → (k < length names) × Reaches s (name_at names k) at
 
--- so many names were looked into
+-- the first names, as many as the count, were looked into
 abbrev pub AreMet : State → List Name → List ℕ → List (Option ℕ) → ℕ → Type 0
 AreMet s names labels owners count = (k : ℕ) → k < count → (at : ℕ) → Reaches s (name_at names k) at → IsMet labels owners k at
 
--- two names have one label exactly where they are linked, and it is the least number that has it
+-- two names have one label exactly if they are linked, and it is the least number that has it
 pub record IsLabelling (s : State) (names : List Name) (labels : List ℕ) : Type 0 where
   pub size : length labels ≡ length names
   pub least : (k : ℕ) → k < length names → slice_index labels k ≤ k

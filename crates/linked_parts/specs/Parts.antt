@@ -45,7 +45,7 @@ pub record IsPartOf (s : State) (part : Part) : Type 0 where
   pub objects : (at : ℕ) → Contains part.objects at ↔ Reach s part.names at
   pub handle : IsTrue part.handle ↔ ((at : ℕ) × Contains part.objects at × IsHandleAt s.heap at)
 
--- the least name of one stands before that of the other
+-- the least name of one comes before that of the other
 abbrev pub LeastBelow : Part → Part → Type 0
 LeastBelow p q = TextBelow (least_name p.names) (least_name q.names)
 

@@ -11,8 +11,8 @@ use py_machine::Marks;
 use std::alloc::{AllocError, Global};
 
 impl Parts {
-    /// After a cell with these marks: where these were the parts of the state before it, they become those of the state
-    /// after it. After an error nothing is changed.
+    /// Goes on after a cell with these marks: if these were the parts of the state before it, they become those of the
+    /// state after it. After an error nothing is changed.
     pub fn after(&mut self, alloc: Global, state: &State, marks: &Marks) -> Result<(), AllocError>
         requires { IsClosed state.now }
         ensures ok { OnOk result ((before : State) → IsClosed before → ArePartsOf before self.old → IsAfter before marks.now state.now → ArePartsOf state.now self.new) }

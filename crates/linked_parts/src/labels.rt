@@ -104,7 +104,7 @@ impl Classes {
     }
 }
 
-/// A label, or the other in its place.
+/// The label `into` for the label `from`, and any other label as it is.
 fn joined(from: usize, into: usize, label: usize) -> usize
     ensures { result ≡ joined from into label }
 {

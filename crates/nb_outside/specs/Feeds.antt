@@ -4,13 +4,13 @@ use Rattle.nb_outside.specs.declared.feed.Drawn.{Drawn}
 use Rattle.nb_outside.specs.declared.feed.Drawn.TheVariants.{Failed}
 use Rattle.nb_outside.specs.Counts.{HasRisen}
 
--- the answers that a feed was made with and those left, where it tells them, and its count of faults
+-- the answers that a feed was made with and those left, if it tells them, and its count of faults
 pub record Seen : Type 0 where
   pub made : Option (List Drawn)
   pub left : Option (List Drawn)
   pub faults : ℕ
 
--- a draw gives the first of the answers left, and Failed where none is; a feed that doesn't tell goes on not telling
+-- a draw gives the first of the answers left, and Failed if none is left; a feed that doesn't tell goes on not telling
 abbrev pub IsNext : Option (List Drawn) → Drawn → Option (List Drawn) → Type 0
 IsNext None drawn left = left ≡ None
 IsNext (Some []) drawn left = (drawn ≡ Failed) × (left ≡ Some [])
@@ -23,7 +23,7 @@ pub record Gives (old : Seen) (drawn : Drawn) (new : Seen) : Type 0 where
   pub faults : old.faults ≤ new.faults
   pub failed : drawn ≡ Failed → HasRisen old.faults new.faults
 
--- all the answers that it was made with are left, where it tells
+-- all the answers that it was made with are left, if it tells
 abbrev pub HasAll : Seen → Type 0
 HasAll seen = seen.left ≡ seen.made
 

@@ -1,4 +1,4 @@
--- The source and the sink over any reader and writer, where they have counted nothing yet.
+-- The source and the sink over any reader and writer, when they have counted nothing yet.
 use Rattle.std.specs.Prelude.{◌≡◌}
 use Rattle.nb_outside.specs.declared.real.StdSource.{StdSource}
 use Rattle.nb_outside.specs.declared.real.StdSink.{StdSink}

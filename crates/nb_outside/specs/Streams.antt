@@ -11,7 +11,7 @@ abbrev pub Takes : Option (List ℕ) → Option (List ℕ) → List ℕ → Type
 Takes None new taken = new ≡ None
 Takes (Some bytes) new taken = (rest : List ℕ) × (bytes ≡ taken ++ rest) × (new ≡ Some rest)
 
--- nothing is left, where that is told
+-- nothing is left, if that is told
 abbrev pub IsAtEnd : Option (List ℕ) → Type 0
 IsAtEnd None = Unit {0}
 IsAtEnd (Some bytes) = bytes ≡ []
@@ -27,7 +27,7 @@ counted_read read.Failed n = n
 counted_read (read.Bytes zero) n = n
 counted_read (read.Bytes (suc k)) n = next_count n
 
--- these bytes were added at the end, where the sink tells
+-- these bytes were added at the end, if the sink tells
 abbrev pub Adds : Option (List ℕ) → Option (List ℕ) → List ℕ → Type 0
 Adds None new bytes = new ≡ None
 Adds (Some had) new bytes = new ≡ Some (had ++ bytes)

@@ -15,7 +15,7 @@ pub enum Drawn {
 pub trait Feed: Drop {
     ghost use Rattle.nb_outside.specs.Feeds.{Seen, Gives};
 
-    // The answers that it was made with and those left, where it tells them, and how many faults it has met.
+    // The answers that it was made with and those left, if it tells them, and how many faults it has met.
     ghost seen: { Self → Seen };
 
     /// Gives the next word.

@@ -1,8 +1,8 @@
 //! The outside of the program as it sees it: a source of bytes, a sink for bytes, and feeds of words.
 //!
-//! Each has a count of faults that never falls, and answers `Failed` only where that count rose in the call. What a
+//! Each has a count of faults that never falls, and answers `Failed` only if that count rose in the call. What a
 //! source has left, what a sink was given and what a feed gives is optional for contracts: over memory it is told, over
-//! the real ones it isn't. Counts stand still at 2^64 - 1, and then count as risen.
+//! the real ones it isn't. At 2^64 - 1 a count doesn't change any more, and then it counts as risen.
 //!
 //! No contract tells at which calls a stream over memory fails, or how much it takes at once: callers have to be right
 //! for all of them. Nor does one tell what a real stream gives: that its bytes are those of the outside, and its end the
@@ -17,6 +17,7 @@ mod random;
 mod real;
 mod sink;
 mod source;
+pub mod status;
 
 pub use feed::{Drawn, Feed, Feeds};
 pub use laws::draws_add_up;

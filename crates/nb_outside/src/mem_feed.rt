@@ -15,7 +15,7 @@ pub struct MemFeed {
 impl MemFeed {
     ghost use Rattle.nb_outside.specs.Memory.{seen_feed, IsNewFeed};
 
-    /// A feed that gives these answers, in order, and then fails. The draws that are to fail stand among them as `Failed`.
+    /// A feed that gives these answers, in order, and then fails. The draws that are to fail are among them as `Failed`.
     /// Takes no memory.
     pub fn new(answers: Vec<Drawn>) -> MemFeed
         ensures { IsNewFeed answers.items (seen_feed result) }

@@ -84,7 +84,7 @@ impl Source for MemSource {
     }
 }
 
-/// A sink over memory, which tells what was written. Each write takes at most so many bytes as it was made for.
+/// A sink over memory, which tells what was written. Each write takes at most as many bytes as it was made for.
 #[derive(Debug, Drop)]
 pub struct MemSink {
     bytes: Vec<u8>,

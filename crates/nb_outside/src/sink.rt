@@ -5,7 +5,7 @@ ghost use Rattle.nb_outside.specs.Streams.{Writes};
 /// What a write answers.
 #[derive(Clone, Copy, Debug, PartialEq, Eq)]
 pub enum WriteEnd {
-    /// So many bytes of the piece are written: at least one, where the piece isn't empty.
+    /// This many bytes of the piece are written: at least one, if the piece isn't empty.
     Wrote(usize),
     /// The sink met a fault; taking nothing of a piece that isn't empty is one. Nothing was written.
     Failed,
@@ -16,7 +16,7 @@ pub trait Sink {
     // How many faults it has met.
     ghost faults: { Self → ℕ };
 
-    // All that was written to it, where it tells.
+    // All that was written to it, if it tells.
     ghost written: { Self → Option (List ℕ) };
 
     /// Writes the first of the bytes.

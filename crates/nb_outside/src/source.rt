@@ -5,7 +5,7 @@ ghost use Rattle.nb_outside.specs.Streams.{Reads, counted_read};
 /// What a read answers.
 #[derive(Clone, Copy, Debug, PartialEq, Eq)]
 pub enum ReadEnd {
-    /// So many bytes stand at the front of the piece. None for a piece with room is the end of the input.
+    /// This many bytes are at the front of the piece now. 0 for a piece with room is the end of the input.
     Bytes(usize),
     /// The source met a fault. Nothing was taken.
     Failed,
@@ -19,7 +19,7 @@ pub trait Source {
     // How many reads took a byte.
     ghost reads: { Self → ℕ };
 
-    // The bytes that it has left, where it tells them.
+    // The bytes that it has left, if it tells them.
     ghost left: { Self → Option (List ℕ) };
 
     /// Reads some bytes to the front of `into`.

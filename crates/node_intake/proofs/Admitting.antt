@@ -31,7 +31,7 @@ never_none k (x ∷ xs) (suc at) s there of none = elim (eqb_tells x.kernel k) [
   | inr not ↦ never_none k xs at s there of (rw not.0 at none)
 ]
 
--- the request that is put to the session at a place goes to the session of its kernel
+-- the request that is put to the session at an index goes to the session of its kernel
 pub request_at : (k : ℕ) (r : Request) (xs : List Session) (at : ℕ) (s : Session) → AreApart (map taken_of xs) → slice_get xs at ≡ Some s → s.kernel ≡ k
     → map taken_of (slice_set xs at (record s { requests = s.requests ++ r ∷ [] })) ≡ map (with_request k r) (map taken_of xs)
 request_at k r [] at s apart there of = cc
@@ -45,7 +45,7 @@ request_at k r (x ∷ xs) (suc at) s apart there of = elim (eqb_tells x.kernel k
   | inr not ↦ rw not.0 (ap (λ zs. taken_of x ∷ zs) (request_at k r xs at s apart.1 there of))
 ]
 
--- what stands at a place of the sessions
+-- what is at an index of the sessions
 pub there_in : (xs : List Session) (at : ℕ) (t : Taken) → slice_get (map taken_of xs) at ≡ Some t → (s : Session) × (slice_get xs at ≡ Some s) × (taken_of s ≡ t)
 there_in [] at t there = cc
 there_in (x ∷ xs) zero t there = (x, refl, cc)
@@ -82,7 +82,7 @@ apart_with k r [] apart = tt
 apart_with k r (x ∷ xs) apart =
     (subst (λ j. session_of j (map (with_request k r) xs) ≡ None) (sym (kernel_stays k r x)) (none_with x.kernel k r xs apart.0), apart_with k r xs apart.1)
 
--- ---- places
+-- ---- indices
 
 pub found_at : (k : ℕ) (xs : List Session) (at : ℕ) (x : Session) → at < length xs → x ≡ get_or xs at x → x.kernel ≡ k
     → session_of k (map taken_of xs) ≡ session_of k (map taken_of (drop at xs)) → IsAt xs k at
@@ -120,6 +120,6 @@ pub map_ok : {A E : Type 0} {P Q : Type 0} (r : Result A E) → (P → Q) → On
 map_ok (Ok a) f h = f h
 map_ok (Err e) f h = tt
 
--- a node by its parts
+-- a node by its two lists
 pub two : (ss ts : List Taken) (es fs : List NodeError) → ss ≡ ts → es ≡ fs → ◌≡◌ {A = Node} (record { sessions = ss; errors = es }) (record { sessions = ts; errors = fs })
 two ss ts es fs p q = ap (λ (zs : List Taken). let n : Node = record { sessions = zs; errors = es } in n) p ∙ ap (λ (zs : List NodeError). let n : Node = record { sessions = ts; errors = zs } in n) q

@@ -11,7 +11,7 @@ abbrev pub AreApart : List Taken → Type 0
 AreApart [] = Unit {0}
 AreApart (s ∷ more) = (session_of s.kernel more ≡ None) × AreApart more
 
--- the session of this kernel, and that it stands at that place
+-- the session of this kernel, and that it is at that index
 pub record IsAt (sessions : List Session) (kernel at : ℕ) : Type 0 where
   pub session : Session
   pub is_there : slice_get sessions at ≡ Some session

@@ -13,7 +13,7 @@ use Rattle.node_intake.specs.Sessions.{taken_of}
 abbrev pub node_in : TakenIn → Node
 node_in t = record { sessions = map taken_of t.sessions; errors = t.errors }
 
--- This was taken in of these bytes: all whole frames up to the first place where none stands, and that place.
+-- This was taken in of these bytes: all whole frames up to the first place where no whole frame begins, and that place.
 pub record IsTakenIn (hosts : ℕ) (bytes : List ℕ) (t : TakenIn) : Type 0 where
   pub bodies : List (List ℕ)
   pub rest : List ℕ
@@ -23,8 +23,8 @@ pub record IsTakenIn (hosts : ℕ) (bytes : List ℕ) (t : TakenIn) : Type 0 whe
   pub node : node_in t ≡ with_frames hosts no_sessions bodies
   pub broken : ((rest ≡ []) × (t.broken ≡ None)) ⊎ ((rest ≢ []) × (t.broken ≡ Some (place_after 0 (length (flat_map frame bodies)))))
 
--- how taking in ended, with this left in the source, and this not taken in of what came: at the end of the input or at a
--- bad length, or before any
+-- How taking in ended, with this left in the source, and this not taken in of what came: at the end of the input or at a bad
+-- length, or before either.
 abbrev pub EndsSo : IntakeEnd → Option (List ℕ) → List ℕ → Type 0
 EndsSo End left rest = (IsAtEnd left × IsBegun rest) ⊎ ((n : ℕ) × IsBad rest n)
 EndsSo Failed left rest = IsBegun rest
@@ -40,12 +40,12 @@ pub record TookSoFar (hosts : ℕ) (bytes : List ℕ) (held : Held) (node : Node
   pub place : held.place ≡ place_after 0 (length (flat_map frame bodies))
   pub is_node : node ≡ with_frames hosts no_sessions bodies
 
--- no whole frame is held, and a bad length only where no more may come
+-- no whole frame is held, and a bad length only if no more may come
 abbrev pub Stands : Bool → List ℕ → Type 0
 Stands true rest = IsBegun rest
 Stands false rest = (n : ℕ) × IsBad rest n
 
--- the same where more may come
+-- it ended so, or more may come
 abbrev pub EndsOrGoesOn : Option IntakeEnd → Option (List ℕ) → List ℕ → Type 0
 EndsOrGoesOn None left rest = IsBegun rest
 EndsOrGoesOn (Some end) left rest = EndsSo end left rest

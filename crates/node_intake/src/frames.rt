@@ -9,7 +9,7 @@ use jupyter_frames::{FrameFault, Framer, Next};
 use plain_data::Items;
 use std::alloc::{AllocError, Global};
 
-/// Takes in the whole frames that are held, and gives whether more may come: not where a bad length stands after them.
+/// Takes in the whole frames that are held, and gives whether more may come: none may after a bad length.
 pub fn take_frames(
     alloc: Global,
     hosts: u32,
@@ -39,7 +39,7 @@ fn broken_at(framer: &Framer) -> Option<u64>
     }
 }
 
-/// What was taken in, where no more comes.
+/// What was taken in, when no more comes.
 pub fn taken_in(framer: &Framer, node: Intake) -> TakenIn
     ensures node { node_in result ≡ node }
     ensures broken { IsPlaceOf framer.now result.broken }

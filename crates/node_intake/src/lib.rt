@@ -3,7 +3,8 @@
 //! A source is read in pieces. Each frame is taken in as soon as it is whole, and isn't kept. `specs/Taking` says what was
 //! taken in, in the words of `reply_frames`' definition of an intake.
 //!
-//! The contracts leave open when memory runs out, so that a body which always answers so meets them: `take_in` runs in the tests of `node_run` and of the program.
+//! The contracts leave open when memory runs out, so a body that always answers that it ran out meets them. Therefore the tests
+//! here, of `node_run` and of the program run `take_in`.
 #![tactic(auto)]
 
 mod frames;

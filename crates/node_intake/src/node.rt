@@ -41,7 +41,7 @@ const MOST_SESSIONS: usize = 256;
 /// The most requests of a session.
 const MOST_REQUESTS: usize = 65_536;
 
-/// Where the session of this kernel stands, if there is one.
+/// The index of this kernel's session, if there is one.
 fn place_of(sessions: &[Session], kernel: u128) -> Option<usize>
     ensures { MatchOption result (spec.session_of kernel (map taken_of sessions.now) ≡ None) (λ at. IsAt sessions.now kernel at) }
 {
@@ -53,7 +53,7 @@ fn place_of(sessions: &[Session], kernel: u128) -> Option<usize>
     None
 }
 
-/// Whether the session at that place has as many requests as it may have.
+/// Whether the session at that index has as many requests as it may have.
 fn is_full(sessions: &[Session], at: usize) -> bool
     requires { at < length sessions.now }
     ensures { (s : Opened) → slice_get sessions.now at ≡ Some s → result ≡ nat_le spec.most_requests (length s.requests) }
@@ -61,7 +61,7 @@ fn is_full(sessions: &[Session], at: usize) -> bool
     MOST_REQUESTS <= sessions[at].requests.len()
 }
 
-/// Puts a request at the end of those of the session at that place. After an error nothing is changed.
+/// Puts a request at the end of those of the session at that index. After an error nothing is changed.
 fn push_request(sessions: &mut [Session], at: usize, request: Request) -> Result<(), AllocError>
     requires { at < length sessions.old }
     ensures ok { OnOk result ((s : Opened) → slice_get sessions.old at ≡ Some s
@@ -101,7 +101,7 @@ impl Intake {
         self.fail(kind, Some(About { kernel, header }))
     }
 
-    /// A session more, of a kernel that has none.
+    /// Adds a session, of a kernel that has none.
     fn begin(&mut self, session: Session) -> Result<(), AllocError>
         requires { spec.session_of session.kernel self.old.sessions ≡ None }
         ensures { OnOk result (self.new ≡ record self.old { sessions = self.old.sessions ++ taken_of session ∷ [] }) }
@@ -110,7 +110,7 @@ impl Intake {
         Ok(())
     }
 
-    /// Opens a session of a kernel that has none, on a host that is there, where there are less than 256.
+    /// Opens a session of a kernel that has none, if the host is there and less than 256 sessions are open.
     fn open_new(
         &mut self,
         alloc: Global,
@@ -157,7 +157,7 @@ impl Intake {
         }
     }
 
-    /// Puts a request to the session of its kernel, which stands at that place.
+    /// Puts a request to the session of its kernel, which is at that index.
     fn admit(&mut self, at: usize, kernel: u128, request: Request) -> Result<(), AllocError>
         requires { (s : Taken) × (slice_get self.old.sessions at ≡ Some s) × (s.kernel ≡ kernel) }
         ensures { OnOk result (self.new ≡ record self.old { sessions = map (spec.with_request kernel request) self.old.sessions }) }
@@ -232,7 +232,7 @@ impl Intake {
         }
     }
 
-    /// One frame more, with this body. After an error it isn't taken in.
+    /// Takes in one frame more, with this body. After an error it isn't taken in.
     pub fn take_body(&mut self, alloc: Global, hosts: u32, body: &[u8]) -> Result<(), AllocError>
         ensures { OnOk result (self.new ≡ spec.with_message hosts self.old (message_in body.now)) }
     {

@@ -16,7 +16,7 @@ use std::alloc::{AllocError, Global};
 /// How many bytes each read asks for.
 const PIECE: usize = 65_536;
 
-/// Reads one piece and gives it to the framer. `None` where there may be more.
+/// Reads one piece and gives it to the framer. `None` if there may be more.
 fn read_piece<S: Source>(
     alloc: Global,
     source: &mut S,
@@ -43,7 +43,7 @@ fn read_piece<S: Source>(
     }
 }
 
-/// Reads one piece and takes in the frames that are whole with it. `None` where there may be more.
+/// Reads one piece and takes in the frames that are whole with it. `None` if there may be more.
 fn take_piece<S: Source>(
     alloc: Global,
     hosts: u32,
@@ -100,16 +100,16 @@ fn take_pieces<S: Source>(
     Ok(IntakeEnd::TooMany)
 }
 
-/// Room for a piece of so many bytes.
+/// Room for a piece with this number of bytes.
 fn room(alloc: Global, count: usize) -> Result<Vec<u8>, AllocError>
     ensures { IfOk result (λ piece. vec_len piece ≡ count) }
 {
     vec![in alloc; 0u8; count]
 }
 
-/// Reads a source to its end, or to a length that no frame has, and takes in what it gives, for a node with so many hosts.
-/// A source that meets a fault, or gives a byte at each of 4,294,967,295 reads, is read no further. Always some bytes were
-/// taken of it.
+/// Reads a source to its end, or to a length that no frame has, and takes in what it gives, for a node with this number of hosts.
+/// A source that meets a fault, or gives a byte at each of 4,294,967,295 reads, is read no further. Even after an error, what the
+/// source had is what was taken of it, and then what it has left.
 pub fn take_in<S: Source>(
     alloc: Global,
     source: &mut S,

@@ -17,7 +17,7 @@ pub struct Session {
 pub struct TakenIn {
     /// The sessions, in the order in which they were opened.
     pub sessions: Items<Session>,
-    /// The errors, in order. That the stream is broken is none of them.
+    /// The errors, in order. The error that the stream is broken isn't one of them.
     pub errors: Items<NodeError>,
     /// Where the stream stops being frames: the place of the first byte of a length that no frame has, or of a frame that is
     /// cut off.
@@ -27,7 +27,7 @@ pub struct TakenIn {
 /// How taking in ended.
 #[derive(Clone, Copy, Debug, PartialEq, Eq)]
 pub enum IntakeEnd {
-    /// The input ended, or a length that no frame has stands in it.
+    /// The input ended, or has a length that no frame has.
     End,
     /// The source met a fault.
     Failed,

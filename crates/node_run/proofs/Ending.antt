@@ -236,12 +236,6 @@ not_five Broken e = omega (arith, e)
 not_five SourceFailed e = omega (arith, e)
 not_five TooManyReads e = omega (arith, e)
 
-pub three_is : (end : RunEnd) → status_of end ≡ 3 → end ≡ SourceFailed
-three_is end e = same_end end SourceFailed e
-
-pub ten_is : (end : RunEnd) → status_of end ≡ 10 → end ≡ TooManyReads
-ten_is end e = same_end end TooManyReads e
-
 -- ---- a run over a source that tells
 
 Adds-none : (old : Option (List ℕ)) → Adds old old []

@@ -16,7 +16,7 @@ pub error_end : (first : ℕ) → error_frames first [] ≡ []
 unfolding error_frames
 error_end first = refl
 
--- the error at a place comes next
+-- the error at an index comes next
 pub error_next : (at : ℕ) (e : NodeError) (errors : List NodeError) → at < length errors → e ≡ get_or errors at e
     → error_frames (at + 1) (drop at errors) ≡ frame_of (at + 1) e ++ error_frames ((at + 1) + 1) (drop (at + 1) errors)
 error_next at e errors within is =

@@ -21,10 +21,6 @@ use Rattle.node_run.specs.Journals.{IsJournalOf, AreHosted, Run, IsRunOf, AreRun
 
 -- ---- two lists
 
-pub filter_next : {X : Type 0} (p : X → Bool) (done next all rest : List X) (x : X) → done ++ filter p (x ∷ rest) ≡ all → next ≡ done ++ filter p (x ∷ []) → next ++ filter p rest ≡ all
-filter_next p done next all rest x so_far is =
-    ap (λ z. z ++ filter p rest) is ∙ append_assoc done (filter p (x ∷ [])) (filter p rest) ∙ ap (λ z. done ++ z) (sym (filter-append p (x ∷ []) rest)) ∙ so_far
-
 tells : (b : Bool) → (b ≡ true) ⊎ (b ≡ false)
 tells true = inl refl
 tells false = inr refl
@@ -57,13 +53,6 @@ control_of_both rs = filter-append is_control (filter is_control rs) (filter is_
 
 pub goes_both : (a b c : List Entry) → GoesOn a b → GoesOn b c → GoesOn a c
 goes_both a b c (m, e) (n, f) = (m ++ n, f ∙ ap (λ z. z ++ n) e ∙ append_assoc a m n)
-
-pub goes_nowhere : (a : List Entry) → GoesOn a a
-goes_nowhere a = ([], sym (append-nil a))
-
--- a request more is answered
-pub answered_next : (all first old new : List Request) (r : Request) (rest : List Request) → old ++ r ∷ rest ≡ all → new ≡ old ++ r ∷ [] → new ++ rest ≡ all
-answered_next all first old new r rest so_far is = ap (λ z. z ++ rest) is ∙ append_assoc old (r ∷ []) rest ∙ so_far
 
 all_asked : (host : ℕ) (request : Header) (channel : Channel) (opened mid es : List Entry) (control main : List Request) → opened ≡ Opened host request channel ∷ []
     → asked mid ≡ asked opened ++ control → asked es ≡ asked mid ++ main → asked es ≡ control ++ main
@@ -110,10 +99,6 @@ next_served meaning hosts kernel all rest s seen runs new so_far own journal is 
       (subst (λ ts. AreRuns meaning hosts ts (runs ++ (kernel, seen) ∷ [])) (sym (map-append taken_of so_far.done (s ∷ [])))
       (all_zipped_more (IsRunOf meaning hosts) (map taken_of so_far.done) runs (taken_of s) (kernel, seen) so_far.are_runs (own, journal)));
 }
-
-pub all_served : (meaning : Meaning) (hosts : ℕ) (all rest : List Session) (runs : List Run) → ServedSoFar meaning hosts all rest runs → rest ≡ [] → AreRuns meaning hosts (map taken_of all) runs
-all_served meaning hosts all rest runs so_far none =
-    subst (λ ss. AreRuns meaning hosts (map taken_of ss) runs) (sym (so_far.parts ∙ ap (λ z. so_far.done ++ z) none ∙ append-nil so_far.done)) so_far.are_runs
 
 hosted_in : (hosts : ℕ) (done rest : List Session) (s : Session) → AreHosted hosts (map taken_of (done ++ s ∷ rest)) → s.host < hosts
 hosted_in hosts [] rest s are = are.0

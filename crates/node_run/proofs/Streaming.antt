@@ -48,10 +48,7 @@ pub all_written : (old new : Option (List ℕ)) (bytes rest : List ℕ) → Writ
 all_written old new bytes rest w none =
     subst (Adds old new) (sym (w.parts ∙ ap (λ ys. w.done ++ ys) none ∙ append-nil w.done)) w.adds
 
-pub nothing_front : (old : Option (List ℕ)) (bytes : List ℕ) → AddsFront old old bytes
-nothing_front old bytes = ([], bytes, refl, Adds-none old)
-
--- ---- two parts, one after the other
+-- ---- two pieces, one after the other
 
 pub front_first : (old new : Option (List ℕ)) (a b : List ℕ) → AddsFront old new a → AddsFront old new (a ++ b)
 front_first old new a b (front, back, parts, adds) = (front, back ++ b, ap (λ ys. ys ++ b) parts ∙ append_assoc front back b, adds)

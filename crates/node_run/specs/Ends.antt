@@ -17,8 +17,8 @@ status_of Broken = 2
 status_of SourceFailed = 3
 status_of TooManyReads = 10
 
--- what is taken in of these frames, and of what comes after them: where the source gave no more before its end, a frame that
--- is begun is no error
+-- What is taken in of these frames, and of what comes after them. If the source stopped before its end, a frame that is begun is
+-- no error.
 abbrev pub node_at : RunEnd → ℕ → List (List ℕ) → List ℕ → Node
 node_at Whole hosts bodies rest = node_of hosts bodies rest
 node_at Broken hosts bodies rest = node_of hosts bodies rest

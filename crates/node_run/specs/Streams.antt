@@ -43,7 +43,7 @@ pub record Streams (meaning : Meaning) (hosts status : ℕ) (taken left : List �
   pub whole : (end : RunEnd) → status ≡ status_of end → Writes meaning hosts end taken (Some left) (Adds sink_old sink_new)
   -- at 4 the first bytes of it
   pub cut : status ≡ 4 → (end : RunEnd) × Writes meaning hosts end taken (Some left) (AddsFront sink_old sink_new)
-  -- at 5 the same, or nothing, where memory ran out before all was served
+  -- at 5 the same, or nothing if memory ran out before all was served
   pub short : status ≡ 5 → Adds sink_old sink_new [] ⊎ ((end : RunEnd) × Writes meaning hosts end taken (Some left) (AddsFront sink_old sink_new))
 
 -- over a source that tells what it had and has left

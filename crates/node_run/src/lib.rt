@@ -2,8 +2,8 @@
 //!
 //! It is written for any engine. `specs/Streams` says what a run did: which journals were made, and which bytes were written.
 //!
-//! The contracts leave open when memory runs out, so that a body which always answers so meets them: the calls run in the tests here
-//! and of the program. They leave open the words in which a fault is shown, too.
+//! The contracts leave open when memory runs out, so a body that always answers that it ran out meets them. Therefore the tests
+//! here and of the program run the calls. The contracts leave open the words in which a fault is shown, too.
 #![tactic(auto)]
 
 mod end;
@@ -16,6 +16,6 @@ mod tests;
 mod write;
 
 pub use end::RunEnd;
-pub use run::{Ran, run_sessions, run_stream, status_of};
+pub use run::{NodeRun, run_sessions, run_stream, status_of};
 pub use served::{serve_all, serve_session};
 pub use streams::{SinkFault, write_all};

@@ -11,7 +11,7 @@ ghost use Rattle.node_run.specs.Streams.{HasRun, StreamsTold, IsStatus};
 use crate::end::RunEnd;
 use crate::served::serve_all;
 use crate::write::{WriteFault, write_all_frames};
-use nb_outside::{Feeds, Sink, Source};
+use nb_outside::{Feeds, Sink, Source, status};
 use node_intake::{IntakeEnd, TakenIn, take_in};
 use plain_data::Items;
 use reply_frames::{NodeError, NodeErrorKind};
@@ -20,7 +20,7 @@ use std::alloc::{AllocError, Global};
 
 /// What a node did with a stream, before anything is written.
 #[derive(Drop)]
-pub struct Ran<E: Engine> {
+pub struct NodeRun<E: Engine> {
     /// The errors, in order.
     pub errors: Items<NodeError>,
     /// The sessions that were served, with their kernels, in the order in which they were opened.
@@ -64,7 +64,7 @@ fn serve_taken<E: Engine + Drop, Q: Feeds>(
     taken: TakenIn,
     end: IntakeEnd,
     feeds: &mut Q,
-) -> Result<Ran<E>, AllocError>
+) -> Result<NodeRun<E>, AllocError>
     requires { AreHosted hosts (map taken_of taken.sessions) }
     ensures errors { IfOk result (λ ran. ran.errors ≡ spec.errors_after end taken.broken taken.errors) }
     ensures runs { IfOk result (λ ran. AreRuns E.meaning hosts (map taken_of taken.sessions) ran.runs.items) }
@@ -78,20 +78,20 @@ fn serve_taken<E: Engine + Drop, Q: Feeds>(
     let mut errors = errors;
     push_broken(end, broken, &mut errors)?;
     let runs = serve_all(alloc, hosts, sessions, feeds)?;
-    Ok(Ran {
+    Ok(NodeRun {
         errors,
         runs,
         end: end_after(end, broken),
     })
 }
 
-/// Takes in a stream and serves its sessions, each in the order of opening. Nothing is written.
+/// Takes in a stream and serves its sessions, in the order of opening. Nothing is written.
 pub fn run_sessions<E: Engine + Drop, S: Source, Q: Feeds>(
     alloc: Global,
     hosts: u32,
     source: &mut S,
     feeds: &mut Q,
-) -> Result<Ran<E>, AllocError>
+) -> Result<NodeRun<E>, AllocError>
     ensures told { (bytes : List ℕ) × Takes (S.left source.old) (S.left source.new) bytes
         × IfOk result (λ ran. HasRun E.meaning hosts ran.end bytes (S.left source.new) ran.errors ran.runs.items) }
     ensures failed { IfOk result (λ ran. ran.end ≡ RunEnd.SourceFailed → HasRisen (S.faults source.old) (S.faults source.new)) }
@@ -109,10 +109,10 @@ pub fn status_of(end: RunEnd) -> u8
     ensures { result ≡ spec.status_of end }
 {
     match end {
-        RunEnd::Whole => 0,
-        RunEnd::Broken => 2,
-        RunEnd::SourceFailed => 3,
-        RunEnd::TooManyReads => 10,
+        RunEnd::Whole => status::DONE,
+        RunEnd::Broken => status::BROKEN,
+        RunEnd::SourceFailed => status::SOURCE_FAULT,
+        RunEnd::TooManyReads => status::TOO_MANY_READS,
     }
 }
 
@@ -120,8 +120,8 @@ pub fn status_of(end: RunEnd) -> u8
 /// from 1. Gives the status:
 ///
 /// - 0: the input was read to its end, and everything was written.
-/// - 2: a length that no frame has stands in the input, and it was read no further; or it was read to its end, and ends within
-///   a frame. What stands before it is served, and everything was written, with the error's frame.
+/// - 2: the input has a length that no frame has, and was read no further; or it was read to its end, and ends within a frame.
+///   What comes before is served, and everything was written, with the error's frame.
 /// - 3: the source met a fault. What it gave before is served, and everything was written.
 /// - 4: the sink met a fault. What is out is a prefix of what was to be written.
 /// - 5: memory ran out. What is out is a prefix of what was to be written.
@@ -142,9 +142,9 @@ pub fn run_stream<E: Engine + Drop, S: Source, K: Sink, Q: Feeds>(
     match run_sessions::<E, S, Q>(alloc, hosts, source, feeds) {
         Ok(ran) => match write_all_frames(alloc, sink, ran.errors.as_slice(), ran.runs.as_slice()) {
             Ok(()) => status_of(ran.end),
-            Err(WriteFault::Sink) => 4,
-            Err(WriteFault::OutOfMemory) => 5,
+            Err(WriteFault::Sink) => status::SINK_FAULT,
+            Err(WriteFault::OutOfMemory) => status::OUT_OF_MEMORY,
         },
-        Err(_) => 5,
+        Err(_) => status::OUT_OF_MEMORY,
     }
 }

@@ -19,7 +19,7 @@ impl fmt::Display for SinkFault {
 
 impl Error for SinkFault {}
 
-/// Writes all the bytes. After an error the first of them are written.
+/// Writes all the bytes. After an error a prefix of them is written.
 pub fn write_all<K: Sink>(sink: &mut K, bytes: &[u8]) -> Result<(), SinkFault>
     ensures ok { OnOk result (Adds (K.written sink.old) (K.written sink.new) bytes.now) }
     ensures err { OnErr result (AddsFront (K.written sink.old) (K.written sink.new) bytes.now) }

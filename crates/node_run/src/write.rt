@@ -35,7 +35,7 @@ impl fmt::Display for WriteFault {
 
 impl Error for WriteFault {}
 
-/// Writes all the bytes. After an error the first of them are written; so it is with each function here.
+/// Writes all the bytes. After an error a prefix of them is written. The same holds for each function here.
 fn send<K: Sink>(sink: &mut K, bytes: &[u8]) -> Result<(), WriteFault>
     ensures ok { OnOk result (Adds (K.written sink.old) (K.written sink.new) bytes.now) }
     ensures err { OnErr result (AddsFront (K.written sink.old) (K.written sink.new) bytes.now) }

@@ -57,10 +57,6 @@ pub shut_holds : (n now : Notebook) (cells : List Entry) (restart : Bool) → Ho
 shut_holds n now cells true h anew stays = anew refl
 shut_holds n now cells false h anew stays = subst (λ (m : Notebook). HoldsCells m cells) (sym (stays refl)) h
 
--- what may be served goes on
-pub served_run : (n : Notebook) (served : List Served) (ask : Ask) (draws : List Drawn) → StandsForAsks n served → HasNoEnd served → MayServe (cells_of served) ask draws → IsRunOfAsks (more served ask draws)
-served_run n served ask draws stands no_end may = goes_on served ask draws stands.0 no_end may
-
 pub served_stands : (n now : Notebook) (served : List Served) (ask : Ask) (draws : List Drawn) → StandsForAsks n served → HasNoEnd served → MayServe (cells_of served) ask draws
     → HoldsCells now (with_ask (cells_of served) ask draws) → StandsForAsks now (more served ask draws)
 served_stands n now served ask draws stands no_end may holds =

@@ -79,14 +79,14 @@ impl Notebook {
         if counted && self.kernel.state.count() == u32::MAX {
             return Some(Number::Count);
         }
-        if self.history.graph.cells.len() >= u32::MAX as usize {
+        if self.history.graph().cells.len() >= u32::MAX as usize {
             return Some(Number::Cells);
         }
         None
     }
 
-    /// Runs a cell, records it, and answers it. After an `Err`, which is want of memory, or a number of the history that would reach
-    /// 2^32, the session is only dropped.
+    /// Runs a cell, records it, and answers it. `Err` if memory runs out, or a number of the history would reach 2^32. After
+    /// that the session may only be dropped.
     pub(crate) fn run_cell<F: Feed>(
         &mut self,
         alloc: Global,

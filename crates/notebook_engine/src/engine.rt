@@ -44,7 +44,7 @@ fn told(alloc: Global, reply: Reply) -> Done
 }
 
 impl Notebook {
-    /// A shutdown: a restart begins anew, on the same host; else all stays.
+    /// A shutdown: a restart begins anew, on the same host; else nothing is changed.
     fn shut(&mut self, alloc: Global, restart: bool) -> Done
         ensures done { result ≡ record { reply = Reply.Shut restart; draws = [] } }
         ensures anew { restart ≡ true → HoldsCells self.new [] }

@@ -1,9 +1,10 @@
 //! The engine of the product: a kernel, the history of its cells, the planner and the restorer.
 //!
-//! What it means that a notebook stands for a list of asks: `notebook_meaning`. It is as one that served these asks and never moved,
-//! however often it did. docs/JOURNAL.md tells what an engine is.
+//! `notebook_meaning` tells what a list of asks means. A notebook that stands for such a list is as one that served these asks
+//! and never moved, however often it did. docs/JOURNAL.md tells what an engine is.
 //!
-//! The contracts leave open when memory runs out, so that a body which always answers so meets them: the calls run in the tests of the program.
+//! The contracts leave open when memory runs out, so a body that always answers that it ran out meets them. Therefore the tests
+//! of the program run the calls.
 #![tactic(auto)]
 
 mod cells;

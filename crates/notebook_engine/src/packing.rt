@@ -46,7 +46,7 @@ impl Notebook {
         requires { IsUsable self.now }
         ensures { (served : List Served) → StandsForAsks self.now served → Packs notebooks served weights.now result }
     {
-        let graph = &self.history.graph;
+        let graph = self.history.graph();
         if let Err(fault) = check_weights(graph, weights) {
             return Err(PackFault::BadWeights(fault));
         }

@@ -11,7 +11,7 @@ use py_session::Failure;
 use session_core::Reply;
 use std::alloc::{AllocError, Global};
 
-/// The name and the text of an error, both empty where there is none.
+/// The name and the text of an error, both empty if there is none.
 fn error_texts(alloc: Global, failed: Option<Failure>) -> Result<(Text, Text), AllocError>
     ensures { IfOk result (λ texts. (texts.0 ≡ name_in failed) × (texts.1 ≡ text_in failed)) }
 {

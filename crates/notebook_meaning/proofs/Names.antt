@@ -1,4 +1,4 @@
--- Items by their places, and names.
+-- Items by their indices, and names.
 use Rattle.std.proofs.Common.{◌≡◌, ℕ, suc, ◌≤◌, ◌==◌, true, List, [], ◌∷◌, length, Some, refl, subst, inl, inr, arith}
 use Rattle.std.specs.Prelude.{Contains, All, slice_get}
 use Rattle.std.specs.List.{AllByRecursion}

@@ -27,7 +27,7 @@ allowed_in : (code : List ℕ) → IsUtf8 code → (o : Judged) → verdict code
 allowed_in code u (Ok body) e = cell_allowed code body u e
 allowed_in code u (Err fault) e = All-nil (IsAllowed IsItsText)
 
--- each entry of the list, and the one that stands for none, has a text as its code
+-- each entry of the list, and the one that is given past its end, has a text as its code
 text_of_entry : (cells : List Entry) (n : ℕ) → HaveCodes cells → IsUtf8 (entry cells n).code
 text_of_entry [] n h = IsUtf8-nil
 text_of_entry (e ∷ cells) zero h = IsUtf8-from_is_utf8 e.code h.0.0

@@ -18,7 +18,7 @@ use Rattle.session_core.specs.declared.reply.Reply.{Reply}
 use Rattle.session_core.specs.declared.reply.Reply.TheVariants as reply
 use Rattle.notebook_meaning.specs.Cells.{cell_of, unmoved}
 
--- the name and the text of an error, both empty where there is none
+-- the name and the text of an error, both empty if there is none
 abbrev pub name_in : Option Failure → List ℕ
 name_in None = []
 name_in (Some f) = f.name

@@ -26,7 +26,7 @@ MayServe cells (Complete code) draws = draws ≡ []
 MayServe cells (Shutdown restart) draws = draws ≡ []
 MayServe cells (Migrate to weights) draws = ⊥
 
--- each may be served where it comes
+-- each may be served when its turn comes
 abbrev pub MayServeAll : List Entry → List Served → Type 0
 MayServeAll cells [] = Unit {0}
 MayServeAll cells (s ∷ more) = MayServe cells s.ask s.draws × MayServeAll (with_ask cells s.ask s.draws) more

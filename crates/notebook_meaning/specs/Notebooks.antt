@@ -25,7 +25,7 @@ pub record IsGraphOf (cells : List Entry) (g : Graph) : Type 0 where
   pub few_cells : length cells < 2 ^ 32
   pub few_versions : length g.versions < 2 ^ 32
 
--- so many objects as the names of the last state reach
+-- n is how many objects the names of the last state reach
 abbrev pub HasObjectsOf : List Entry → ℕ → Type 0
 HasObjectsOf cells n = (order : List ℕ) × AreObjectsOf (unmoved cells) order × (n ≡ length order)
 

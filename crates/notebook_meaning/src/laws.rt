@@ -20,13 +20,13 @@ ghost use Rattle.notebook_meaning.specs.Codes.{HaveCodes};
 ghost use Rattle.notebook_meaning.specs.Lists.{MayServe, IsRunOfAsks};
 ghost use Rattle.notebook_meaning.specs.Notebooks.{IsGraphOf};
 
-/// A text is recorded as a text of at most 262,148 bytes, which has the same tree, or none as it has none.
+/// A code is recorded as a text of at most 262,148 bytes, which has the same tree as the code, or none if the code has none.
 pub fn a_recorded_code_reads_alike()
     ensures code { (code : List ℕ) → IsUtf8 code → IsCode (recorded code) }
     ensures reads { (code : List ℕ) → IsUtf8 code → read (recorded code) ≡ read code }
 {}
 
-/// A list of asks goes on by what may be served after it, if no ask of it was an end.
+/// A list of asks goes on with what may be served after it, if no ask of it was an end.
 pub fn a_list_goes_on()
     ensures cells { (served : List Served) (ask : Ask) (draws : List Drawn) → cells_of (more served ask draws) ≡ with_ask (cells_of served) ask draws }
     ensures goes_on { (served : List Served) (ask : Ask) (draws : List Drawn) → IsRunOfAsks served → HasNoEnd served → MayServe (cells_of served) ask draws
@@ -46,8 +46,8 @@ pub fn states_of_codes_are_valid()
     ensures steps { (cells : List Entry) (n : ℕ) → steps_of read cells n ≤ 1000000 }
 {}
 
-/// A session that stands for cells has, under a feasible plan, the text that it would have if it had never moved; and that text can be
-/// read, if counts and numbers have room in it.
+/// A session that stands for cells has, under a feasible plan, the text that it would have if it had never moved. That text can
+/// be read, if counts and numbers have room in it.
 pub fn a_session_can_be_written()
     ensures text { (cells : List Entry) (g : Graph) (t : State) (p : Plan) → StandsFor read size_of cells g t → checkpoint_text t g p ≡ checkpoint_text (unmoved cells) g p }
     ensures has_text { (cells : List Entry) (g : Graph) (t : State) (p : Plan) → HaveCodes cells → StandsFor read size_of cells g t → IsGraphOf cells g

@@ -1,5 +1,5 @@
-//! What a notebook is, in terms of its asks: which lists of asks a session may have served, what is answered after such a list, and
-//! the state, the history and the checkpoint that it leaves. `specs/Notebooks` says it; the engine on the kernel does it.
+//! What a notebook is, in terms of its asks: which lists of asks a session may have served, what is answered after such a list,
+//! and the state, the history and the checkpoint that it leaves. `specs/Notebooks` says it; the engine on the kernel does it.
 //!
 //! The laws are contracts of functions that do nothing.
 #![tactic(auto)]

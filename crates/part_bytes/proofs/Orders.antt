@@ -1,4 +1,4 @@
--- To look as often as there are objects finds what is reached, in the one order of first reach.
+-- Looking as often as there are objects finds what is reached, in the one order of first reach.
 use Rattle.std.proofs.Common.{◌≡◌, ◌≢◌, ℕ, zero, suc, ◌+◌, ◌<◌, ◌≤◌, ◌==◌, ◌⊎◌, true, not, List, [], ◌∷◌, ◌++◌, length, get_or, refl, sym, ap, ◌∙◌, inl, inr, subst, arith, add-zero}
 use Rattle.std.specs.Prelude.{Contains, All, AllPairs, filter}
 use Rattle.std.specs.List.{flat_map, list_any}
@@ -54,7 +54,7 @@ module _ (s : State) (names : List (List ℕ)) where
   found_apart zero = λ i j d less within. absurd (omega arith)
   found_apart (suc n) = firsts_apart (met s names (Found n))
 
-  -- to look once more finds more after what was found
+  -- looking once more finds more after what was found
   more_is_met : (found more : List ℕ) → met s names (found ++ more) ≡ met s names found ++ flat_map (refs_at s) more
   more_is_met found more =
       let roots : List ℕ = flat_map (name_refs s) names in
@@ -69,7 +69,7 @@ module _ (s : State) (names : List (List ℕ)) where
       let again : Found (suc (suc n)) ≡ firsts (met s names (Found n) ++ refs) = ap (λ (ns : List ℕ). firsts (met s names ns)) before.1 ∙ ap firsts (more_is_met (Found n) before.0) in
       (filter (λ m. not (has (Found (suc n)) m)) (firsts refs), again ∙ (firsts-append (met s names (Found n)) refs ∙ all_noted_is (Found (suc n)) refs))
 
-  -- to look has come to an end, or has found as many as it was done
+  -- looking once more finds no more, or as many objects were found as the number of looks
   ended_or_many : (n : ℕ) → (Found (suc n) ≡ Found n) ⊎ (suc n ≤ length (Found (suc n)))
   ended_or_many zero = let g = grows zero in elim (same_or_longer (Found zero) g.0 (Found 1) g.1) [
     | inl e ↦ inl e
@@ -114,7 +114,7 @@ module _ (s : State) (names : List (List ℕ)) where
     pub order_alone : (found : List ℕ) → ((at : ℕ) → Contains found at → Reach s names at) → found ≡ firsts (met s names found) → found ≡ order s names
     order_alone found sound first = one_list s names found (order s names) sound order_reached first order_first
 
-    -- to look more often finds no more
+    -- looking more often finds no more
     pub order_stays : (k : ℕ) → Found (length s.heap + k) ≡ order s names
     unfolding order
     order_stays zero = ap Found (add-zero (length s.heap))

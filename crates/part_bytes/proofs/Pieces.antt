@@ -22,7 +22,7 @@ pub on_ok : {A B : Type 0} {P : Type 0} (r : Result A B) → P → OnOk r P
 on_ok (Ok x) p = p
 on_ok (Err e) p = tt
 
--- whatever stands for a missing item, an item that is there is the same
+-- whatever the default for a missing item is, an item that is there is the same
 pub at_any : {A : Type 0} (xs : List A) (i : ℕ) (d e : A) → i < length xs → get_or xs i d ≡ get_or xs i e
 at_any [] i d e l = absurd (omega (arith, l))
 at_any (x ∷ xs) zero d e l = refl
@@ -76,7 +76,7 @@ module _ (s : State) (number : ℕ → ℕ) where
       omega (arith, rest, size, one)
 
 module _ (s : State) (names : List (List ℕ)) where
-  -- the text of the part, where its objects stand in this order
+  -- the text of the part, if its objects are in this order
   abbrev text_by : List ℕ → List ℕ
   text_by found = bytes_of (record {
     names = names;

@@ -3,17 +3,17 @@ use Rattle.std.proofs.Common.{◌≡◌, ℕ, zero, suc, ◌+◌, ◌<◌, List,
 use Rattle.std.specs.Prelude.{slice_get}
 use Rattle.part_bytes.specs.Parts.{number_in}
 
--- the number at each address, as far as the objects from one place on tell it
+-- the number at each address, as far as the objects from one index on tell it
 abbrev pub ArePlaced : List ℕ → List ℕ → ℕ → ℕ → Type 0
 ArePlaced places order total next = (at : ℕ) → get_or places at total ≡ number_in (drop next order) at + next
 
--- where nothing stands, a read answers the default
+-- if an index has no item, a read answers the default
 pub none_there : {X : Type 0} (xs : List X) (i : ℕ) (d : X) → slice_get xs i ≡ None → get_or xs i d ≡ d
 none_there [] i d e = refl
 none_there (x ∷ xs) zero d e = cc
 none_there (x ∷ xs) (suc i) d e = none_there xs i d e
 
--- where something stands
+-- if an index has an item, a read answers it
 pub there : {X : Type 0} (xs : List X) (i : ℕ) → i < length xs → (x : X) × (slice_get xs i ≡ Some x)
 there [] i l = absurd (omega arith)
 there (x ∷ xs) zero l = (x, refl)

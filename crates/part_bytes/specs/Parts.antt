@@ -14,18 +14,18 @@ use Rattle.part_bytes.specs.declared.part.PartValue.{PartValue}
 
 -- ---- the one numbering of objects
 
--- the objects that are found by looking so often: what is met first in the values of the names, and then in the objects
+-- the objects that are found by looking n times: what is met first in the values of the names, and then in the objects
 -- that were found by looking once less, in the order in which they were found
 abbrev pub found_by : ℕ → State → List (List ℕ) → List ℕ
 found_by zero s names = []
 found_by (suc n) s names = firsts (met s names (found_by n s names))
 
--- the objects that the names reach, in the order in which they are reached first; to look as often as there are objects
--- finds them all
+-- the objects that the names reach, in the order in which they are reached first; looking as often as there are
+-- objects finds them all
 unfoldable pub order : State → List (List ℕ) → List ℕ
 order s names = found_by (length s.heap) s names
 
--- the number of an object: how many stand before it
+-- the number of an object: how many come before it
 abbrev pub number_in : List ℕ → ℕ → ℕ
 number_in [] at = 0
 number_in (n ∷ ns) at = cond (n == at) 0 (number_in ns at + 1)
@@ -55,7 +55,7 @@ numbered_object number (object.Handle name uses) = object.Handle name uses
 abbrev pub held_of : State → (ℕ → ℕ) → List ℕ → Option Value
 held_of s number name = option_map (numbered number) (finite.get s.globals name)
 
--- the object at an address, as a list of one, or none where there is no object
+-- the object at an address, as a list of one, or an empty list if there is no object
 abbrev pub objects_of : State → (ℕ → ℕ) → ℕ → List Object
 objects_of s number at = map (numbered_object number) (option_to_list (slice_get s.heap at))
 

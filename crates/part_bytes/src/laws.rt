@@ -8,8 +8,9 @@ ghost use Rattle.part_bytes.specs.Examples.{two_in_x, two_in_x_bytes};
 ghost use Rattle.part_bytes.specs.Parts.{order};
 ghost use Rattle.part_bytes.specs.Texts.{part_text};
 
-/// In a closed state the order of a part's objects has those that the names reach and no others, each where it is met first:
-/// in the values of the names, name by name, and then in the objects, in this same order. No other list is so.
+/// In a closed state the order of a part's objects has those that the names reach and no others, in the order in which they
+/// are met first: in the values of the names, name by name, and then in the objects, in this same order. No other list is such
+/// an order.
 pub fn the_order_is_that_of_first_reach()
     ensures reached { (s : State) (names : List (List ℕ)) → IsClosed s → IsListOf s names (order s names) }
     ensures first { (s : State) (names : List (List ℕ)) → IsClosed s → order s names ≡ firsts (met s names (order s names)) }
@@ -17,7 +18,7 @@ pub fn the_order_is_that_of_first_reach()
         → found ≡ firsts (met s names found) → found ≡ order s names }
 {}
 
-/// Where `x` is 2, its part is written as these bytes.
+/// If `x` is 2, its part is written as these bytes.
 pub fn the_text_of_a_small_part()
     ensures { part_text two_in_x (codes "x" ∷ []) ≡ two_in_x_bytes }
 {}

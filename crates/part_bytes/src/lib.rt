@@ -1,7 +1,7 @@
 //! The bytes in which a part of a session's state is written: some names, their values and the objects that they reach.
 //!
-//! Objects are numbered in the order in which the names reach them first, so a part has one text, wherever its objects
-//! stand.
+//! Objects are numbered in the order in which the names reach them first, so a part has one text, whatever the
+//! addresses of its objects are.
 #![tactic(auto)]
 
 mod laws;

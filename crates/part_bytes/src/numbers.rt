@@ -66,7 +66,7 @@ impl Numbers {
         })
     }
 
-    /// The number of the object at an address: how many stand before it, which is all of them if it isn't one of them.
+    /// The number of the object at an address: how many come before it in the order. If it isn't in the order, this is `total`.
     pub fn number(&self, at: u32) -> u32
         ensures { result ≡ number_in self.now.order at }
     {

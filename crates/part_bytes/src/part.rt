@@ -7,7 +7,7 @@ use py_value::Value;
 pub struct PartValue {
     /// The names, ascending by their bytes.
     pub names: Items<Text>,
-    /// The value of each name; a name without a value stands alone.
+    /// The value of each name. A name without a value is the only name.
     pub values: Items<Option<Value>>,
     /// The objects, in the order in which the names reach them first.
     pub objects: Items<Object>,

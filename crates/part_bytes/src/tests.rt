@@ -43,7 +43,7 @@ fn objects_are_written_once(rt: HostRuntime) -> Result<(), Fail> {
     Ok(())
 }
 
-/// `x` has a list in a list, and so on, so deep.
+/// `x` has an empty list within `depth` lists, each in the next.
 fn a_nest(alloc: Global, depth: u32) -> Result<State, AllocError>
     ensures { IfOk result IsClosed }
 {

@@ -12,7 +12,7 @@ use plain_data::{Items, SharedText};
 use py_value::{Builtin, Key, Value};
 use std::alloc::AllocError;
 
-// Each function puts bytes at the end. After an error the bytes stand for nothing, and are only dropped.
+// Each function puts bytes at the end. After an error the bytes mean nothing, and are only dropped.
 
 /// A number in four bytes.
 #[tactic(auto, unfolding(crate::specs::Texts::four))]

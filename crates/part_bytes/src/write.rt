@@ -13,12 +13,18 @@ use plain_data::{Items, Text};
 use py_heap::State;
 use std::alloc::{AllocError, Global};
 
+/// The most bytes of a name: its length is one byte.
+const LONGEST_NAME: usize = 255;
+
+/// The byte of a name without a value.
+const NO_VALUE: u8 = 7;
+
 /// A name after its length. One of more than 255 bytes is want of memory.
 fn write_name(out: &mut Items<u8>, name: &Text) -> Result<(), AllocError>
     ensures { OnOk result (out.new ≡ out.old ++ spec.name_bytes name.now) }
 {
     let len = name.len();
-    if len > 255 {
+    if len > LONGEST_NAME {
         return Err(AllocError);
     }
     out.push(len as u8)?;
@@ -48,7 +54,7 @@ fn write_held(
 {
     match state.look(name) {
         Some(value) => write_value(out, numbers, value),
-        None => out.push(7),
+        None => out.push(NO_VALUE),
     }
 }
 

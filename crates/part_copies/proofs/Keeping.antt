@@ -1,4 +1,4 @@
--- Values, objects and names that can be written down can be so once they are numbered.
+-- Values, objects and names that can be written down can still be written down once they are numbered.
 use Rattle.std.proofs.Common.{◌≡◌, ℕ, ◌+◌, ◌-◌, ◌<◌, ◌^◌, true, false, List, [], ◌∷◌, ◌++◌, map, length, Some, None, refl, ap, ◌∙◌, subst, inl, inr, arith, rules}
 use Rattle.std.specs.Prelude.{Contains, slice_get}
 use Rattle.std.specs.List.{flat_map, AllByRecursion, IsDistinct}

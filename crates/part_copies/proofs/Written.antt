@@ -70,7 +70,7 @@ module _ (s : State) (names : List Name) (closed : IsClosed s) where
   seen_all : Found ≡ seen_by Found
   seen_all = order_first s names closed ∙ sym (firsts_are (met s names Found))
 
-  -- it is a beginning of all
+  -- what was met by then is a beginning of all that is found
   begins : (front rest : List ℕ) → Found ≡ front ++ rest → (more : List ℕ) × (Found ≡ seen_by front ++ more)
   begins front rest e =
       let refs : List ℕ = flat_map (refs_at s) rest in (

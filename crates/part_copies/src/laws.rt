@@ -18,7 +18,7 @@ pub fn a_part_by_itself_is_a_copy()
     ensures same { (s : State) (names : List Name) → IsClosed s → Same (Contains names) s (state_of (part_of s names)) }
 {}
 
-/// Of names that can be written down the part has a text; so that text is read as the part, whatever follows it, and the part is a
+/// If names can be written down, their part has a text. So that text is read as the part, whatever follows it, and the part is a
 /// copy of the state over these names.
 pub fn what_is_written_is_read_as_a_copy()
     ensures text { (s : State) (names : List Name) → IsClosed s → CanBeWritten s names → IsPart (part_of s names) }

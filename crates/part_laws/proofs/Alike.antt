@@ -44,7 +44,7 @@ module _ (ps : ℕ → ℕ → Type 0) where
   both_refs_zip (Some o) (Some u) h = object_refs_zip o u h
   both_refs_zip _ _ h = absurd h
 
-  -- ---- what matches is equal by number, where paired addresses have one number
+  -- ---- what matches is equal by number, if paired addresses have one number
 
   module _ (f g : ℕ → ℕ) (numbers : (a b : ℕ) → ps a b → f a ≡ g b) where
     no_reference : (v : Value) → value_refs v ≡ [] → numbered f v ≡ numbered g v

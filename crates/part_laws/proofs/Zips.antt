@@ -1,4 +1,4 @@
--- Lists that match place by place, by pairs of addresses: what is met first, numbers, and what two functions make of them.
+-- Lists that match index by index, by pairs of addresses: what is met first, numbers, and what two functions make of them.
 use Rattle.std.proofs.Common.{◌≡◌, ℕ, suc, ◌+◌, ◌<◌, ◌==◌, not, List, [], ◌∷◌, ◌++◌, length, map, refl, sym, ap, ◌∙◌, subst, inl, inr, arith}
 use Rattle.std.specs.Prelude.{Contains, filter}
 use Rattle.std.specs.List.{flat_map, AllZip}

@@ -1,4 +1,4 @@
--- A part that is loaded is a copy that is loaded: its names stand once, and have a value each.
+-- A part that is loaded is a copy that is loaded: each of its names is there once, and has a value.
 use Rattle.std.proofs.Common.{◌≡◌, ℕ, ◌<◌, List, [], ◌∷◌, map, length, Option, Some, None, refl, sym, ap, ◌∙◌, subst, inl, inr, arith}
 use Rattle.std.specs.Prelude.{Contains, All}
 use Rattle.std.specs.List.{AllZip}
@@ -45,7 +45,7 @@ ascends_rest : (x : Name) (xs : List Name) → Ascends TextBelow (x ∷ xs) → 
 ascends_rest x [] a = tt
 ascends_rest x (y ∷ xs) a = a.1
 
--- so they are if it can't be that they don't ascend
+-- names are distinct if it can't be that they don't ascend
 pub never_descending_distinct : (xs : List Name) → ((Ascends TextBelow xs → ⊥) → ⊥) → AreDistinct xs
 never_descending_distinct [] n = tt
 never_descending_distinct (x ∷ xs) n = (

@@ -24,7 +24,7 @@ globals_of (x ∷ xs) (Some v ∷ held) = finite.insert (globals_of xs held) x v
 abbrev pub state_of : PartValue → State
 state_of part = record { globals = globals_of part.names part.values; heap = part.objects; count = 0; meter = 0 }
 
--- the names get these values with so much higher addresses, or lose the value that they have
+-- the names get these values with addresses that are `base` higher, or lose the value that they have
 abbrev pub put_held : ℕ → List Name → List (Option Value) → State → State
 put_held base [] held t = t
 put_held base (x ∷ xs) [] t = t

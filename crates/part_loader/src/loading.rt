@@ -10,9 +10,9 @@ use py_heap::{Object, State};
 use py_value::Value;
 use std::alloc::{AllocError, Global};
 
-// After an error the state stands for nothing, and is only dropped.
+// After an error the state means nothing, and is only dropped.
 
-/// Puts objects after those that there are, with addresses that are so much higher.
+/// Puts objects after those that there are, with addresses that are `above.base` higher.
 fn add_objects(
     alloc: Global,
     state: &mut State,
@@ -27,7 +27,7 @@ fn add_objects(
     Ok(())
 }
 
-/// Gives a name a value, with addresses that are so much higher, or takes away the one that it has.
+/// Gives a name a value, with addresses that are `above.base` higher, or takes away the one that it has.
 fn put(
     alloc: Global,
     state: &mut State,

@@ -18,7 +18,7 @@ pub(crate) trait Places {
         ensures { IfOk result (λ new. new ≡ goes_to self.now at) };
 }
 
-/// After so many other objects.
+/// Addresses after those of `base` other objects.
 #[derive(Debug, Drop)]
 pub(crate) struct Above {
     pub(crate) base: usize,

@@ -12,7 +12,7 @@ use plain_data::Text;
 use py_heap::State;
 use std::alloc::{AllocError, Global};
 
-// After an error the new state stands for nothing, and is only dropped.
+// After an error the new state means nothing, and is only dropped.
 
 /// Puts the objects at the numbered addresses of a state into another, in their order.
 fn add_numbered(

@@ -1,4 +1,4 @@
--- The turns of a loop that reads so many of a kind.
+-- The turns of a loop that reads n items of one kind.
 use Rattle.std.proofs.Common.{◌≡◌, ℕ, suc, ◌+◌, ◌-◌, ◌<◌, ◌≤◌, false, List, [], ◌∷◌, ◌++◌, Result, Ok, Err, refl, sym, ap, ◌∙◌, subst, inl, inr, arith}
 use Rattle.std.specs.Prelude.{is_some, true}
 use Rattle.std.proofs.lemmas.Bool.{cases_Bool}
@@ -48,7 +48,7 @@ fresh_pair (p ∷ pairs) k v h = elim (cases_Bool (same_key k p.0)) [
 abbrev pub refused : (A : Type 0) → PartFault → Result A PartFault
 refused A fault = Err fault
 
--- a fault tells as much whatever was to be read
+-- whether a fault tells anything doesn't depend on what was to be read
 pub tells_any : (A B : Type 0) (fault : PartFault) → tells (refused A fault) ≡ true → tells (refused B fault) ≡ true
 tells_any A B OutOfMemory h = h
 tells_any A B Cut h = refl

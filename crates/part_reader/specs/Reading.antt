@@ -203,7 +203,7 @@ module _ (bytes : List ℕ) where
 
 -- ---- the whole
 
--- at the first byte nothing was referred to, and four bytes number what may be
+-- at the first byte nothing was referred to, and as many objects may be as four bytes can number
 abbrev pub start : Spot
 start = record { at = 0; met = 0; most = 2 ^ 32 }
 

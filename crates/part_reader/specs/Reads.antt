@@ -28,7 +28,7 @@ infixl 10 ◌>>=◌
 abbrev pub ◌>>=◌ : {A B : Type 0} → Read A → (A → Read B) → Read B
 m >>= next = λ spot. after (m spot) next
 
--- so many steps, each of which knows what the steps before it read
+-- n steps, each of which knows what the steps before it read
 abbrev pub more : {A : Type 0} → (List A → Read A) → ℕ → List A → Read (List A)
 more step zero before = pure before
 more step (suc n) before = step before >>= λ a. more step n (before ++ a ∷ [])

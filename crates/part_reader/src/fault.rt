@@ -10,8 +10,8 @@ pub enum PartFault {
     Cut,
     /// A tag that can't be there, or a byte that no built-in function has.
     BadTag(usize),
-    /// A reference that is no number of an object referred to before and not the next one, an object that nothing before it
-    /// refers to, or fewer objects than were referred to.
+    /// A reference whose number is neither that of an object referred to before nor the next one; an object that nothing
+    /// before it refers to; or fewer objects than were referred to.
     BadRef(usize),
     /// A key equal to an earlier one of its dict.
     BadKey(usize),

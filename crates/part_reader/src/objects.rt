@@ -45,7 +45,7 @@ fn read_pair(
     Ok((key, value))
 }
 
-/// So many pairs.
+/// `count` pairs.
 fn read_pairs(alloc: Global, bytes: &[u8], spot: &mut Spot, count: u32) -> Result<Dict, PartFault>
     ensures { Is (more (spec.pair bytes.now) count [] spot.old) result spot.new }
 {
@@ -143,7 +143,7 @@ fn read_object(
     read_object_by(alloc, bytes, spot, before.len(), at, tag)
 }
 
-/// So many objects.
+/// `count` objects.
 fn read_all_objects(
     alloc: Global,
     bytes: &[u8],
@@ -160,7 +160,7 @@ fn read_all_objects(
     Ok(all)
 }
 
-/// The objects after their number.
+/// The objects, after how many there are.
 #[tactic(auto, using(std::proofs::lemmas::Bool::Decides::nat_tests), unfolding(crate::specs::Reading::objects))]
 pub(crate) fn read_objects(
     alloc: Global,

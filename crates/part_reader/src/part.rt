@@ -16,6 +16,9 @@ use std::alloc::Global;
 use std::cmp::Ordering;
 use std::str::from_utf8;
 
+/// How many objects four bytes can number.
+const MOST_OBJECTS: usize = 4_294_967_296;
+
 /// Whether a name is after the last of the names.
 #[tactic(auto, unfolding(crate::specs::Reading::follows))]
 fn follows(names: &Items<Text>, name: &Text) -> bool
@@ -86,7 +89,7 @@ fn read_name(
     name_of(alloc, before, xs, at, *spot)
 }
 
-/// So many names.
+/// `count` names.
 fn read_all_names(
     alloc: Global,
     bytes: &[u8],
@@ -103,7 +106,7 @@ fn read_all_names(
     Ok(all)
 }
 
-/// The names after their number.
+/// The names, after how many there are.
 #[tactic(auto, using(std::proofs::lemmas::Bool::Decides::nat_tests), unfolding(crate::specs::Reading::names))]
 fn read_names(alloc: Global, bytes: &[u8], spot: &mut Spot) -> Result<Items<Text>, PartFault>
     ensures { Is (spec.names bytes.now spot.old) result spot.new }
@@ -116,7 +119,7 @@ fn read_names(alloc: Global, bytes: &[u8], spot: &mut Spot) -> Result<Items<Text
     read_all_names(alloc, bytes, spot, count)
 }
 
-/// What each of so many names has.
+/// What each of `count` names has.
 fn read_all_held(
     alloc: Global,
     bytes: &[u8],
@@ -158,7 +161,7 @@ pub fn read_part(alloc: Global, bytes: &[u8]) -> Result<(PartValue, usize), Part
     let mut spot = Spot {
         at: 0,
         met: 0,
-        most: 4_294_967_296,
+        most: MOST_OBJECTS,
     };
     let part = read_whole(alloc, bytes, &mut spot)?;
     Ok((part, spot.at))

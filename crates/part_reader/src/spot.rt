@@ -5,6 +5,6 @@ pub struct Spot {
     pub at: usize,
     /// How many objects were referred to.
     pub met: usize,
-    /// How many may be.
+    /// How many may be referred to.
     pub most: usize,
 }

@@ -132,7 +132,7 @@ pub(crate) fn read_held(
     Ok(Some(value))
 }
 
-/// So many values.
+/// `count` values.
 pub(crate) fn read_values(
     alloc: Global,
     bytes: &[u8],

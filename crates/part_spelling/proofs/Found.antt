@@ -232,7 +232,7 @@ module _ (bytes : List ℕ) (small : IsBytes bytes) where
         | inr f ↦ absurd (let no : failed (List ℕ) (BadText s.at) ≡ answer x t = rw f at q.next in cc)
       ]
 
--- ---- so many of a kind
+-- ---- n items of one kind
 
 module _ (bytes : List ℕ) {A : Type 0} (step : List A → Read A) (spelled : A → List ℕ) (refs : A → List ℕ) (Good : List A → A → Type 0)
     (one : (before : List A) (s t : Spot) (a : A) → step before s ≡ answer a t → Good before a × Ate bytes (spelled a) (refs a) s t) where

@@ -33,7 +33,7 @@ use Rattle.part_spelling.proofs.Values.{GoodPair}
 use Rattle.part_spelling.proofs.Found.{same_value, same_spot, failed, reached, stands_join, Ate, ate_to, ate_then, ate_none, ate_as, byte_found, four_found, text_found, many_found}
 use Rattle.part_spelling.proofs.FoundValues.{Behind, behind_whole, value_found, pair_found, items_good, pairs_good}
 
--- an object behind its tag
+-- an object after its tag
 abbrev FoundObject : List ℕ → ℕ → Spot → Spot → Object → Type 0
 FoundObject bytes tag s t o = IsObject o × Behind bytes tag (object_bytes o) (object_refs o) s t
 
@@ -132,7 +132,7 @@ module _ (bytes : List ℕ) (small : IsBytes bytes) where
       let same : r.mid.met ≡ s.met = sym (some_same s.met r.mid.met a.refs) in
       (subst (λ (m : ℕ). length before < m) same f.0, f.1.0, behind_whole bytes r.first (object_bytes o) (object_refs o) s r.mid t a f.1.1)
 
-  -- so many objects
+  -- n objects
   record Objects (n : ℕ) (before all : List Object) (s t : Spot) : Type 0 where
     pub xs : List Object
     pub size : length xs ≡ n

@@ -25,7 +25,7 @@ use Rattle.part_spelling.proofs.Offs.{answer, AllGood}
 use Rattle.part_spelling.proofs.Values.{GoodPair}
 use Rattle.part_spelling.proofs.Found.{same_value, same_spot, failed, reached, Ate, ate_then, ate_none, ate_as, byte_found, four_found, sixteen_found, text_found}
 
--- what is behind a tag
+-- what comes after a tag
 pub record Behind (bytes : List ℕ) (tag : ℕ) (xs ns : List ℕ) (s t : Spot) : Type 0 where
   pub body : List ℕ
   pub is : xs ≡ tag ∷ body

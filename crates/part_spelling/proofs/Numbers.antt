@@ -1,4 +1,4 @@
--- So many bytes are those of the number that they are read as.
+-- n bytes are those of the number that they are read as.
 use Rattle.std.proofs.Common.{◌≡◌, ℕ, zero, suc, ◌+◌, ◌*◌, ◌/◌, ◌<◌, ◌^◌, List, [], ◌∷◌, length, sym, ap, ◌∙◌, arith}
 use Rattle.std.specs.Prelude.{slice_index}
 use Rattle.std.specs.Int.{byte_at}
@@ -24,7 +24,7 @@ same_digit p b c y z some l m e =
 some_power : (n : ℕ) → zero < 256 ^ n
 some_power n = let h = one-le-pow n 256 (omega arith) in omega arith
 
--- no two lists of so many bytes are one number
+-- no two lists of n bytes are one number
 same_bytes : (n : ℕ) (xs ys : List ℕ) → length xs ≡ n → length ys ≡ n → IsBytes xs → IsBytes ys → big_from 0 n xs ≡ big_from 0 n ys → xs ≡ ys
 same_bytes zero xs ys s t h k e = nil_from_length xs s ∙ sym (nil_from_length ys t)
 same_bytes (suc n) [] ys s t h k e = absurd (omega (arith, s))

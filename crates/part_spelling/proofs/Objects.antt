@@ -62,7 +62,7 @@ module _ (bytes : List ℕ) where
   unfolding object
   off_object before o met next most b h e l = λ at s. off_object_by (length before) at o met next most b h e l at s
 
-  -- so many objects after those before them, each referred to before it: they are read, and no more are referred to than there are
+  -- these objects after those before them, each referred to before it: they are read, and no more are referred to than there are
   record ReadOff (os before : List Object) (met most : ℕ) : Type 0 where
     pub next : ℕ
     pub off : Off bytes (more (object bytes) (length os) before) (flat_map object_bytes os) (before ++ os) met next most

@@ -59,7 +59,7 @@ module _ (bytes : List ℕ) where
     where_ = length-append s.front xs ∙ ap (λ (n : ℕ). n + length xs) s.where_;
   }
 
-  -- wherever these bytes are, the step reads just them, as this; and so many objects are referred to before and after it
+  -- wherever these bytes are, the step reads just them and answers a; `met` objects are referred to before it, `next` after it
   abbrev pub Off : {A : Type 0} → Read A → List ℕ → A → ℕ → ℕ → ℕ → Type 0
   Off m xs a met next most = (at : ℕ) → Stands bytes at xs → m (spot at met most) ≡ answer a (spot (at + length xs) next most)
 
@@ -175,7 +175,7 @@ counted_parts (m ∷ ms) ns met next e = elim (cases_Bool (nat_lt m met)) [
   ]
 ]
 
--- ---- so many of a kind
+-- ---- items of one kind
 
 -- each is good after those before it
 abbrev pub AllGood : {A : Type 0} → (List A → A → Type 0) → List A → List A → Type 0

@@ -18,7 +18,7 @@ use Rattle.part_reader.specs.Reading.{follows}
 
 -- ---- numbers of objects
 
--- How many objects were referred to after these references, if so many were before: each is one of those, or the next one.
+-- How many objects are referred to after these references, if `met` were before: each refers to one of those, or to the next one.
 abbrev pub counted : ℕ → List ℕ → Option ℕ
 counted met [] = Some met
 counted met (n ∷ ns) = if nat_lt n met then counted met ns else (if n == met then counted (met + 1) ns else None)
@@ -50,7 +50,7 @@ IsObject (the_object.Dict pairs) = (length pairs < 2 ^ 32) × ArePairs [] pairs
 IsObject (the_object.Function def) = IsText def.source × (verdict_alone def.source ≡ Ok def)
 IsObject (the_object.Handle name uses) = ⊥
 
--- after so many objects, and so many that were referred to: each object was referred to before, and no more than there are
+-- after n objects, if `met` were referred to: each object was referred to before it, and no more than `most` are referred to
 abbrev pub AreObjects : ℕ → ℕ → ℕ → List Object → Type 0
 AreObjects n met most [] = Unit {0}
 AreObjects n met most (object ∷ objects) = (n < met) × IsObject object

@@ -16,7 +16,7 @@ pub fn a_text_is_read_back()
 {}
 
 /// What is read is a part that has a text; the bytes begin with that text, and its length is told. So a part is read exactly
-/// where the bytes begin with a text.
+/// if the bytes begin with a text.
 pub fn what_is_read_has_a_text()
     ensures { (bytes : List ℕ) (part : PartValue) (size : ℕ) → All (λ byte. byte < 256) bytes → part_read bytes ≡ Ok (part, size)
         → IsPart part × (take size bytes ≡ bytes_of part) × (size ≡ length (bytes_of part)) }

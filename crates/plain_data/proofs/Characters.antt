@@ -13,7 +13,7 @@ past_none cs i e =
     let rest : length (drop i cs) ≡ length cs - i = length-drop i cs in
     ap encode_utf8_all (drop_all i cs (omega arith) ∙ sym (drop_all (i + 1) cs (omega arith)))
 
--- what stands after one character more
+-- what is after one character more
 pub past_one : (cs : List ℕ) (i : ℕ) (old new : Chars) (r : Option ℕ) → old.rest.now ≡ encode_utf8_all (drop i cs)
     → MatchOption r ((length old.rest.now ≡ 0) × (new ≡ old)) (λ c. old.rest.now ≡ encode_utf8 c ++ new.rest.now)
     → new.rest.now ≡ encode_utf8_all (drop (i + 1) cs)
@@ -32,7 +32,7 @@ module _ (text : List ℕ) (from to : ℕ) (ordered : from ≤ to) (within : to 
         sym (encodes-IsAscii (slice_range text from to) (IsAscii-take (drop from text) (to - from) (IsAscii-drop text from ascii)))
         ∙ ap (λ (cs : List ℕ). encode_utf8_all (slice_range cs from to)) (sym (chars-IsAscii text ascii))
 
--- characters in front, and what stands after them
+-- characters in front, and what is after them
 module _ (ds : List ℕ) (n : ℕ) (rest after : List ℕ) (is_rest : rest ≡ encode_utf8_all ds) (is_after : after ≡ encode_utf8_all (drop n ds)) where
   pub seam : rest ≡ encode_utf8_all (take n ds) ++ after
   seam = is_rest ∙ (ap encode_utf8_all (sym (take-append-drop n ds)) ∙ (encodes-append (take n ds) (drop n ds) ∙ ap (λ (bs : List ℕ). encode_utf8_all (take n ds) ++ bs) (sym is_after)))

@@ -68,7 +68,7 @@ impl<T> Items<T> {
         self.items.is_empty()
     }
 
-    /// The element at that place, counted from 0.
+    /// The element at that index, counted from 0.
     pub fn get(&self, at: usize) -> Option<&T>
         ensures value { option_copied result ≡ slice_get self.now at }
         ensures within { OnSome result (at < length self.now) }
@@ -76,7 +76,7 @@ impl<T> Items<T> {
         self.items.get(at)
     }
 
-    /// Takes the element at that place out; those after it move down.
+    /// Takes the element at that index out; those after it move down.
     pub fn remove(&mut self, at: usize) -> T
         requires { at < length self.old }
         ensures value { slice_get self.old at ≡ Some result }
@@ -121,7 +121,7 @@ impl<T: Drop> Items<T> {
         Ok(())
     }
 
-    /// Puts an element at that place; those from there on move up. After an error the list is unchanged.
+    /// Puts an element at that index; those from there on move up. After an error the list is unchanged.
     pub fn insert(&mut self, at: usize, item: T) -> Result<(), AllocError>
         requires { at ≤ length self.old }
         ensures ok { OnOk result (self.new ≡ insert self.old at item) }
@@ -138,7 +138,7 @@ impl<T: Drop> Items<T> {
         self.items.clear();
     }
 
-    /// Puts an element in the place of the one that stood there, which comes back.
+    /// Puts an element at that index and gives the one that was there.
     pub fn replace(&mut self, at: usize, item: T) -> T
         requires { at < length self.old }
         ensures value { slice_get self.old at ≡ Some result }
@@ -147,7 +147,7 @@ impl<T: Drop> Items<T> {
         replace(&mut self.items[at], item)
     }
 
-    /// Replaces the element at that place.
+    /// Replaces the element at that index.
     pub fn set(&mut self, at: usize, item: T)
         requires { at < length self.old }
         ensures { self.new ≡ slice_set self.old at item }

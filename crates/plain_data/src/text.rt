@@ -41,14 +41,6 @@ impl Text {
         Text { inner }
     }
 
-    /// The `String` with this text. Takes no memory.
-    pub fn into_string(self) -> String
-        ensures { string_bytes result ≡ self }
-    {
-        let Text { inner } = self;
-        inner
-    }
-
     /// The text.
     pub fn as_str(&self) -> &str
         ensures { result.now ≡ self.now }

@@ -1,7 +1,7 @@
 //! Plans a graph of n cells of some shape, and prints what its plan costs, or the graph, or how long each step takes.
 //!
 //! The arguments are the shape (session, chain, star, comb, bipartite, layered, random, handles or dense), n, and one of
-//! the words `cost`, `graph` and `times`; `session 100 cost` where there are none. The graph is made by a rule, so it is
+//! the words `cost`, `graph` and `times`; `session 100 cost` if there are none. The graph is made by a rule, so it is
 //! checked before it is planned.
 #![tactic(auto)]
 
@@ -31,7 +31,7 @@ struct Wanted {
     shown: String,
 }
 
-/// The word at that place of the command line, and a default where there is none.
+/// What the command line asks for, with a default for each word that isn't given.
 fn words_given(rt: &(impl Env + AllocGlobal)) -> Result<Wanted> {
     let alloc = rt.alloc();
     let mut words = env::args(rt)?;
@@ -89,7 +89,7 @@ fn cell_line(rt: &impl AllocGlobal, cell: &CellRecord) -> Result<String> {
     Ok(line)
 }
 
-/// A line of a version: its writer, what replaced it, its size, and 1 where it holds a handle.
+/// A line of a version: its writer, what replaced it, its size, and 1 if it holds a handle.
 fn version_line(rt: &impl AllocGlobal, version: &Version) -> Result<String> {
     let alloc = rt.alloc();
     Ok(format!(in alloc;

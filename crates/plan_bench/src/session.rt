@@ -2,9 +2,9 @@ use graph_model::{CellRecord, Graph, Version};
 use plain_data::{Items, Text};
 use std::alloc::{AllocError, Global};
 
-/// A session so far, and where its list `d` and its number `total` stand.
+/// A session so far, with the active versions of its list `d` and of its number `total`.
 #[derive(Drop)]
-struct Session {
+struct MadeSession {
     cells: Vec<CellRecord>,
     versions: Vec<Version>,
     /// The active version of `d`.
@@ -20,8 +20,8 @@ fn in_order(x: u32, y: u32) -> [u32; 2] {
     if x < y { [x, y] } else { [y, x] }
 }
 
-impl Session {
-    /// A cell with this code ends after so many steps.
+impl MadeSession {
+    /// A cell with this code ends after that many steps.
     fn end_cell(
         &mut self,
         alloc: Global,
@@ -94,10 +94,10 @@ impl Session {
     }
 }
 
-/// A session of so many cells: the first binds the list `d` and the number `total`; then, in turn, one appends to `d`, one
+/// A session of that many cells: the first binds the list `d` and the number `total`; then, in turn, one appends to `d`, one
 /// adds its length to `total`, one adds its elements to `total`, and one prints `total`.
 pub(crate) fn make_session(alloc: Global, count: u32) -> Result<Graph, AllocError> {
-    let mut session = Session {
+    let mut session = MadeSession {
         cells: Vec::new(alloc),
         versions: Vec::new(alloc),
         list: 0,
@@ -112,7 +112,7 @@ pub(crate) fn make_session(alloc: Global, count: u32) -> Result<Graph, AllocErro
     for before in 1..count {
         session.next_cell(alloc, before + 1)?;
     }
-    let Session {
+    let MadeSession {
         cells,
         versions,
         ..

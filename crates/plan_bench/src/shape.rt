@@ -42,12 +42,12 @@ impl Shape {
 
 /// Numbers that look drawn, from a seed.
 #[derive(Drop)]
-struct Drawn {
+struct RandomDraws {
     seed: u64,
 }
 
-impl Drawn {
-    /// The next number, from 0 up to below `limit`; 0 where that is 0.
+impl RandomDraws {
+    /// The next number, from 0 up to below `limit`; 0 if that is 0.
     fn below(&mut self, limit: u32) -> u32 {
         self.seed = self
             .seed
@@ -60,14 +60,14 @@ impl Drawn {
     }
 }
 
-/// A graph that is being made, of so many cells. Each cell but the last leaves a version that the last one replaces.
+/// A graph that is being made. Each cell but the last leaves a version that the last one replaces.
 #[derive(Drop)]
 struct Maker {
     alloc: Global,
     shape: Shape,
     /// The last cell but one.
     last: u32,
-    drawn: Drawn,
+    drawn: RandomDraws,
     cells: Vec<CellRecord>,
     versions: Vec<Version>,
     /// For each cell the version that the last cell replaces.
@@ -75,7 +75,7 @@ struct Maker {
 }
 
 impl Maker {
-    /// So many cells among those from `first` up to `last`.
+    /// Cells among those from `first` up to `last`, ascending, at most as many as the count.
     fn some_of(&mut self, count: u32, first: u32, last: u32) -> Result<Vec<u32>, AllocError> {
         let mut cells = Vec::new(self.alloc);
         let among = last.saturating_add(1).saturating_sub(first);
@@ -270,13 +270,13 @@ impl Maker {
     }
 }
 
-/// A graph of this shape with so many cells, the last of which replaces a version of each other.
+/// A graph of this shape with that many cells, the last of which replaces a version of each other.
 pub(crate) fn make_shape(alloc: Global, shape: Shape, count: u32) -> Result<Graph, AllocError> {
     let mut maker = Maker {
         alloc,
         shape,
         last: count.saturating_sub(1),
-        drawn: Drawn { seed: 12_345 },
+        drawn: RandomDraws { seed: 12_345 },
         cells: Vec::new(alloc),
         versions: Vec::new(alloc),
         old: Vec::new(alloc),

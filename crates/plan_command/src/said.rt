@@ -8,6 +8,7 @@ use crate::lines::{fault_line, too_much_line};
 use checkpoint_reader::{Checkpoint, CheckpointFault, read_checkpoint};
 use cut_network::{PlanFault, plan};
 use graph_model::Weights;
+use nb_outside::status;
 use plain_data::Text;
 use plan_lines::plan_lines;
 use plan_model::laws::a_stuck_pair_forbids_every_plan;
@@ -33,14 +34,20 @@ fn planned_for(alloc: Global, read: &Checkpoint, weights: &Weights) -> Result<Sa
         Ok(()) => {}
         Err(WeightFault::TooMuch(sum)) => {
             let text = too_much_line(alloc, sum)?;
-            return Ok(Said { status: 6, text });
+            return Ok(Said {
+                status: status::NO_PLAN,
+                text,
+            });
         }
         Err(WeightFault::Over(_)) => unreachable!(),
     }
     match plan(alloc, &read.graph, weights) {
         Ok(best) => {
             let text = plan_lines(alloc, &read.graph, &best)?;
-            Ok(Said { status: 0, text })
+            Ok(Said {
+                status: status::DONE,
+                text,
+            })
         }
         Err(PlanFault::OutOfMemory) => Err(AllocError),
         Err(PlanFault::Stuck { .. }) => unreachable!(),
@@ -58,7 +65,10 @@ pub fn planned(alloc: Global, bytes: &[u8], weights: &Weights) -> Result<Said, A
         Err(CheckpointFault::OutOfMemory) => Err(AllocError),
         Err(fault) => {
             let text = fault_line(alloc, fault)?;
-            Ok(Said { status: 7, text })
+            Ok(Said {
+                status: status::NO_CHECKPOINT,
+                text,
+            })
         }
     }
 }

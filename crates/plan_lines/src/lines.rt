@@ -6,7 +6,7 @@ use graph_model::{Certified, FlowArc, Graph, Node};
 use plain_data::Text;
 use std::alloc::{AllocError, Global};
 
-// Each function puts text at the end. After an error the text stands for nothing, and is only dropped.
+// Each function puts text at the end. After an error the text means nothing, and is only dropped.
 
 fn put_cost(alloc: Global, out: &mut Text, cost: u64) -> Result<(), AllocError>
     ensures { OnOk result (out.new ≡ out.old ++ spec.cost_line cost) }

@@ -30,7 +30,7 @@ pub rerun_filter : (g : Graph) (p : Plan) → NamesOf g p → filter (is_in p.re
 rerun_filter g p n = rising_filter p.rerun 1 (length g.cells) n.rerun_ascends (λ c m.
     let a = n.rerun c m in let w = cell_within g c a.0 a.1 in let l : 0 < c = w.0 in let h : c ≤ length g.cells = w.1 in (omega arith, omega arith))
 
--- the value at what a list has at a place, and 0 past its end
+-- the value of what a list has at an index, and 0 past its end
 abbrev pub at_option : {X : Type 0} → (X → ℕ) → Option X → ℕ
 at_option f None = 0
 at_option f (Some x) = f x

@@ -14,7 +14,7 @@ use Rattle.graph_model.proofs.Needing.{writer_within}
 use Rattle.plan_model.proofs.Listing.{count_up-from, count_up-to, every-append, every-map, every-flat_map, sum-map, sum-flat_map, sum-same}
 use Rattle.plan_model.proofs.Reading.{actives-at, actives-rise, writer_of-at, cell_numbers-at, cell_numbers-has, old_writers-from, rank-below}
 
--- where the nodes stand
+-- the numbers of the nodes
 
 pub version-number : (g : Graph) (v : ℕ) → Contains (actives g) v → (2 ≤ number_of g (node.Version v)) × (number_of g (node.Version v) < 2 + length (actives g))
 version-number g v c = let r = rank-below (actives g) v (actives-rise g) c in (omega arith, omega (arith, r))

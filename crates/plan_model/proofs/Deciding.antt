@@ -30,7 +30,7 @@ decided (x ∷ xs) n = elim (cases_eq x n) [
   ]
 ]
 
--- what holds at each place holds of each number
+-- what holds at each index holds of each number
 pub all_contained : (P : ℕ → Type 0) (xs : List ℕ) → ((k d : ℕ) → k < length xs → P (get_or xs k d)) → (n : ℕ) → Contains xs n → P n
 all_contained P xs h n c = subst P c.2 (h c.0 n c.1)
 

@@ -20,7 +20,7 @@ use Rattle.plan_model.proofs.Costing.{at_option, copied_filter, rerun_filter, co
 use Rattle.plan_model.proofs.Reading.{cell_numbers-at, actives-at, actives-rise, active_at-true, writer_of-at, old_writers-from, rank-at}
 use Rattle.plan_model.proofs.Cutting.{version-number, cell-number, writer-numbered, plan_network_is_net, cut_term, copies_cut, writers_cut, reads_cut, reruns_cut, cut-parts, cross-out, cross-source, cross-sink}
 
--- the capacity of a member's arc is its cost, where it may be a member
+-- the capacity of a member's arc is its cost, if it may be a member
 
 pub copy_capacity-free : (g : Graph) (w : Weights) (v : ℕ) (x : Version) → VersionAt g v x → x.handle ≡ false → copy_capacity g w v ≡ copy_cost g w v
 copy_capacity-free g w v x at h =

@@ -209,7 +209,7 @@ term-le {X} f (x ∷ xs) n c =
       | inr d ↦ let r = term-le f xs n d in omega (arith, a, r)
     ]
 
--- a sum over a list is one over its places
+-- a sum over a list is one over its indices
 pub sum-places : {X : Type 0} (F : X → ℕ) (h : ℕ → ℕ) (xs : List X) (a : ℕ) → ((k : ℕ) (d : X) → k < length xs → h (a + k) ≡ F (get_or xs k d)) → sum_by h (count_up a (length xs)) ≡ sum_by F xs
 sum-places F h [] a e = refl
 sum-places {X} F h (x ∷ xs) a e =

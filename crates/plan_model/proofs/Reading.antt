@@ -19,7 +19,7 @@ use Rattle.plan_model.proofs.Deciding.{contains-cases, contains-nil}
 use Rattle.plan_model.proofs.Listing.{count_up-from, count_up-to, count_up-has, count_up-rises, filter-has, filter-from, filter-rises, rises-above, sum-zero}
 use Rattle.plan_model.proofs.Costing.{at_option}
 
--- a test at what a list has at a place, and false past its end
+-- a test of what a list has at an index, and false past its end
 abbrev pub at_test : {X : Type 0} → (X → Bool) → Option X → Bool
 at_test p None = false
 at_test p (Some x) = p x
@@ -122,7 +122,7 @@ old_writers-has g is c w o =
     filter-has (λ u. list_any (is_old_of g u) (reads_of g c)) (cell_numbers g) w n
     (subst P (sym (reads_of-at g c x o.3)) (list_any-from_Any (is_old_of g w) x.reads (r.0, v, r.1, r.2, t)))
 
--- a number that stands in numbers that rise has as many below it there as its place says
+-- in numbers that rise, the count of those below one of them is its index
 
 pub rank-below : (xs : List ℕ) (v : ℕ) → Rises xs → Contains xs v → count_by (λ u. nat_lt u v) xs < length xs
 rank-below [] v r c = absurd (contains-nil v c)

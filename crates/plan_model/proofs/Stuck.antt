@@ -10,7 +10,7 @@ use Rattle.graph_model.specs.Graphs.{writer, before}
 use Rattle.graph_model.specs.Plans.{IsFeasible}
 use Rattle.graph_model.proofs.Lookups.{same_version}
 
--- where the writer of a version runs again, so does each cell that the version needs
+-- if the writer of a version runs again, so does each cell that the version needs
 needs_run : (g : Graph) (p : Plan) (v : ℕ) (x : Version) (c : ℕ) → IsFeasible g p → VersionAt g v x → Contains p.rerun x.writer → Needs g v c → Contains p.rerun c
 needs_run g p v x c f at r (writer y aty) = subst (λ (z : Version). Contains p.rerun z.writer) (same_version g v x y at aty) r
 needs_run g p v x c f at r (before d w n o) = f.closed d w (needs_run g p v x d f at r n) o

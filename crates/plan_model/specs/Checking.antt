@@ -11,7 +11,7 @@ use Rattle.plan_model.specs.declared.certainty.PlanCheck.{PlanCheck}
 use Rattle.plan_model.specs.declared.certainty.PlanCheck.TheVariants.{Infeasible, BadFlow, Unequal, Best}
 use Rattle.plan_model.specs.Failing.{IsFirstFailing}
 
--- the first that holds: the plan's failing item; the flow's fault; the plan's cost and the flow's value, where they differ;
+-- the first that holds: the plan's failing item; the flow's fault; the plan's cost and the flow's value, if they differ;
 -- else the plan is a best one
 abbrev pub IsJudged : Graph → Weights → Plan → List ℕ → PlanCheck → Type 0
 IsJudged g w p flow (Infeasible failing) = IsFirstFailing g p failing

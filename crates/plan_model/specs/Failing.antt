@@ -1,4 +1,4 @@
--- Where a plan is not feasible.
+-- The version or the cell at which a plan is not feasible.
 use Rattle.std.specs.Prelude.{◌≡◌, ℕ, ◌⊎◌, true, List, Contains}
 use Rattle.flow_model.specs.First.{IsFirst}
 use Rattle.graph_model.specs.declared.graph.CellRecord.{CellRecord}

@@ -22,7 +22,7 @@ pub record AreSmall (w : Weights) : Type 0 where
   pub run_base : w.run_base ≤ 1000000
   pub per_step : w.per_step ≤ 1000000
 
--- the first weight that exceeds 1,000,000; or else the sum of the finite weights, where it reaches 2^63
+-- the first weight that exceeds 1,000,000; or else the sum of the finite weights, if it reaches 2^63
 abbrev pub IsWeightFault : Graph → Weights → WeightFault → Type 0
 IsWeightFault g w (Over weight) = IsFirstOver w weight
 IsWeightFault g w (TooMuch sum) = AreSmall w × (sum ≡ total_weight g w) × (9223372036854775808 ≤ sum)

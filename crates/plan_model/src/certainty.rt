@@ -6,7 +6,7 @@ ghost use Rattle.plan_model.specs.Checking.{IsJudged};
 
 use crate::costs::cost;
 use crate::feasibility::{Item, feasible};
-use flow_arcs::{Flow, FlowFault, Network, check_flow};
+use flow_arcs::{ArcFlow, FlowFault, Network, check_flow};
 use graph_model::{Graph, Plan, Weights};
 
 /// What a plan is, judged with a flow.
@@ -28,7 +28,7 @@ pub fn check_plan(
     weights: &Weights,
     plan: &Plan,
     net: &Network,
-    flow: &Flow,
+    flow: &ArcFlow,
 ) -> PlanCheck
     requires graph { IsGraph graph.now }
     requires weights { AreAdmitted graph.now weights.now }

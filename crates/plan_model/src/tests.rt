@@ -4,7 +4,7 @@ ghost use Rattle.graph_model.specs.Networks.{net_of};
 use crate::{
     Item, PlanCheck, Weight, WeightFault, check_plan, check_weights, cost, feasible, is_plan_of,
 };
-use flow_arcs::{Flow, FlowFault, Network};
+use flow_arcs::{ArcFlow, FlowFault, Network};
 use graph_model::{CellRecord, Graph, Plan, Version, Weights};
 use plain_data::{Items, Text};
 use std::alloc::{AllocError, Global};
@@ -169,7 +169,7 @@ fn plans_cost_or_fail(rt: HostRuntime) -> Result<(), Fail> {
     Ok(())
 }
 
-/// A graph of so many versions of the greatest size.
+/// A graph of that many versions of the greatest size.
 fn wide(alloc: Global, count: u32) -> Result<Graph, AllocError> {
     let mut versions = Items::new(alloc);
     for _ in 0..count {
@@ -283,7 +283,7 @@ fn judged(
         copied: Items::new(alloc),
         rerun: Items::from_slice(alloc, rerun)?,
     };
-    let flow = Flow {
+    let flow = ArcFlow {
         on: Items::from_slice(alloc, on)?,
     };
     let weights = Weights {

@@ -9,13 +9,13 @@ use py_kernel::Kernel;
 use py_machine::PyError;
 use py_meaning::{CellEnd, CellError};
 use py_reader::{ReadError, SyntaxFault, read_cell};
-use py_session::{Failure, Reply};
+use py_session::{CellReply, Failure};
 use std::alloc::{AllocError, Global};
 
 /// A reply to a cell, and what the cell drew.
 #[derive(Drop)]
 pub struct Answered {
-    pub reply: Reply,
+    pub reply: CellReply,
     pub draws: Items<Drawn>,
 }
 
@@ -69,7 +69,7 @@ fn answer_of(alloc: Global, count: u32, end: CellEnd) -> Result<Answered, AllocE
         Some(error) => Some(failure_of(alloc, error)?),
         None => None,
     };
-    let reply = Reply {
+    let reply = CellReply {
         count,
         printed,
         result,
@@ -83,7 +83,7 @@ fn refusal(alloc: Global, count: u32, fault: SyntaxFault) -> Result<Answered, Al
     ensures reply { IfOk result (λ done. done.reply ≡ spec.refusal count fault) }
     ensures draws { IfOk result (λ done. done.draws ≡ []) }
 {
-    let reply = Reply {
+    let reply = CellReply {
         count,
         printed: Text::new(alloc, "")?,
         result: None,
@@ -97,7 +97,7 @@ fn refusal(alloc: Global, count: u32, fault: SyntaxFault) -> Result<Answered, Al
 
 /// Runs a cell with this code as the next of the session, which draws from the feed, and gives the reply to it and what it
 /// drew. Code that has no tree, or one that isn't of the supported form, doesn't run, and is answered by a SyntaxError. After
-/// an `Err`, which is want of memory, the kernel is only dropped. (Jupyter messaging 5.3, `execute_request`.)
+/// an `Err`, which is want of memory, the kernel may only be dropped. (Jupyter messaging 5.3, `execute_request`.)
 #[tactic(auto, unfolding(py_session::specs::Session::answer, py_session::specs::Session::next_state, py_session::specs::Session::Takes), using(crate::proofs::Counted::cell_counts))]
 pub fn answer<F: Feed>(
     alloc: Global,

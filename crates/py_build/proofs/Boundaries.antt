@@ -186,7 +186,7 @@ spelled_last t.End bytes s = nil_last bytes s
 
 -- ---- between tokens
 
--- what stands at a place
+-- what is at a place
 record At (code : List ℕ) (p c : ℕ) (rest : List ℕ) : Type 0 where
   within : p < length code
   byte : get_or code p 0 ≡ c
@@ -328,7 +328,7 @@ from_cases code at (first ∷ ts) utf8 a = last_cases (last_word (first ∷ ts))
     last_cases None is = refl
     last_cases (Some last) is = text_of-utf8 _ (span_utf8 code at first ts last utf8 a is)
 
--- where the tokens are those of the code, the text of some of them is all the bytes of it
+-- if the tokens are those of the code, the text of some of them is all the bytes of it
 pub whole_text : (code : List ℕ) (tokens : List Token) (from to : ℕ) → IsUtf8 code → Cover code 0 tokens → source_of code tokens from to ≡ bytes_of code tokens from to
 whole_text code tokens from to utf8 cover =
     let part = along_drop from code 0 tokens (covered code 0 tokens utf8 cover (IsCharBoundary-start code utf8)) in

@@ -67,6 +67,6 @@ pub one_more : (text : Source) (all more fewer : List Entry) (entry : Entry) (it
     → run text more items ≡ run text all start → run text fewer next ≡ run text all start
 one_more text all more fewer entry items next start taken is before = ap (run text fewer) is ∙ sym (run-append text fewer entry items) ∙ sym (ap (λ es. run text es items) taken) ∙ before
 
--- where the tokens are those of the code
+-- if the tokens are those of the code
 pub whole_cell : (code : List ℕ) (tokens : List Token) (c : Cell) → IsUtf8 code → Cover code 0 tokens → tree.tree_cell (source_of code tokens) c ≡ tree.tree_cell (bytes_of code tokens) c
 whole_cell code tokens c utf8 cover = ap (λ (s : Source). tree.tree_cell s c) (fun_ext (λ from. fun_ext (λ to. whole_text code tokens from to utf8 cover)))

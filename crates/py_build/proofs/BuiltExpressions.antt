@@ -72,7 +72,7 @@ sign-same : (s : Additive) (a : Signed) → e.Sign (is_minus s) (tree.tree_signe
 sign-same plus a = refl
 sign-same minus a = refl
 
--- a chain on the stack, by its parts
+-- a chain on the stack, by its other operands
 compared-ap : {first : Expr} {rest others : List Relation} (items : List Item) → rest ≡ others → i.Compared (record { first = first; rest = rest }) ∷ items ≡ i.Compared (record { first = first; rest = others }) ∷ items
 compared-ap {first} items same = ap (λ r. i.Compared (record { first = first; rest = r }) ∷ items) same
 
@@ -82,7 +82,7 @@ operated-ap {first} items same = ap (λ r. i.Operated (record { first = first; r
 expr-ap : {a b : Expr} (items : List Item) → a ≡ b → i.Expr a ∷ items ≡ i.Expr b ∷ items
 expr-ap items same = ap (λ a. i.Expr a ∷ items) same
 
--- what an entry makes of two and of three items that stand on others
+-- what an entry makes of the two or three items on the top
 pub on_two : (f : List Item → List Item) {whole rest others : List Item} {x y : Item} → whole ≡ x ∷ rest → rest ≡ y ∷ others → f whole ≡ f (x ∷ y ∷ others)
 on_two f {x = x} first second = ap f (first ∙ ap (λ items. x ∷ items) second)
 

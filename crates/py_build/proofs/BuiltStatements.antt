@@ -51,11 +51,6 @@ augment-same to by_times a = refl
 augment-same to by_floor a = refl
 augment-same to by_modulo a = refl
 
--- the test of a condition above what its entries state
-abbrev on_condition : Condition → List Item → List Item
-on_condition (if_true a) items = i.Expr (tree.tree_expression a) ∷ items
-on_condition (else_if bs a) items = i.Expr (tree.tree_expression a) ∷ stated (s.If (tree.arms bs) []) items
-
 module _ (source : Source) (items : List Item) where
   place-built : (to : Target) (rest : List Kind) (es : List Entry) → run source (post_place to rest es) items ≡ i.Target (tree.tree_target to) ∷ run source es items
   place-built (to_name m) rest es = refl
@@ -89,7 +84,7 @@ module _ (source : Source) (items : List Item) where
       ∙ (ap (λ x. stated x (run source es items)) (augment-same to by a))
   simple-built (show a) rest es = ap build.show_of (expression-built source items a rest es)
 
-  -- the text of a function is that of its tokens, where one may stand
+  -- the text of a function is that of its tokens, if the statement may be a function
   abbrev pub HasText : Around → List ℕ → Statement → List Kind → Type 0
   HasText a w x rest = IsTrue a.top → w ≡ source (length (spell_statement x rest)) (length rest)
 

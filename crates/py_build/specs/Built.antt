@@ -60,7 +60,7 @@ applied_operator n.Index items = index_of items
 applied_operator (n.Slice from to) items = slice_of from to items
 applied_operator node items = applied_statement node items
 
--- what any entry makes of the items; the text is that of the tokens of the part
+-- what any entry makes of the items; the text is that of the tokens of its node
 abbrev pub applied : Node → List ℕ → List Item → List Item
 applied (n.Name name) text items = an_expression (e.Name name) ∷ items
 applied (n.Literal value) text items = an_expression (e.Literal value) ∷ items

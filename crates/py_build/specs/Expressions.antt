@@ -9,7 +9,7 @@ use Rattle.py_build.specs.declared.items.Item.{Item}
 use Rattle.py_build.specs.declared.items.Item.TheVariants.{Expr as an_expression, Terms, Pairs, Compared, Operated}
 use Rattle.py_build.specs.Items.{below, expr_on, terms_on, pairs_on, compared_on, operated_on}
 
--- the expression in the place of the top, of the two and of the three on the top
+-- an expression instead of the one, the two or the three items on the top
 abbrev pub for_one : Expr → List Item → List Item
 for_one whole items = an_expression whole ∷ below items
 

@@ -1,4 +1,4 @@
--- What is on a stack of items, the top first. Where something else stands there, or nothing, what is named is empty.
+-- What is on a stack of items, the top first. If the top is something else than is named, or the stack has none, that is empty.
 use Rattle.std.specs.Prelude.{ℕ, List, [], ◌∷◌}
 use Rattle.py_tree.specs.declared.expressions.Expr.{Expr}
 use Rattle.py_tree.specs.declared.expressions.Expr.TheVariants as e
@@ -17,7 +17,7 @@ abbrev pub below : List Item → List Item
 below [] = []
 below (top ∷ items) = items
 
--- what stands for an expression where there is none
+-- the expression that is taken if there is none
 abbrev pub no_expr : Expr
 no_expr = e.Literal literal.Nothing
 

@@ -17,7 +17,7 @@ is_layout _ = false
 abbrev pub last_word : List Token → Option Token
 last_word tokens = find (λ token. not (is_layout token.kind)) (reverse tokens)
 
--- those bytes, where they are a text
+-- those bytes, if they are a text
 abbrev pub text_of : List ℕ → List ℕ
 text_of bytes = if is_utf8 bytes then bytes else []
 

@@ -83,7 +83,7 @@ front [] = []
 front (statement ∷ []) = []
 front (statement ∷ next ∷ body) = statement ∷ front (next ∷ body)
 
--- an `if` with more branches in the place of the last statement of the block on the top
+-- an `if` with more branches instead of the last statement of the block on the top
 abbrev pub widened : List Arm → List Stmt → List Item → List Item
 widened more other items = Block (front (block_on items) ++ s.If (last_arms (block_on items) ++ more) other ∷ []) ∷ below items
 

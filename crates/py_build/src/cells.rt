@@ -144,8 +144,8 @@ pub fn listed(alloc: Global, mut entries: Stack<Entry>) -> Result<Items<Entry>, 
     Ok(all)
 }
 
-/// The statements of the cell that the entries are the postfix form of, and some statements where there is no such cell. The
-/// tokens are those of the code, and each function at the top of the cell has the text of its tokens.
+/// The statements of the cell whose postfix form the entries are, and some statements if there is no such cell. The tokens
+/// are those of the code, and each function at the top of the cell has the text of its tokens.
 pub fn build(
     alloc: Global,
     entries: Items<Entry>,
@@ -155,7 +155,7 @@ pub fn build(
     // The tree is that of the grammar.
     ensures tree { IfOk result (λ body. (cell : Cell) → IsCell (kinds tokens.now) cell → entries ≡ post_cell cell → body ≡ tree_cell (source_of code.now tokens.now) cell) }
 
-    // Where the tokens are those of the code, the text of a function is all bytes that its tokens span.
+    // If the tokens are those of the code, the text of a function is all bytes that its tokens span.
     ensures whole { Cover code.now 0 tokens.now → IfOk result (λ body. (cell : Cell) → IsCell (kinds tokens.now) cell → entries ≡ post_cell cell → body ≡ tree_cell (bytes_of code.now tokens.now) cell) }
 {
     let mut left = entries;

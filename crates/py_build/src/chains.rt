@@ -7,7 +7,7 @@ use plain_data::{Boxed, Items, Stack};
 use py_tree::{Expr, Op, Operand, Relation};
 use std::alloc::{AllocError, Global};
 
-/// Begins a chain of comparisons.
+/// Begins a chain of comparisons with the expression on the top.
 pub fn first_compared(alloc: Global, items: &mut Stack<Item>) -> Result<(), AllocError>
     ensures { OnOk result (items.new ≡ first_compared items.old) }
 {
@@ -18,7 +18,7 @@ pub fn first_compared(alloc: Global, items: &mut Stack<Item>) -> Result<(), Allo
     }))
 }
 
-/// Goes on with a chain of comparisons.
+/// Adds a relation to the chain of comparisons on the top.
 pub fn related(alloc: Global, step: Relation, items: &mut Stack<Item>) -> Result<(), AllocError>
     ensures { OnOk result (items.new ≡ related step items.old) }
 {
@@ -27,6 +27,7 @@ pub fn related(alloc: Global, step: Relation, items: &mut Stack<Item>) -> Result
     items.push(Item::Compared(Comparison { first, rest }))
 }
 
+/// Adds an operator and the expression on the top to the chain of comparisons below it.
 pub fn next_compared(alloc: Global, op: Op, items: &mut Stack<Item>) -> Result<(), AllocError>
     ensures { OnOk result (items.new ≡ next_compared op items.old) }
 {
@@ -34,6 +35,7 @@ pub fn next_compared(alloc: Global, op: Op, items: &mut Stack<Item>) -> Result<(
     related(alloc, Relation::With(op, value), items)
 }
 
+/// Makes the chain of comparisons on the top an expression.
 pub fn comparison(alloc: Global, items: &mut Stack<Item>) -> Result<(), AllocError>
     ensures { OnOk result (items.new ≡ comparison items.old) }
 {
@@ -42,7 +44,7 @@ pub fn comparison(alloc: Global, items: &mut Stack<Item>) -> Result<(), AllocErr
     push_expr(items, Expr::Compare { first, rest })
 }
 
-/// Begins a sum or a product.
+/// Begins a sum or a product with the expression on the top.
 pub fn first_operand(alloc: Global, items: &mut Stack<Item>) -> Result<(), AllocError>
     ensures { OnOk result (items.new ≡ first_operand items.old) }
 {
@@ -53,7 +55,7 @@ pub fn first_operand(alloc: Global, items: &mut Stack<Item>) -> Result<(), Alloc
     }))
 }
 
-/// Goes on with a sum or a product.
+/// Adds an operator and the expression on the top to the sum or product below it.
 pub fn next_operand(alloc: Global, op: Op, items: &mut Stack<Item>) -> Result<(), AllocError>
     ensures { OnOk result (items.new ≡ next_operand op items.old) }
 {
@@ -63,6 +65,7 @@ pub fn next_operand(alloc: Global, op: Op, items: &mut Stack<Item>) -> Result<()
     items.push(Item::Operated(Operation { first, rest }))
 }
 
+/// Makes the sum on the top an expression.
 pub fn sum_of(alloc: Global, items: &mut Stack<Item>) -> Result<(), AllocError>
     ensures { OnOk result (items.new ≡ sum_of items.old) }
 {
@@ -71,6 +74,7 @@ pub fn sum_of(alloc: Global, items: &mut Stack<Item>) -> Result<(), AllocError>
     push_expr(items, Expr::Sum { first, rest })
 }
 
+/// Makes the product on the top an expression.
 pub fn product_of(alloc: Global, items: &mut Stack<Item>) -> Result<(), AllocError>
     ensures { OnOk result (items.new ≡ product_of items.old) }
 {

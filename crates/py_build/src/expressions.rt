@@ -22,7 +22,7 @@ pub fn pop_boxed(alloc: Global, items: &mut Stack<Item>) -> Result<Boxed<Expr>, 
     Boxed::new(alloc, pop_expr(items))
 }
 
-/// Begins a list.
+/// Begins a list with the expression on the top.
 pub fn first_term(alloc: Global, items: &mut Stack<Item>) -> Result<(), AllocError>
     ensures { OnOk result (items.new ≡ first_term items.old) }
 {
@@ -31,7 +31,7 @@ pub fn first_term(alloc: Global, items: &mut Stack<Item>) -> Result<(), AllocErr
     items.push(Item::Terms(terms))
 }
 
-/// Goes on with a list.
+/// Adds the expression on the top to the list below it.
 pub fn next_term(alloc: Global, items: &mut Stack<Item>) -> Result<(), AllocError>
     ensures { OnOk result (items.new ≡ next_term items.old) }
 {
@@ -41,7 +41,7 @@ pub fn next_term(alloc: Global, items: &mut Stack<Item>) -> Result<(), AllocErro
     items.push(Item::Terms(terms))
 }
 
-/// Goes on with the pairs of a dict.
+/// Adds the key and the value on the top, the value above, to the pairs of a dict below them.
 pub fn next_pair(alloc: Global, items: &mut Stack<Item>) -> Result<(), AllocError>
     ensures { OnOk result (items.new ≡ next_pair items.old) }
 {
@@ -52,6 +52,7 @@ pub fn next_pair(alloc: Global, items: &mut Stack<Item>) -> Result<(), AllocErro
     items.push(Item::Pairs(pairs))
 }
 
+/// `[a, b]`, of the list on the top.
 pub fn list_display(alloc: Global, items: &mut Stack<Item>) -> Result<(), AllocError>
     ensures { OnOk result (items.new ≡ list_display items.old) }
 {
@@ -59,6 +60,7 @@ pub fn list_display(alloc: Global, items: &mut Stack<Item>) -> Result<(), AllocE
     push_expr(items, Expr::ListOf(terms))
 }
 
+/// `{a: b}`, of the pairs on the top.
 pub fn dict_display(alloc: Global, items: &mut Stack<Item>) -> Result<(), AllocError>
     ensures { OnOk result (items.new ≡ dict_display items.old) }
 {
@@ -66,6 +68,7 @@ pub fn dict_display(alloc: Global, items: &mut Stack<Item>) -> Result<(), AllocE
     push_expr(items, Expr::DictOf(pairs))
 }
 
+/// `a(b, c)`, of the list on the top and the expression `a` below it.
 pub fn call(alloc: Global, items: &mut Stack<Item>) -> Result<(), AllocError>
     ensures { OnOk result (items.new ≡ call items.old) }
 {
@@ -74,6 +77,7 @@ pub fn call(alloc: Global, items: &mut Stack<Item>) -> Result<(), AllocError>
     push_expr(items, Expr::Call { callee, args })
 }
 
+/// `a.name(b, c)`, of the list on the top and the expression `a` below it.
 pub fn method_call(alloc: Global, name: Text, items: &mut Stack<Item>) -> Result<(), AllocError>
     ensures { OnOk result (items.new ≡ method_call name items.old) }
 {
@@ -82,6 +86,7 @@ pub fn method_call(alloc: Global, name: Text, items: &mut Stack<Item>) -> Result
     push_expr(items, Expr::Method { value, name, args })
 }
 
+/// `a or b or c`, of the list on the top.
 pub fn or_chain(alloc: Global, items: &mut Stack<Item>) -> Result<(), AllocError>
     ensures { OnOk result (items.new ≡ or_chain items.old) }
 {
@@ -89,6 +94,7 @@ pub fn or_chain(alloc: Global, items: &mut Stack<Item>) -> Result<(), AllocError
     push_expr(items, Expr::Or(terms))
 }
 
+/// `a and b and c`, of the list on the top.
 pub fn and_chain(alloc: Global, items: &mut Stack<Item>) -> Result<(), AllocError>
     ensures { OnOk result (items.new ≡ and_chain items.old) }
 {
@@ -96,6 +102,7 @@ pub fn and_chain(alloc: Global, items: &mut Stack<Item>) -> Result<(), AllocErro
     push_expr(items, Expr::And(terms))
 }
 
+/// `-a`, or `+a` without `minus`, of the expression on the top.
 pub fn sign_of(alloc: Global, minus: bool, items: &mut Stack<Item>) -> Result<(), AllocError>
     ensures { OnOk result (items.new ≡ sign_of minus items.old) }
 {
@@ -103,6 +110,7 @@ pub fn sign_of(alloc: Global, minus: bool, items: &mut Stack<Item>) -> Result<()
     push_expr(items, Expr::Sign { minus, value })
 }
 
+/// `not a`, of the expression on the top.
 pub fn negation(alloc: Global, items: &mut Stack<Item>) -> Result<(), AllocError>
     ensures { OnOk result (items.new ≡ negation items.old) }
 {
@@ -110,7 +118,7 @@ pub fn negation(alloc: Global, items: &mut Stack<Item>) -> Result<(), AllocError
     push_expr(items, Expr::Not(value))
 }
 
-/// `yes if test else no`
+/// `yes if test else no`, of the three expressions on the top: `no`, `test` below it and `yes` below that.
 pub fn choice(alloc: Global, items: &mut Stack<Item>) -> Result<(), AllocError>
     ensures { OnOk result (items.new ≡ choice items.old) }
 {
@@ -120,6 +128,7 @@ pub fn choice(alloc: Global, items: &mut Stack<Item>) -> Result<(), AllocError>
     push_expr(items, Expr::Conditional { test, yes, no })
 }
 
+/// `value[at]`, of the two expressions on the top: `at`, and `value` below it.
 pub fn index_of(alloc: Global, items: &mut Stack<Item>) -> Result<(), AllocError>
     ensures { OnOk result (items.new ≡ index_of items.old) }
 {
@@ -144,7 +153,7 @@ fn pop_bound(
     }
 }
 
-/// `value[from:to]`, where each bound may be missing.
+/// `value[from:to]`, of `to` on the top, `from` below it and `value` below that. Each bound may be missing.
 pub fn slice_of(
     alloc: Global,
     has_from: bool,

@@ -33,7 +33,7 @@ pub enum Item {
     Block(Items<Stmt>),
 }
 
-/// Takes the expression on the top off. Anything else there is lost, and `None` stands for it.
+/// Takes the item on the top off, an expression. Anything else there is lost, and the answer is then the constant `None`.
 pub fn pop_expr(items: &mut Stack<Item>) -> Expr
     ensures value { result ≡ expr_on items.old }
     ensures rest { items.new ≡ below items.old }
@@ -47,7 +47,7 @@ pub fn pop_expr(items: &mut Stack<Item>) -> Expr
     }
 }
 
-/// Takes the list of expressions on the top off, as do those below with what they are named for.
+/// Takes the item on the top off, a list of expressions. Anything else there is lost, and the answer is then empty.
 pub fn pop_terms(alloc: Global, items: &mut Stack<Item>) -> Items<Expr>
     ensures value { result ≡ terms_on items.old }
     ensures rest { items.new ≡ below items.old }
@@ -61,6 +61,7 @@ pub fn pop_terms(alloc: Global, items: &mut Stack<Item>) -> Items<Expr>
     }
 }
 
+/// Takes the item on the top off, the pairs of a dict. Anything else there is lost, and the answer is then empty.
 pub fn pop_pairs(alloc: Global, items: &mut Stack<Item>) -> Items<Pair>
     ensures value { result ≡ pairs_on items.old }
     ensures rest { items.new ≡ below items.old }
@@ -74,6 +75,7 @@ pub fn pop_pairs(alloc: Global, items: &mut Stack<Item>) -> Items<Pair>
     }
 }
 
+/// Takes the item on the top off, a chain of comparisons. Anything else there is lost, and the answer is then `None` alone.
 pub fn pop_compared(alloc: Global, items: &mut Stack<Item>) -> Comparison
     ensures value { result ≡ compared_on items.old }
     ensures rest { items.new ≡ below items.old }
@@ -90,6 +92,7 @@ pub fn pop_compared(alloc: Global, items: &mut Stack<Item>) -> Comparison
     }
 }
 
+/// Takes the item on the top off, a sum or a product. Anything else there is lost, and the answer is then `None` alone.
 pub fn pop_operated(alloc: Global, items: &mut Stack<Item>) -> Operation
     ensures value { result ≡ operated_on items.old }
     ensures rest { items.new ≡ below items.old }
@@ -106,6 +109,7 @@ pub fn pop_operated(alloc: Global, items: &mut Stack<Item>) -> Operation
     }
 }
 
+/// Takes the item on the top off, a target. Anything else there is lost, and the answer is then the empty name.
 pub fn pop_target(alloc: Global, items: &mut Stack<Item>) -> Target
     ensures value { result ≡ target_on items.old }
     ensures rest { items.new ≡ below items.old }
@@ -119,6 +123,7 @@ pub fn pop_target(alloc: Global, items: &mut Stack<Item>) -> Target
     }
 }
 
+/// Takes the item on the top off, a list of names. Anything else there is lost, and the answer is then empty.
 pub fn pop_names(alloc: Global, items: &mut Stack<Item>) -> Items<Text>
     ensures value { result ≡ names_on items.old }
     ensures rest { items.new ≡ below items.old }
@@ -132,6 +137,7 @@ pub fn pop_names(alloc: Global, items: &mut Stack<Item>) -> Items<Text>
     }
 }
 
+/// Takes the item on the top off, a name. Anything else there is lost, and the answer is then empty.
 pub fn pop_name(alloc: Global, items: &mut Stack<Item>) -> Text
     ensures value { result ≡ name_on items.old }
     ensures rest { items.new ≡ below items.old }
@@ -145,6 +151,7 @@ pub fn pop_name(alloc: Global, items: &mut Stack<Item>) -> Text
     }
 }
 
+/// Takes the item on the top off, a block. Anything else there is lost, and the answer is then empty.
 pub fn pop_block(alloc: Global, items: &mut Stack<Item>) -> Items<Stmt>
     ensures value { result ≡ block_on items.old }
     ensures rest { items.new ≡ below items.old }

@@ -1,8 +1,8 @@
 //! The tree of a cell, built from its postfix form.
 //!
-//! The entries are taken in the order in which the parts of the cell end, with a stack of what they leave: an operand puts an
-//! expression on it, an operator takes its operands off and puts the whole in their place, and a statement adds itself to the
-//! block below it. So chains and blocks of any length and depth are built without recursion.
+//! The entries are taken in the order in which the nodes of the cell end, with a stack of what they leave: an operand puts an
+//! expression on it, an operator takes its operands off and puts the whole on it, and a statement adds itself to the block
+//! below it. So chains and blocks of any length and depth are built without recursion.
 #![tactic(auto)]
 
 mod cells;

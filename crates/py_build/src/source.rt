@@ -17,7 +17,7 @@ fn is_layout(kind: &Kind) -> bool
     )
 }
 
-/// The part from one number up to another, as far as there is one.
+/// The elements from one number up to another, as far as there are any.
 fn part<T>(all: &[T], from: usize, to: usize) -> &[T]
     ensures { result.now ≡ slice_range all.now from to }
 {
@@ -58,7 +58,7 @@ fn text_from(alloc: Global, code: &str, tokens: &[Token]) -> Result<Text, AllocE
 }
 
 /// The text of the tokens from one number up to another: from the start of the first of them to the end of the last that is
-/// no `Newline`, `Indent`, `Dedent` or `End`. It is empty where there is no such token.
+/// no `Newline`, `Indent`, `Dedent` or `End`. It is empty if there is no such token.
 pub fn source_text(
     alloc: Global,
     code: &str,
@@ -68,7 +68,7 @@ pub fn source_text(
 ) -> Result<Text, AllocError>
     ensures exact { IfOk result (λ text. text ≡ source_of code.now tokens.now from to) }
 
-    // Where the tokens are those of the code, it is all bytes that they span.
+    // If the tokens are those of the code, it is all bytes that they span.
     ensures whole { Cover code.now 0 tokens.now → IfOk result (λ text. text ≡ bytes_of code.now tokens.now from to) }
 {
     text_from(alloc, code, part(tokens, from, to))

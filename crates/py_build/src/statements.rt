@@ -18,7 +18,7 @@ pub fn state(alloc: Global, statement: Stmt, items: &mut Stack<Item>) -> Result<
     items.push(Item::Block(body))
 }
 
-/// `return`, or `return value`.
+/// `return`, or `return value` of the expression on the top.
 pub fn return_of(alloc: Global, given: bool, items: &mut Stack<Item>) -> Result<(), AllocError>
     ensures { OnOk result (items.new ≡ return_of given items.old) }
 {
@@ -30,6 +30,7 @@ pub fn return_of(alloc: Global, given: bool, items: &mut Stack<Item>) -> Result<
     }
 }
 
+/// `global names`, of the names on the top.
 pub fn global_of(alloc: Global, items: &mut Stack<Item>) -> Result<(), AllocError>
     ensures { OnOk result (items.new ≡ global_of items.old) }
 {
@@ -37,6 +38,7 @@ pub fn global_of(alloc: Global, items: &mut Stack<Item>) -> Result<(), AllocErro
     state(alloc, Stmt::Global(names), items)
 }
 
+/// `del target`, of the target on the top.
 pub fn delete_of(alloc: Global, items: &mut Stack<Item>) -> Result<(), AllocError>
     ensures { OnOk result (items.new ≡ delete_of items.old) }
 {
@@ -44,6 +46,7 @@ pub fn delete_of(alloc: Global, items: &mut Stack<Item>) -> Result<(), AllocErro
     state(alloc, Stmt::Delete(target), items)
 }
 
+/// `target = value`, of the expression on the top and the target below it.
 pub fn assign_of(alloc: Global, items: &mut Stack<Item>) -> Result<(), AllocError>
     ensures { OnOk result (items.new ≡ assign_of items.old) }
 {
@@ -52,6 +55,7 @@ pub fn assign_of(alloc: Global, items: &mut Stack<Item>) -> Result<(), AllocErro
     state(alloc, Stmt::Assign { target, value }, items)
 }
 
+/// `target op= value`, of the expression on the top and the target below it.
 pub fn augment_of(alloc: Global, op: Op, items: &mut Stack<Item>) -> Result<(), AllocError>
     ensures { OnOk result (items.new ≡ augment_of op items.old) }
 {
@@ -60,7 +64,7 @@ pub fn augment_of(alloc: Global, op: Op, items: &mut Stack<Item>) -> Result<(), 
     state(alloc, Stmt::Augment { target, op, value }, items)
 }
 
-/// An expression by itself.
+/// The expression on the top, by itself.
 pub fn show_of(alloc: Global, items: &mut Stack<Item>) -> Result<(), AllocError>
     ensures { OnOk result (items.new ≡ show_of items.old) }
 {
@@ -78,7 +82,7 @@ fn pop_arm(alloc: Global, items: &mut Stack<Item>) -> Arm
     Arm { test, body }
 }
 
-/// An `if` of one branch.
+/// An `if` of one branch: the block on the top and the test below it.
 pub fn if_of(alloc: Global, items: &mut Stack<Item>) -> Result<(), AllocError>
     ensures { OnOk result (items.new ≡ if_of items.old) }
 {
@@ -111,7 +115,7 @@ fn pop_arms(alloc: Global, body: &mut Items<Stmt>) -> Items<Arm>
     }
 }
 
-/// Another branch of the last statement of the block below.
+/// One more branch of the last statement of the block below: the block on the top and its test.
 pub fn elif_of(alloc: Global, items: &mut Stack<Item>) -> Result<(), AllocError>
     ensures { OnOk result (items.new ≡ elif_of items.old) }
 {
@@ -124,7 +128,7 @@ pub fn elif_of(alloc: Global, items: &mut Stack<Item>) -> Result<(), AllocError>
     items.push(Item::Block(body))
 }
 
-/// The block after the `else` of the last statement of the block below.
+/// The block on the top, after the `else` of the last statement of the block below it.
 pub fn else_of(alloc: Global, items: &mut Stack<Item>) -> Result<(), AllocError>
     ensures { OnOk result (items.new ≡ else_of items.old) }
 {
@@ -135,6 +139,7 @@ pub fn else_of(alloc: Global, items: &mut Stack<Item>) -> Result<(), AllocError>
     items.push(Item::Block(body))
 }
 
+/// `while test`, of the block on the top and the test below it.
 pub fn while_of(alloc: Global, items: &mut Stack<Item>) -> Result<(), AllocError>
     ensures { OnOk result (items.new ≡ while_of items.old) }
 {
@@ -143,6 +148,7 @@ pub fn while_of(alloc: Global, items: &mut Stack<Item>) -> Result<(), AllocError
     state(alloc, Stmt::While { test, body }, items)
 }
 
+/// `for name in source`, of the block on the top, the expression `source` below it and the name below that.
 pub fn for_of(alloc: Global, items: &mut Stack<Item>) -> Result<(), AllocError>
     ensures { OnOk result (items.new ≡ for_of items.old) }
 {
@@ -152,7 +158,7 @@ pub fn for_of(alloc: Global, items: &mut Stack<Item>) -> Result<(), AllocError>
     state(alloc, Stmt::For { name, source, body }, items)
 }
 
-/// A function with that text.
+/// A function with that text, of the block on the top, the parameters below it and the name below these.
 pub fn function_of(alloc: Global, source: Text, items: &mut Stack<Item>) -> Result<(), AllocError>
     ensures { OnOk result (items.new ≡ function_of source items.old) }
 {

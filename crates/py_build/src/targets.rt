@@ -13,7 +13,7 @@ pub fn name_target(name: Text, items: &mut Stack<Item>) -> Result<(), AllocError
     items.push(Item::Target(Target::Name(name)))
 }
 
-/// `value[at]`, as what is assigned to or deleted.
+/// `value[at]`, as what is assigned to or deleted, of the two expressions on the top: `at`, and `value` below it.
 pub fn item_target(items: &mut Stack<Item>) -> Result<(), AllocError>
     ensures { OnOk result (items.new ≡ item_target items.old) }
 {
@@ -22,7 +22,7 @@ pub fn item_target(items: &mut Stack<Item>) -> Result<(), AllocError>
     items.push(Item::Target(Target::Item { value, at }))
 }
 
-/// Goes on with a list of names.
+/// Adds a name to the list of names on the top.
 pub fn next_name(alloc: Global, name: Text, items: &mut Stack<Item>) -> Result<(), AllocError>
     ensures { OnOk result (items.new ≡ next_name name items.old) }
 {

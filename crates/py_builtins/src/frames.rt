@@ -5,7 +5,7 @@ ghost use Rattle.py_meaning.specs.Meaning as spec;
 
 use plain_data::{Text, TextMap};
 use py_heap::Function;
-use py_machine::{Fault, Flow, Frame, Machine, Slot, not_callable};
+use py_machine::{Fault, Flow, Frame, FrameSlot, Machine, not_callable};
 use py_objects::kind_of;
 use py_value::Value;
 use std::alloc::{AllocError, Global};
@@ -25,7 +25,7 @@ fn with_empty(alloc: Global, frame: Frame, names: &[Text]) -> Result<Frame, Allo
 {
     let mut frame = frame;
     for name in names {
-        frame.slots.bind(name.copy(alloc)?, Slot::Empty)?;
+        frame.slots.bind(name.copy(alloc)?, FrameSlot::Empty)?;
     }
     Ok(frame)
 }
@@ -46,7 +46,7 @@ fn with_held(
             [value, more @ ..] => {
                 frame
                     .slots
-                    .bind(name.copy(alloc)?, Slot::Held(value.copy()?))?;
+                    .bind(name.copy(alloc)?, FrameSlot::Held(value.copy()?))?;
                 rest = more;
             }
             [] => return Ok(frame),
@@ -67,7 +67,7 @@ pub fn frame_of(alloc: Global, function: &Function, args: &[Value]) -> Result<Fr
     with_held(alloc, frame, function.def().params.as_slice(), args)
 }
 
-/// What a function gives whose body ended so.
+/// What a function gives if its body ended in this way.
 pub fn returned(ended: Flow) -> Value
     ensures { result ≡ spec.returned ended }
 {

@@ -25,7 +25,7 @@ fn number_read(alloc: Global, machine: &Machine, text: &SharedText) -> Result<Va
     }
 }
 
-/// The number that a value spells which isn't one.
+/// The number that a value spells, if the value isn't a number.
 fn text_as_int(alloc: Global, machine: &Machine, value: &Value) -> Result<Value, Fault>
     ensures { Still (run (spec.text_as_int value.now)) machine.now result machine.now }
 {

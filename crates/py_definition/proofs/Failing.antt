@@ -33,7 +33,7 @@ slice_get-joined : (before : List Kind) (k : Kind) (ts : List Kind) → slice_ge
 slice_get-joined [] k ts = refl
 slice_get-joined (x ∷ xs) k ts = slice_get-joined xs k ts
 
--- the tokens up to a place and the one there
+-- the tokens up to an index and the one there
 with-next : (tokens : List Kind) (place : ℕ) (k : Kind) → slice_get tokens place ≡ Some k → take (place + 1) tokens ≡ take place tokens ++ k ∷ []
 with-next tokens place k h = ap (λ n. take n tokens) (plus_one place) ∙ take-next tokens place k h
 
@@ -112,13 +112,13 @@ fails_on : (tokens : List Kind) (o : Option State) → run_alone start tokens �
 fails_on tokens None e n = find tokens tokens [] start refl refl e
 fails_on tokens (Some s) e n = absurd (n (read_begins tokens s e))
 
--- where no function alone begins with the tokens, one of them fails
+-- if no function alone begins with the tokens, one of them fails
 pub some_fails : (tokens : List Kind) → (BeginsDefinition tokens → ⊥) → SomeFailure tokens
 some_fails tokens n = fails_on tokens (run_alone start tokens) refl n
 
 -- ---- the machine stops there
 
--- where the machine stands at a token, and that it refuses it
+-- the machine reads the tokens before an index and refuses the one there
 abbrev StopsAt : List Kind → ℕ → Type 0
 StopsAt tokens place = (s : State) × (k : Kind) × (run_alone start (take place tokens) ≡ Some s) × (slice_get tokens place ≡ Some k) × (step_alone s k ≡ None)
 

@@ -73,7 +73,7 @@ ends_alone (after_colon os o) = within o os
 ends_alone (after_newline os o) = within o os
 ends_alone (done c) = is_alone c
 
--- what a token makes, if anything, ends alone just where this says
+-- what a token makes, if anything, ends alone if and only if this says so
 abbrev pub Same : Bool → Option State → Type 0
 Same b None = Unit {0}
 Same b (Some u) = ends_alone u ≡ b

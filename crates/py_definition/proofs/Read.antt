@@ -15,7 +15,7 @@ use Rattle.py_definition.proofs.Kept.{is_alone, ends_alone, Same, alone-kept, st
 abbrev pub then_alone : List Kind → Option State → Option State
 then_alone ts o = elim o [ None ↦ None | Some u ↦ run_alone u ts ]
 
--- a run over two parts
+-- a run over two lists
 append_on : (ts us : List Kind) (u : State) (o : Option State) → ((v : State) → run_alone v ts ≡ Some u → run_alone v (ts ++ us) ≡ run_alone u us) → then_alone ts o ≡ Some u → then_alone (ts ++ us) o ≡ run_alone u us
 append_on ts us u None f e = cc
 append_on ts us u (Some v) f e = f v e

@@ -1,4 +1,4 @@
--- Reading a text that is one function alone: as a cell, but only `def` begins it, and only the end stands after the function.
+-- Reading a text that is one function alone: as a cell, but only `def` begins it, and only the end is after the function.
 use Rattle.std.specs.Prelude.{List, [], ◌∷◌, Option, Some, None}
 use Rattle.py_token.specs.declared.kinds.Kind.{Kind}
 use Rattle.py_token.specs.declared.kinds.Kind.TheVariants as t

@@ -12,13 +12,13 @@ pub fn what_is_read_alone_is_read()
     ensures { (tokens : List Kind) (state : State) → run_alone start tokens ≡ Some state → run start tokens ≡ Some state }
 {}
 
-/// What is read alone to its end is just what spells one function, and it gives the cell of that function.
+/// What is read alone to its end is exactly what spells one function, and it gives the cell of that function.
 pub fn what_is_read_alone_is_one_function()
     ensures { (tokens : List Kind) (cell : Cell) → (run_alone start tokens ≡ Some (done cell))
         ↔ ((called : List ℕ) × (takes : Params) × (block : Block) × (cell ≡ alone called takes block) × IsCell tokens cell) }
 {}
 
-/// One function alone begins with tokens just where the machine reads them.
+/// One function alone begins with tokens if and only if the machine reads them.
 pub fn what_is_read_alone_begins_a_function()
     ensures { (tokens : List Kind) → BeginsDefinition tokens ↔ ((state : State) × (run_alone start tokens ≡ Some state)) }
 {}
@@ -42,7 +42,7 @@ pub fn the_failing_token_alone_is_the_only_one()
         → (one ≡ other) × (begun ≡ also) }
 {}
 
-/// Where no function alone begins with the tokens, one of them fails.
+/// If no function alone begins with the tokens, one of them fails.
 pub fn some_token_fails_alone()
     ensures { (tokens : List Kind) → (BeginsDefinition tokens → ⊥)
         → (place : ℕ) × (construct : Option Construct) × FailsAlone tokens place construct }

@@ -1,4 +1,4 @@
--- Nothing stands before an operand where nothing is held of it.
+-- Nothing is before an operand if nothing is held of it.
 use Rattle.std.proofs.Common.{◌≡◌, ℕ, zero, suc, Bool, true, false, not, ◌&&◌, List, [], ◌∷◌, Option, Some, None, is_some, is_none, refl, ap, ◌∙◌, true≢false}
 use Rattle.py_token.specs.declared.kinds.Kind.{Kind}
 use Rattle.py_grammar.specs.Expressions.{Additive}

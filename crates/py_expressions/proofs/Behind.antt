@@ -18,7 +18,7 @@ use Rattle.py_expressions.specs.Steps.{bracket_goes_on, behind_word, relation_at
 use Rattle.py_expressions.proofs.Chains.{last, before_last, compare_goes_on-last, with_nots}
 use Rattle.py_expressions.proofs.Closed.{seen, close_parenthesis_after-seen, close_bracket_after-seen, close_brace_after-seen, comma_after-seen, colon_after-seen, at_sign-none}
 
--- what is held of an upper part, without its `not`s, before these tokens
+-- what is held of what is open around a comparison, without its `not`s, before these tokens
 abbrev upper_at : List Picked → Option Ors → Option Ors → Option Ands → List Kind → a_upper.Upper
 upper_at ps test o a y = held_upper (upper ps test o a zero) y
 

@@ -1,4 +1,4 @@
--- What is written where a chain ends or goes on is its postfix form.
+-- What is written when a chain ends or goes on is its postfix form.
 use Rattle.std.proofs.Common.{◌≡◌, ℕ, zero, suc, List, [], ◌∷◌, length, Option, Some, None, refl, ap, ◌∙◌, sym}
 use Rattle.py_token.specs.declared.kinds.Kind.{Kind}
 use Rattle.py_postfix.specs.declared.entries.Node.TheVariants as node
@@ -37,7 +37,7 @@ with_signs ss q rest f g = ap (f _) (signs_ended-signed ss (unsigned q) rest _) 
 
 -- ---- comparisons
 
--- what stands last in a comparison
+-- what is last in a comparison
 abbrev pub last : Compares → last_of.Compared
 last (compares_one a) = c.First
 last (compares_more b r a) = c.Behind (relational_op r)

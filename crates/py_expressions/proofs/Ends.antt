@@ -68,7 +68,7 @@ is_whole-seen (has_not_none [] u b) rest = whole-upper u _ _
 is_whole-seen (has_not_none (opened v x k ∷ os) u b) rest = refl
 is_whole-seen _ rest = refl
 
--- ---- a place
+-- ---- a target
 
 place_of-none : (u : Upper) (w : Lower) (q : Primary) → bare u w ≡ false → place_of u w q ≡ None
 place_of-none (upper [] None None None zero) (lower None None None []) q e = absurd (true≢false e)

@@ -60,7 +60,7 @@ behind-operand os u w q token rest es =
     with_operand w q (token ∷ rest) (λ y k ds. steps.behind (length (token ∷ rest)) (length rest) (held_opened os (spell_upper u y)) (held_upper u y) (length y) k token ds) (λ y. written_around os u y es)
     ∙ behind-seen os u (compares_of w q) token rest es
 
--- what is held of a lower part without its signs, before these tokens
+-- what is held of what is open around an operand, without its signs, before these tokens
 abbrev lower_at : Option Related → Option Added → Option Scaled → List Kind → a_lower.Lower
 lower_at r a m y = held_lower (lower r a m []) y
 
@@ -131,7 +131,7 @@ operator-seen os u w q token rest es =
     (settled-primary q (token ∷ rest) (written_lower w (spell_primary q (token ∷ rest)) (written_around os u (spell_lower w (spell_primary q (token ∷ rest))) es)))
     ∙ operator-written os u w q token rest es
 
--- ---- where an operand is to stand
+-- ---- when an operand is to come
 
 close_parenthesis_at-seen : (os : List Opened) (rest : List Kind) (es : List Entry)
     → steps.innermost_goes_on_at (length rest) (held_opened os (close_parenthesis ∷ rest)) s.CloseParenthesis (written_opened os (close_parenthesis ∷ rest) es) ≡ seen rest es (close_parenthesis_at os)
@@ -257,7 +257,7 @@ operand-seen os u w colon rest es = nothing-seen os u w s.Colon (colon_at os) re
 operand-seen os u w (t.Symbol sign) rest es = nothing-none os u w sign rest es (λ left below top ds. refl)
 operand-seen os u w _ rest es = refl
 
--- ---- the other places
+-- ---- the other states
 
 is-seen : (os : List Opened) (u : Upper) (b : Compares) (token : Kind) (rest : List Kind) (es : List Entry)
     → step (length (token ∷ rest)) (length rest) (held (after_is os u b) (token ∷ rest)) token (written (after_is os u b) (token ∷ rest) es) ≡ seen rest es (r.is_what os u b token)

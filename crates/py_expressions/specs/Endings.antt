@@ -1,4 +1,4 @@
--- What is written where a part of an expression ends, and where a chain goes on.
+-- What is written when a node of an expression ends, and when a chain goes on.
 use Rattle.std.specs.Prelude.{ℕ, Bool, true, false, List, [], ◌∷◌, Option, Some, None}
 use Rattle.py_tree.specs.declared.expressions.Op.{Op}
 use Rattle.py_postfix.specs.declared.entries.Node.{Node}
@@ -13,7 +13,7 @@ use Rattle.py_expressions.specs.declared.reading.Primary.TheVariants as p
 use Rattle.py_expressions.specs.declared.reading.Compared.{Compared}
 use Rattle.py_expressions.specs.declared.reading.Compared.TheVariants as c
 
--- a part between these places
+-- the entry of a node between these positions
 abbrev pub span : Node → ℕ → ℕ → List Entry → List Entry
 span node begin end es = record { node = node; from = begin; to = end } ∷ es
 
@@ -62,7 +62,7 @@ sum_goes_on w at es = operated_on w.addition (product_ended w at es)
 
 -- ---- comparisons
 
--- what stands before the last operand of a comparison
+-- what is before the last operand of a comparison
 abbrev pub compared_of : Option Op → Compared
 compared_of None = c.First
 compared_of (Some o) = c.Behind o
@@ -96,7 +96,7 @@ abbrev pub listed_on : Bool → List Entry → List Entry
 listed_on false es = mark n.First es
 listed_on true es = mark n.Next es
 
--- an operand of a chain of `and`, whose comparison begins there
+-- an operand of a chain of `and`, whose comparison begins at `from`
 abbrev pub negation_ended : Upper → ℕ → Compared → ℕ → List Entry → List Entry
 negation_ended u from last at es = nots_ended u.nots at (compare_ended last from at es)
 

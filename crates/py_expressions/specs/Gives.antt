@@ -1,4 +1,4 @@
--- What a function gives, and what is written then, unless memory fails: nothing stands for a token that is refused.
+-- What a function gives, and what is written then, unless memory fails. None means a token that is refused.
 use Rattle.std.specs.Prelude.{◌≡◌, List, Option, Some, None, Result, Ok, Err}
 use Rattle.py_postfix.specs.declared.entries.Entry.{Entry}
 use Rattle.py_expressions.specs.declared.stop.Stop.{Stop}

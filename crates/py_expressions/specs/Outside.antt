@@ -21,7 +21,7 @@ comma_in b.Group = Some Tuple
 comma_in (b.Dict true) = Some Set
 comma_in _ = None
 
--- `,` after a whole expression: at statement level, in parentheses, or after what stands first in braces
+-- `,` after a whole expression: at statement level, in parentheses, or after the first expression in braces
 abbrev pub comma_begins : List Opened → Option Construct
 comma_begins [] = Some Tuple
 comma_begins (top ∷ os) = comma_in top.bracket
@@ -42,7 +42,7 @@ abbrev pub brace_in : bracket_of.Bracket → Option Construct
 brace_in (b.Dict true) = Some Set
 brace_in _ = None
 
--- `}` after what stands first in braces
+-- `}` after the first expression in braces
 abbrev pub brace_begins : List Opened → Option Construct
 brace_begins [] = None
 brace_begins (top ∷ os) = brace_in top.bracket
@@ -69,7 +69,7 @@ abbrev pub empty_group : List Opened → Option Construct
 empty_group [] = None
 empty_group (top ∷ os) = group_in top.bracket
 
--- a token where an operand is to stand
+-- a token when an operand is to come
 abbrev pub at_operand : List Opened → Upper → Lower → Kind → Option Construct
 at_operand os u w (t.Symbol s.CloseParenthesis) = if is_bare u w then empty_group os else None
 at_operand os u w _ = None

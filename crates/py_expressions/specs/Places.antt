@@ -1,4 +1,4 @@
--- Where an expression may end, and whether it is a place that may be assigned to, on what the program holds.
+-- Where an expression may end, and whether it is a target, on what the program holds.
 use Rattle.std.specs.Prelude.{ℕ, Bool, true, false, not, if◌then◌else◌, List, [], ◌∷◌, Option, Some, None}
 use Rattle.py_postfix.specs.declared.entries.Node.TheVariants as n
 use Rattle.py_postfix.specs.declared.entries.Entry.{Entry}
@@ -36,29 +36,29 @@ ended at (h.Has os u w primary from) es = ended_behind at os u w.compare_from (c
 ended at (h.Related os u from) es = ended_behind at os u from c.Whole es
 ended at _ es = None
 
--- that operand as a place
+-- that operand as a target
 abbrev pub place_written : primary_of.Primary → List Entry → Option (List Entry)
 place_written (p.Name m) es = Some (mark (n.ToName m) es)
 place_written p.Item es = Some (mark n.ToItem es)
 place_written p.Other es = None
 
--- no bracket is open, and nothing stands before the operand
+-- no bracket is open, and nothing is before the operand
 abbrev pub is_alone : List Opened → Upper → Lower → Bool
 is_alone [] u w = is_bare u w
 is_alone (o ∷ os) u w = false
 
--- the place, if it is one: what is written then
+-- the target, if it is one: what is written then
 abbrev pub placed : Reading → List Entry → Option (List Entry)
 placed (h.Has os u w primary from) es = if is_alone os u w then place_written primary es else None
 placed _ es = None
 
--- that operand may be a place
+-- that operand may be a target
 abbrev pub is_primary_place : primary_of.Primary → Bool
 is_primary_place (p.Name m) = true
 is_primary_place p.Item = true
 is_primary_place p.Other = false
 
--- it is a place
+-- it is a target
 abbrev pub is_place : Reading → Bool
 is_place (h.Has os u w primary from) = if is_alone os u w then is_primary_place primary else false
 is_place _ = false

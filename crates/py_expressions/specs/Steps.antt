@@ -52,19 +52,19 @@ fresh left os = h.Wants os (fresh_upper left) (fresh_lower left)
 abbrev pub begun : ℕ → Reading
 begun left = fresh left []
 
--- nothing stands before the operand
+-- nothing is before the operand
 abbrev pub is_fresh_lower : Lower → Bool
 is_fresh_lower w = is_empty w.signs && (is_none w.multiplication && (is_none w.addition && is_none w.relation))
 
--- no `not`, `and`, `or` or choice stands before the operand
+-- no `not`, `and`, `or` or choice is before the operand
 abbrev pub is_fresh_upper : Upper → Bool
 is_fresh_upper u = is_empty u.nots && (not u.ands && (not u.ors && (not u.test && is_empty u.picks)))
 
--- nothing stands before the operand
+-- nothing is before the operand
 abbrev pub is_bare : Upper → Lower → Bool
 is_bare u w = is_fresh_lower w && is_fresh_upper u
 
--- nothing stands before what stands outside all brackets
+-- nothing is before what is outside all brackets
 abbrev pub narrow_below : List Opened → Bool → Bool
 narrow_below [] innermost = innermost
 narrow_below (top ∷ os) innermost = top.narrow
@@ -73,11 +73,11 @@ narrow_below (top ∷ os) innermost = top.narrow
 abbrev pub opens : ℕ → List Opened → Upper → Lower → bracket_of.Bracket → ℕ → Reading
 opens left os u w bracket from = fresh left (record { upper = u; lower = w; bracket = bracket; from = from; narrow = narrow_below os (is_bare u w) } ∷ os)
 
--- the same bracket goes on, or another stands in its place
+-- the same bracket goes on, or another replaces it
 abbrev pub reopens : ℕ → List Opened → Upper → Lower → ℕ → Bool → bracket_of.Bracket → Reading
 reopens left os u w from narrow bracket = fresh left (record { upper = u; lower = w; bracket = bracket; from = from; narrow = narrow } ∷ os)
 
--- a call of what stands before it, or of this method of it
+-- a call of what is before it, or of this method of it
 abbrev pub call_node : Option (List ℕ) → Node
 call_node None = n.Call
 call_node (Some m) = n.Method m
@@ -255,30 +255,30 @@ operator_written at left os u w from _ es = None
 abbrev pub operator : ℕ → ℕ → List Opened → Upper → Lower → primary_of.Primary → ℕ → Kind → List Entry → Step
 operator at left os u w primary from t es = operator_written at left os u w from t (settled primary from at es)
 
--- ---- one more token where an operand is to stand
+-- ---- one more token when an operand is to come
 
--- a bracket ends where nothing of an expression has been read
+-- a bracket ends when nothing of an expression has been read
 abbrev pub parenthesis_ends_at : ℕ → List Opened → Opened → bracket_of.Bracket → List Entry → Step
 parenthesis_ends_at left os top (b.Call m) es = closes left os top.upper top.lower top.from (call_node m) es
 parenthesis_ends_at left os top _ es = None
 
--- `]` where nothing has been read in that bracket
+-- `]` when nothing has been read in that bracket
 abbrev pub bracket_ends_at : ℕ → List Opened → Opened → bracket_of.Bracket → List Entry → Step
 bracket_ends_at left os top b.Display es = closes left os top.upper top.lower top.from n.ListOf es
 bracket_ends_at left os top (b.Slice first) es = closes left os top.upper top.lower top.from (n.Slice first false) es
 bracket_ends_at left os top _ es = None
 
--- `}` where nothing has been read in that bracket
+-- `}` when nothing has been read in that bracket
 abbrev pub brace_ends_at : ℕ → List Opened → Opened → bracket_of.Bracket → List Entry → Step
 brace_ends_at left os top (b.Dict first) es = closes left os top.upper top.lower top.from n.DictOf es
 brace_ends_at left os top _ es = None
 
--- `:` where nothing has been read in that bracket
+-- `:` when nothing has been read in that bracket
 abbrev pub colon_goes_on_at : ℕ → List Opened → Opened → bracket_of.Bracket → List Entry → Step
 colon_goes_on_at left os top b.Index es = Some (reopens left os top.upper top.lower top.from top.narrow (b.Slice false), es)
 colon_goes_on_at left os top _ es = None
 
--- that sign where nothing has been read in a bracket
+-- that sign when nothing has been read in a bracket
 unfoldable pub bracket_goes_on_at : ℕ → List Opened → Opened → sign_of.Symbol → List Entry → Step
 bracket_goes_on_at left os top s.CloseParenthesis es = parenthesis_ends_at left os top top.bracket es
 bracket_goes_on_at left os top s.CloseBracket es = bracket_ends_at left os top top.bracket es
@@ -295,11 +295,11 @@ innermost_goes_on_at left (top ∷ os) sign es = bracket_goes_on_at left os top 
 abbrev pub at_nothing : ℕ → List Opened → Upper → Lower → sign_of.Symbol → List Entry → Step
 at_nothing left os u w sign es = if is_bare u w then innermost_goes_on_at left os sign es else None
 
--- a `not` stands where a comparison may begin
+-- a `not` where a comparison may begin
 abbrev pub denied : ℕ → ℕ → List Opened → Upper → Reading
 denied at left os u = h.Wants os (record { picks = u.picks; from = u.from; test = u.test; or_from = u.or_from; ors = u.ors; and_from = u.and_from; ands = u.ands; nots = at ∷ u.nots }) (fresh_lower left)
 
--- a `not` where an operand is to stand
+-- a `not` when an operand is to come
 abbrev pub denies : ℕ → ℕ → List Opened → Upper → Lower → List Entry → Step
 denies at left os u w es = if is_fresh_lower w then Some (denied at left os u, es) else None
 
@@ -311,7 +311,7 @@ signs at left os u w minus es = Some (h.Wants os u (record { compare_from = w.co
 abbrev pub constant : ℕ → ℕ → List Opened → Upper → Lower → Literal → List Entry → Step
 constant at left os u w value es = Some (h.Has os u w p.Other at, span (n.Literal value) at left es)
 
--- a word where an operand is to stand
+-- a word when an operand is to come
 unfoldable pub operand_word : ℕ → ℕ → List Opened → Upper → Lower → Keyword → List Entry → Step
 operand_word at left os u w k.None es = constant at left os u w literal.Nothing es
 operand_word at left os u w k.True es = constant at left os u w (literal.Bool true) es
@@ -319,7 +319,7 @@ operand_word at left os u w k.False es = constant at left os u w (literal.Bool f
 operand_word at left os u w k.Not es = denies at left os u w es
 operand_word at left os u w _ es = None
 
--- a sign where an operand is to stand
+-- a sign when an operand is to come
 unfoldable pub operand_sign : ℕ → ℕ → List Opened → Upper → Lower → sign_of.Symbol → List Entry → Step
 operand_sign at left os u w s.Plus es = signs at left os u w false es
 operand_sign at left os u w s.Minus es = signs at left os u w true es
@@ -328,7 +328,7 @@ operand_sign at left os u w s.OpenBracket es = Some (opens left os u w b.Display
 operand_sign at left os u w s.OpenBrace es = Some (opens left os u w (b.Dict true) at, mark n.NoPairs es)
 operand_sign at left os u w sign es = at_nothing left os u w sign es
 
--- a token where an operand is to stand
+-- a token when an operand is to come
 abbrev pub operand : ℕ → ℕ → List Opened → Upper → Lower → Kind → List Entry → Step
 operand at left os u w (t.Name m) es = Some (h.Has os u w (p.Name m) at, es)
 operand at left os u w (t.Number m) es = constant at left os u w (literal.Number m) es
@@ -337,7 +337,7 @@ operand at left os u w (t.Keyword word) es = operand_word at left os u w word es
 operand at left os u w (t.Symbol sign) es = operand_sign at left os u w sign es
 operand at left os u w _ es = None
 
--- ---- the other places
+-- ---- the other states
 
 -- a token after `is`
 abbrev pub after_is : List Opened → Upper → ℕ → Kind → List Entry → Step
@@ -350,7 +350,7 @@ abbrev pub after_is_not : List Opened → Upper → ℕ → Kind → List Entry 
 after_is_not os u from (t.Keyword k.None) es = Some (h.Related os u from, mark n.IsNotNone es)
 after_is_not os u from _ es = None
 
--- a token after `not` that stands after an operand
+-- a token after `not` that is after an operand
 abbrev pub after_not : ℕ → List Opened → Upper → ℕ → Kind → List Entry → Step
 after_not left os u from (t.Keyword k.In) es = Some (relates left os u from o.NotIn, es)
 after_not left os u from _ es = None
@@ -365,7 +365,7 @@ abbrev pub after_method : ℕ → List Opened → Upper → Lower → ℕ → Li
 after_method left os u w from m (t.Symbol s.OpenParenthesis) es = Some (opens left os u w (b.Call (Some m)) from, mark n.Empty es)
 after_method left os u w from m _ es = None
 
--- one more token where no operand is to stand, and none stands before
+-- one more token when no operand is to come, and none is directly before
 abbrev pub between : ℕ → Reading → Kind → List Entry → Step
 between left (h.AfterIs os u from) t es = after_is os u from t es
 between left (h.AfterIsNot os u from) t es = after_is_not os u from t es

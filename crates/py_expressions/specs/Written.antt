@@ -69,7 +69,7 @@ abbrev pub written_opened : List Opened → List Kind → List Entry → List En
 written_opened [] rest es = es
 written_opened (opened u w k ∷ os) rest es = written_bracket k rest (written_lower w (spell_bracket k rest) (written_upper u (spell_lower w (spell_bracket k rest)) (written_opened os (spell_upper u (spell_lower w (spell_bracket k rest))) es)))
 
--- an operand that may still be what is assigned to
+-- an operand that may still be a target
 abbrev pub written_primary : Primary → List Kind → List Entry → List Entry
 written_primary (name m) rest es = es
 written_primary (index p a) rest es = post_item p a rest es

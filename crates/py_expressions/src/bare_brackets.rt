@@ -1,4 +1,4 @@
-//! Brackets that go on and end where nothing of an expression has been read.
+//! Brackets that go on and end when nothing of an expression has been read.
 ghost use Rattle.py_expressions.specs.Gives.{Gives};
 ghost use Rattle.py_expressions.specs.Steps.{parenthesis_ends_at, bracket_ends_at, brace_ends_at, colon_goes_on_at, bracket_goes_on_at, innermost_goes_on_at};
 
@@ -10,7 +10,7 @@ use py_postfix::{Entry, Node};
 use py_token::Symbol;
 use std::alloc::Global;
 
-/// `)` where nothing of an expression has been read.
+/// `)` when nothing of an expression has been read.
 fn end_parenthesis_at(
     opened: Stack<Opened>,
     top: Opened,
@@ -38,7 +38,7 @@ fn end_parenthesis_at(
     }
 }
 
-/// `]` where nothing of an expression has been read.
+/// `]` when nothing of an expression has been read.
 fn end_bracket_at(
     opened: Stack<Opened>,
     top: Opened,
@@ -67,7 +67,7 @@ fn end_bracket_at(
     }
 }
 
-/// `}` where nothing of an expression has been read.
+/// `}` when nothing of an expression has been read.
 fn end_brace_at(
     opened: Stack<Opened>,
     top: Opened,
@@ -95,7 +95,7 @@ fn end_brace_at(
     }
 }
 
-/// `:` where nothing of an expression has been read.
+/// `:` when nothing of an expression has been read.
 fn end_key_at(
     alloc: Global,
     opened: Stack<Opened>,
@@ -124,7 +124,7 @@ fn end_key_at(
     }
 }
 
-/// A sign where nothing of an expression has been read.
+/// A sign when nothing of an expression has been read.
 #[tactic(auto, unfolding(crate::specs::Steps::bracket_goes_on_at))]
 fn go_on_at(
     alloc: Global,
@@ -145,7 +145,7 @@ fn go_on_at(
     }
 }
 
-/// A sign where nothing of an expression has been read: the innermost bracket ends or goes on.
+/// A sign when nothing of an expression has been read: the innermost bracket ends or goes on.
 pub fn innermost_go_on_at(
     alloc: Global,
     mut opened: Stack<Opened>,

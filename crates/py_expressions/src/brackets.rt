@@ -13,7 +13,7 @@ use py_postfix::{Entry, Node};
 use py_token::Symbol;
 use std::alloc::{AllocError, Global};
 
-/// Nothing stands before what stands outside all brackets.
+/// Whether nothing is before what is outside all brackets.
 pub fn narrow_below(opened: &Stack<Opened>, innermost: bool) -> bool
     ensures { result ≡ narrow_below opened.now innermost }
 {
@@ -49,7 +49,7 @@ pub fn open(
     Ok(fresh(alloc, left, opened))
 }
 
-/// Another bracket, or the same, stands in its place.
+/// The same bracket goes on, or another replaces it.
 pub fn reopen(
     alloc: Global,
     around: Around,
@@ -75,6 +75,7 @@ pub fn reopen(
     Ok(fresh(alloc, left, opened))
 }
 
+/// The node of a call, or of a call of this method.
 pub fn call_node(method: Option<Text>) -> Node
     ensures { result ≡ call_node method }
 {
@@ -84,6 +85,7 @@ pub fn call_node(method: Option<Text>) -> Node
     }
 }
 
+/// An operand has been read, with this open around it.
 pub fn has(around: Around, primary: Primary) -> Reading
     ensures { result ≡ Has around.opened around.upper around.lower primary around.from }
 {

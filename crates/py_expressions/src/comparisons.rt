@@ -16,7 +16,7 @@ use py_token::{Keyword, Kind, Symbol};
 use py_tree::Op;
 use std::alloc::Global;
 
-/// A bracket that a whole expression ends or goes on in. No `if` may wait for its `else`.
+/// A sign that ends a bracket or goes on in it, after a whole expression. No `if` may wait for its `else`.
 fn end_in_bracket(
     alloc: Global,
     comparison: Comparison,
@@ -234,6 +234,7 @@ fn begin_not_in(comparison: Comparison, entries: &mut Stack<Entry>) -> Result<Re
     })
 }
 
+/// A word after a comparison.
 #[tactic(auto, unfolding(crate::specs::Steps::behind_word))]
 pub fn behind_word(
     alloc: Global,
@@ -272,6 +273,7 @@ fn relation_at(sign: Symbol) -> Option<Op>
     }
 }
 
+/// A sign after a comparison.
 pub fn behind_sign(
     alloc: Global,
     comparison: Comparison,

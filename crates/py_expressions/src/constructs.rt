@@ -62,7 +62,7 @@ fn brace_in(bracket: &Bracket) -> Option<Construct>
     }
 }
 
-/// `}` after what stands first in braces.
+/// `}` after the first expression in braces.
 fn brace_begins(opened: &Stack<Opened>) -> Option<Construct>
     ensures { result ≡ brace_begins opened.now }
 {

@@ -1,4 +1,4 @@
-//! What is written where a part of an expression ends, and where a chain goes on.
+//! What is written when a node of an expression ends, and when a chain goes on.
 ghost use Rattle.std.specs.Prelude.{◌≡◌, [], OnOk};
 ghost use Rattle.py_postfix.specs.Entries.{mark};
 ghost use Rattle.py_expressions.specs.Endings.{span, settled, signs_ended, operated, operated_on, product_ended, sum_ended, compared_of, compare_ended, compare_goes_on, nots_ended, listed, listed_on, negation_ended, and_ended, or_ended, picks_ended, expression_ended};
@@ -10,7 +10,7 @@ use py_postfix::{Entry, Node};
 use py_tree::Op;
 use std::alloc::AllocError;
 
-/// A part between these places.
+/// Writes the entry of a node between these positions.
 pub fn write_span(
     node: Node,
     from: usize,
@@ -22,7 +22,7 @@ pub fn write_span(
     entries.push(Entry { node, from, to })
 }
 
-/// An entry that is no part.
+/// Writes an entry that doesn't count as a node: both its ends are 0.
 pub fn write_mark(node: Node, entries: &mut Stack<Entry>) -> Result<(), AllocError>
     ensures { OnOk result (entries.new ≡ mark node entries.old) }
 {
@@ -33,7 +33,7 @@ pub fn write_mark(node: Node, entries: &mut Stack<Entry>) -> Result<(), AllocErr
     })
 }
 
-/// A name or an item that isn't assigned to.
+/// Writes a name or an item that isn't assigned to. Anything else is written already.
 pub fn settle(
     primary: Primary,
     from: usize,
@@ -49,6 +49,7 @@ pub fn settle(
     }
 }
 
+/// The signs of an operand end, the innermost first.
 pub fn end_signs(
     mut signs: Stack<Signed>,
     at: usize,
@@ -91,6 +92,7 @@ pub fn operate_on(operator: Option<Op>, entries: &mut Stack<Entry>) -> Result<()
     }
 }
 
+/// A product ends, or an operand alone.
 pub fn end_product(lower: Lower, at: usize, entries: &mut Stack<Entry>) -> Result<(), AllocError>
     ensures { OnOk result (entries.new ≡ product_ended lower at entries.old) }
 {
@@ -104,6 +106,7 @@ pub fn end_product(lower: Lower, at: usize, entries: &mut Stack<Entry>) -> Resul
     end_operated(Node::Product, multiplication, product_from, at, entries)
 }
 
+/// A sum ends, or a product alone.
 pub fn end_sum(lower: Lower, at: usize, entries: &mut Stack<Entry>) -> Result<(), AllocError>
     ensures { OnOk result (entries.new ≡ sum_ended lower at entries.old) }
 {
@@ -113,7 +116,7 @@ pub fn end_sum(lower: Lower, at: usize, entries: &mut Stack<Entry>) -> Result<()
     end_operated(Node::Sum, addition, from, at, entries)
 }
 
-/// What stands before the last operand of a comparison.
+/// What is before the last operand of a comparison.
 pub fn compared_of(relation: Option<Op>) -> Compared
     ensures { result ≡ compared_of relation }
 {
@@ -195,7 +198,7 @@ pub fn list_on(more: bool, entries: &mut Stack<Entry>) -> Result<(), AllocError>
     }
 }
 
-/// An operand of a chain of `and` ends, whose comparison begins there.
+/// An operand of a chain of `and` ends. Its comparison begins at `from`.
 pub fn end_negation(
     upper: &mut Upper,
     from: usize,
@@ -253,7 +256,7 @@ fn end_picks(
     Ok(())
 }
 
-/// The whole expression ends, whose last comparison begins there.
+/// The whole expression ends. Its last comparison begins at `from`.
 pub fn end_expression(
     mut upper: Upper,
     from: usize,

@@ -7,6 +7,7 @@ use crate::reading::{Lower, Opened, Reading, Upper};
 use plain_data::Stack;
 use std::alloc::Global;
 
+/// Nothing is open around a comparison that begins when `left` tokens are left.
 pub fn fresh_upper(alloc: Global, left: usize) -> Upper
     ensures { result ≡ fresh_upper left }
 {
@@ -22,6 +23,7 @@ pub fn fresh_upper(alloc: Global, left: usize) -> Upper
     }
 }
 
+/// Nothing is open around an operand that begins when `left` tokens are left.
 pub fn fresh_lower(alloc: Global, left: usize) -> Lower
     ensures { result ≡ fresh_lower left }
 {
@@ -56,7 +58,7 @@ fn is_empty<T>(stack: &Stack<T>) -> bool
     }
 }
 
-/// No comparison, sum, product or sign stands before the operand.
+/// Whether no comparison, sum, product or sign is before the operand.
 pub fn is_fresh_lower(lower: &Lower) -> bool
     ensures { result ≡ is_fresh_lower lower.now }
 {
@@ -72,7 +74,7 @@ fn is_fresh_upper(upper: &Upper) -> bool
     is_empty(&upper.nots) && !upper.ands && !upper.ors && !upper.test && is_empty(&upper.picks)
 }
 
-/// Nothing stands before the operand.
+/// Whether nothing is before the operand.
 pub fn is_bare(upper: &Upper, lower: &Lower) -> bool
     ensures { result ≡ is_bare upper.now lower.now }
 {

@@ -29,7 +29,7 @@ pub fn a_token_is_read_as_its_forms_are()
         ≡ option_map (λ s. (held s rest, written s rest entries)) (forms.read reading token) }
 {}
 
-/// Where the expression ends, its postfix form is written.
+/// When the expression ends, its postfix form is written.
 pub fn it_ends_where_the_forms_are_whole()
     ensures written { (reading : Reading) (rest : List Kind) (entries : List Entry)
         → ended (length rest) (held reading rest) (written reading rest entries) ≡ option_map (λ a. post_expression a rest entries) (forms.whole reading) }

@@ -1,7 +1,7 @@
 //! Reading an expression token by token, and writing its postfix form.
 //!
 //! What is open of an expression is held as what has still to be written: which chains and brackets are open, where they
-//! began, and what stands directly before the next token. Places are counted from the end: how many tokens were left.
+//! began, and what is directly before the next token. Positions are counted from the end: how many tokens were left.
 #![tactic(auto)]
 
 mod bare_brackets;

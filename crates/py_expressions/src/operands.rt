@@ -1,4 +1,4 @@
-//! One more token where an operand is to stand.
+//! One more token when an operand is to come.
 ghost use Rattle.std.specs.Prelude.{◌≡◌};
 ghost use Rattle.py_expressions.specs.Gives.{Gives};
 ghost use Rattle.py_expressions.specs.Steps.{at_nothing, denies, signs, constant, operand_word, operand_sign, operand};
@@ -15,7 +15,7 @@ use py_token::{Keyword, Kind, Symbol};
 use py_tree::Literal;
 use std::alloc::Global;
 
-/// A bracket ends or goes on, if nothing stands before the operand.
+/// A bracket ends or goes on, if nothing is before the operand.
 fn end_at_nothing(
     alloc: Global,
     around: Around,
@@ -151,7 +151,7 @@ fn operand_sign(
     }
 }
 
-/// One more token where an operand is to stand.
+/// One more token when an operand is to come.
 pub fn operand(
     alloc: Global,
     around: Around,

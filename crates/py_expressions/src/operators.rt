@@ -113,7 +113,7 @@ fn begin_method(around: Around) -> Reading
     }
 }
 
-/// The sum of an operand ends: what stands before it is compared.
+/// Ends the sum that an operand is last in, and gives the comparison around it.
 fn end_in_comparison(
     around: Around,
     at: usize,

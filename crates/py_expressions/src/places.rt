@@ -11,7 +11,7 @@ use crate::stop::Stop;
 use plain_data::Stack;
 use py_postfix::{Entry, Node};
 
-/// No bracket is open, and no `if` waits for its `else`.
+/// Whether no bracket is open, and no `if` waits for its `else`.
 fn may_end(opened: &Stack<Opened>, upper: &Upper) -> bool
     ensures { result ≡ may_end opened.now upper.now }
 {
@@ -49,7 +49,7 @@ fn end_behind(comparison: Comparison, at: usize, entries: &mut Stack<Entry>) -> 
     Ok(())
 }
 
-/// Ends the expression before the token that so many tokens are left with, itself counted, and writes what ends there.
+/// Ends the expression before the token at which `at` tokens are left, itself counted, and writes what ends there.
 /// After an error nothing is known of what was written.
 pub fn end(reading: Reading, at: usize, entries: &mut Stack<Entry>) -> Result<(), Stop>
     ensures { Writes result entries.new (ended at reading entries.old) }
@@ -91,7 +91,7 @@ pub fn end(reading: Reading, at: usize, entries: &mut Stack<Entry>) -> Result<()
     }
 }
 
-/// No bracket is open, and nothing stands before the operand.
+/// Whether no bracket is open, and nothing is before the operand.
 fn is_alone(opened: &Stack<Opened>, upper: &Upper, lower: &Lower) -> bool
     ensures { result ≡ is_alone opened.now upper.now lower.now }
 {
@@ -117,7 +117,7 @@ fn write_place(primary: Primary, entries: &mut Stack<Entry>) -> Result<(), Stop>
     }
 }
 
-/// Writes what has been read as what is assigned to or deleted. It is refused where it is no place.
+/// Writes what has been read as a target, which is assigned to or deleted. It is refused if it is no target.
 pub fn end_place(reading: Reading, entries: &mut Stack<Entry>) -> Result<(), Stop>
     ensures { Writes result entries.new (placed reading entries.old) }
 {

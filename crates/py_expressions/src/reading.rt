@@ -10,17 +10,17 @@ pub struct Upper {
     pub from: usize,
     /// Whether that begins with `a if`, and its test is being read.
     pub test: bool,
-    /// Where the chain of `or` begins, and whether an `or` stands in it.
+    /// Where the chain of `or` begins, and whether it has an `or`.
     pub or_from: usize,
     pub ors: bool,
-    /// Where the chain of `and` begins, and whether an `and` stands in it.
+    /// Where the chain of `and` begins, and whether it has an `and`.
     pub and_from: usize,
     pub ands: bool,
-    /// Where each `not` stands, the innermost first.
+    /// Where each `not` is, the innermost first.
     pub nots: Stack<usize>,
 }
 
-/// A sign, and where it stands.
+/// A sign, and where it is.
 #[derive(Drop)]
 pub struct Signed {
     pub minus: bool,
@@ -30,7 +30,7 @@ pub struct Signed {
 /// What is open around an operand: the comparison, sum, product and signs that it is an operand of.
 #[derive(Drop)]
 pub struct Lower {
-    /// Where the comparison begins, and the relation that stands before the operand.
+    /// Where the comparison begins, and the relation before the operand.
     pub compare_from: usize,
     pub relation: Option<Op>,
     /// Where the sum begins, and its sign before the operand.
@@ -48,14 +48,14 @@ pub struct Lower {
 pub enum Bracket {
     Group,
     Display,
-    /// A dict where a key is to come or being read: whether no pair stands before it.
+    /// A dict where a key is to come or being read: whether no pair is before it.
     Dict(bool),
     /// A dict where a value is to come or being read.
     Pair,
-    /// A call of what stands before it, or of this method of it.
+    /// A call of what is before it, or of this method of it.
     Call(Option<Text>),
     Index,
-    /// A slice after its colon: whether a bound stands before that.
+    /// A slice after its colon: whether a bound is before the colon.
     Slice(bool),
 }
 
@@ -66,11 +66,11 @@ pub struct Opened {
     pub lower: Lower,
     pub bracket: Bracket,
     pub from: usize,
-    /// Whether nothing stands before what the outermost bracket belongs to.
+    /// Whether nothing is before what the outermost bracket belongs to.
     pub narrow: bool,
 }
 
-/// An operand that may still be what is assigned to: nothing is written yet of a name, and of an item only what it is made
+/// An operand that may still be a target: nothing is written yet of a name, and of an item only what it is made
 /// of. Anything else is written.
 #[derive(Drop)]
 pub enum Primary {
@@ -79,7 +79,7 @@ pub enum Primary {
     Other,
 }
 
-/// What stands last in a comparison: its first operand, an operand after this relation, or `is None`.
+/// What is last in a comparison: its first operand, an operand after this relation, or `is None`.
 #[derive(Clone, Copy, Debug, PartialEq, Eq)]
 pub enum Compared {
     First,
@@ -96,7 +96,7 @@ pub struct Around {
     pub from: usize,
 }
 
-/// What is open around a comparison, where that begins, and what stands last in it.
+/// What is open around a comparison, where that begins, and what is last in it.
 #[derive(Drop)]
 pub struct Comparison {
     pub opened: Stack<Opened>,

@@ -16,7 +16,7 @@ use py_postfix::{Entry, Node};
 use py_token::{Keyword, Kind, Symbol};
 use std::alloc::Global;
 
-/// An expression of which nothing has been read, before so many tokens.
+/// An expression of which nothing has been read, when `left` tokens are left.
 pub fn begun(alloc: Global, left: usize) -> Reading
     ensures { result ≡ begun left }
 {
@@ -143,7 +143,7 @@ fn around(opened: Stack<Opened>, upper: Upper, lower: Lower, from: usize) -> Aro
     }
 }
 
-/// One more token where no operand is to stand, and none stands before.
+/// One more token when no operand is to come, and none is directly before.
 fn between(
     alloc: Global,
     reading: Reading,

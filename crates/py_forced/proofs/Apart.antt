@@ -1,4 +1,4 @@
--- The parts of a form are the same, whatever follows it: only their places move.
+-- The nodes of a form are the same, whatever follows it: only their positions move.
 use Rattle.std.proofs.Common.{◌≡◌, ℕ, ◌+◌, ◌&&◌, nat_lt, nat_le, List, [], ◌∷◌, length, refl, ap, arith}
 use Rattle.std.proofs.lemmas.List.{length-append}
 use Rattle.py_token.specs.declared.kinds.Kind.{Kind}
@@ -8,11 +8,11 @@ use Rattle.py_postfix.specs.declared.entries.Entry.{Entry}
 use Rattle.py_postfix.specs.Entries.{part, mark}
 use Rattle.py_nesting.specs.Depth.{count_if, depth}
 
--- the first tokens stand as far from the end of so many as the others from the end of so many
+-- the first list has as many tokens more than `j` as the second has more than `k`
 pub record Apart (j k : ℕ) (xs ys : List Kind) : Type 0 where
   pub apart : length xs + k ≡ length ys + j
 
--- so many tokens before one end are in as many parts as so many before the other
+-- a token with `place + j` left is in as many nodes as one with `place + k` left of the other entries
 pub record Moved (j k : ℕ) (es ds : List Entry) : Type 0 where
   pub same : (place : ℕ) → depth (place + j) es ≡ depth (place + k) ds
 

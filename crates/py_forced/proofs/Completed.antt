@@ -1,4 +1,4 @@
--- What has been read of a cell goes on to a cell in which each token that has been read stands just as deep.
+-- What has been read of a cell goes on to a cell in which each token that has been read is just as deep.
 use Rattle.std.specs.FinMap as finite
 use Rattle.std.proofs.Common.{◌≡◌, ℕ, ◌+◌, ◌<◌, false, List, [], ◌∷◌, length, Option, Some, None, is_some, refl, ap, ◌∙◌, sym, subst, arith}
 use Rattle.py_token.specs.declared.kinds.Kind.{Kind}

@@ -1,4 +1,4 @@
--- How many of the parts that are open hold a token that has been read: those that don't begin after it.
+-- How many of the nodes that are open hold a token that has been read: those that don't begin after it.
 use Rattle.std.proofs.Common.{◌≡◌, ℕ, ◌+◌, ◌<◌, ◌≤◌, Bool, true, false, ◌&&◌, not, nat_lt, nat_le, if◌then◌else◌, is_some, List, [], ◌∷◌, refl, arith}
 use Rattle.std.proofs.lemmas.Bool.{lt-ltb}
 use Rattle.py_postfix.specs.declared.entries.Node.{Node}
@@ -21,9 +21,9 @@ use Rattle.py_statements.specs.declared.state.State.TheVariants as s
 use Rattle.py_nesting.specs.Depth.{count_if, depth}
 use Rattle.py_nesting.specs.Opened.{span, span_if, spans, signs_opened, upper_opened, lower_opened, is_place, is_index, brackets_opened, around_opened, primary_opened, reading_opened, outers_opened, spot_opened, may_place, simple_opened, state_opened}
 
--- ---- one part
+-- ---- one node
 
--- whether a part that begins there and isn't over holds the token
+-- whether a node that begins there and isn't over holds the token
 pub reach : ℕ → ℕ → ℕ
 reach place from = count_if (nat_le place from)
 
@@ -214,7 +214,7 @@ head-held place os from at es h = let a = opened-held place from at es h in let 
 simple-held : (place : ℕ) (os : List Outer) (x : Spot) (from at : ℕ) (es : List Entry) → at < place → depth place (simple_opened os x from at es) ≡ simple_count place os x from + depth place es
 simple-held place os x from at es h = let a = opened-held place from at es h in let b = spot-held place x at (span from at es) h in let c = outers-held place os at (spot_opened x at (span from at es)) h in omega arith
 
--- so many parts of what is open hold it, beside what is written
+-- the nodes of what is open that hold it are that many, beside those that are written
 pub state-held : (place : ℕ) (x : State) (at : ℕ) (es : List Entry) → at < place → depth place (state_opened x at es) ≡ state_count place x + depth place es
 state-held place (s.Line os last) at es h = outers-held place os at es h
 state-held place (s.InSimple os x u from q) at es h = let a = reading-held (may_place u) place q at es h in let b = simple-held place os x from at (reading_opened (may_place u) q at es) h in omega arith

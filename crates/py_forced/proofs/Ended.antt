@@ -1,4 +1,4 @@
--- How many of the parts that end hold a token that has been read.
+-- How many of the nodes that end hold a token that has been read.
 use Rattle.std.proofs.Common.{◌≡◌, ℕ, ◌+◌, ◌<◌, ◌≤◌, Bool, true, false, not, is_some, List, [], ◌∷◌, Option, Some, None, refl, arith}
 use Rattle.py_tree.specs.declared.expressions.Op.{Op}
 use Rattle.py_postfix.specs.declared.entries.Node.{Node}

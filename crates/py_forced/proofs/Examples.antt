@@ -1,4 +1,4 @@
--- Small texts: how deep their tokens stand where they are open, and in a cell that begins so.
+-- Small texts: how deep their tokens are when they are open, and in a cell that begins so.
 use Rattle.std.proofs.Common.{◌≡◌, ℕ, zero, suc, List, [], ◌∷◌, length, Option, Some, None, refl}
 use Rattle.std.specs.Prelude.{pos}
 use Rattle.py_token.specs.declared.kinds.Kind.{Kind}
@@ -10,7 +10,7 @@ use Rattle.py_statements.specs.Written.{written_state}
 use Rattle.py_nesting.specs.Depth.{depth}
 use Rattle.py_nesting.specs.Open.{open_state}
 
--- the depths of so many tokens, the last first
+-- the depths of `n` tokens, the last first
 abbrev depths_from : ℕ → ℕ → (ℕ → ℕ) → List ℕ
 depths_from zero left f = []
 depths_from (suc n) left f = f (suc left) ∷ depths_from n (suc left) f
@@ -19,7 +19,7 @@ open_depths_of : Option State → ℕ → List ℕ
 open_depths_of (Some s) n = depths_from n 0 (λ left. depth left (open_state s [] (written_state s [] [])))
 open_depths_of None n = []
 
--- how deep the tokens stand where they are open, the last first
+-- how deep the tokens are when they are open, the last first
 open_depths : List Kind → List ℕ
 open_depths front = open_depths_of (run start front) (length front)
 
@@ -27,7 +27,7 @@ whole_depths_of : Option State → ℕ → List ℕ
 whole_depths_of (Some (done c)) n = depths_from n 0 (λ left. depth left (post_cell c))
 whole_depths_of _ n = []
 
--- how deep the tokens of a cell stand, the last first
+-- how deep the tokens of a cell are, the last first
 whole_depths : List Kind → List ℕ
 whole_depths tokens = whole_depths_of (run start tokens) (length tokens)
 
@@ -58,7 +58,7 @@ method_whole : whole_depths (a ∷ dot ∷ b ∷ open_parenthesis ∷ close_pare
 unfolding whole_depths whole_depths_of
 method_whole = refl
 
--- `a [ 0` may be what is assigned to
+-- `a [ 0` may be a target
 item : open_depths (a ∷ open_bracket ∷ nought ∷ []) ≡ 2 ∷ 1 ∷ 2 ∷ []
 unfolding open_depths open_depths_of
 item = refl
@@ -76,12 +76,12 @@ block_whole : whole_depths (if_word ∷ a ∷ colon ∷ t.Newline ∷ t.Indent �
 unfolding whole_depths whole_depths_of
 block_whole = refl
 
--- an `elif` stands beside the `if` before it
+-- an `elif` is beside the `if` before it
 branch : open_depths (if_word ∷ a ∷ colon ∷ b ∷ t.Newline ∷ elif_word ∷ a ∷ plus_sign ∷ []) ≡ 2 ∷ 3 ∷ 1 ∷ 1 ∷ 3 ∷ 1 ∷ 2 ∷ 1 ∷ []
 unfolding open_depths open_depths_of
 branch = refl
 
--- what is deleted is a place
+-- what is deleted is a target
 deleted : open_depths (del_word ∷ a ∷ []) ≡ 1 ∷ 1 ∷ []
 unfolding open_depths open_depths_of
 deleted = refl

@@ -1,4 +1,4 @@
--- Where an expression ends its statement or head, each earlier token stays in just as many parts.
+-- When an expression ends its statement or head, each earlier token stays in just as many nodes.
 use Rattle.std.proofs.Common.{◌≡◌, ℕ, ◌+◌, ◌<◌, Bool, true, false, if◌then◌else◌, List, [], ◌∷◌, length, Option, Some, None, refl, subst, arith}
 use Rattle.std.proofs.lemmas.Bool.{false≢true}
 use Rattle.py_token.specs.declared.kinds.Kind.{Kind}
@@ -40,9 +40,9 @@ use Rattle.py_forced.proofs.Stays.{Settles}
 use Rattle.py_forced.proofs.Parts.{parts}
 use Rattle.py_forced.proofs.Open.{parts-held}
 
--- ---- an expression or a place ends
+-- ---- an expression or a target ends
 
--- the token stands in just so many parts, if these are written
+-- the token is in just `before` nodes, if these are written
 abbrev Written : ℕ → ℕ → Option (List Entry) → Type 0
 Written place before None = Unit {0}
 Written place before (Some es) = before ≡ depth place es
@@ -91,7 +91,7 @@ placed-written place _ es = tt
 
 -- ---- a simple statement ends
 
--- the token stands in just so many parts, if another token is read
+-- the token is in just `before` nodes, if another token is read
 abbrev pub Just : ℕ → ℕ → Step → Type 0
 Just place before None = Unit {0}
 Just place before (Some (x, es)) = before ≡ state_count place x + depth place es
@@ -108,7 +108,7 @@ given-written : (place before : ℕ) (b : Bool) (node : Node) (es : List Entry) 
 given-written place before true node es x f g = f refl
 given-written place before false node es x f g = g
 
--- what it needs to end as it stands
+-- what it needs to end as it is
 abbrev pub Finishes : Purpose → Reading → Type 0
 Finishes purpose.Showing x = SettlesAt true x
 Finishes purpose.Giving x = SettlesAt false x
@@ -165,11 +165,11 @@ test-just place at left os x from q es f w l = first-just place _ (is_whole q) _
 
 -- ---- the same of the forms
 
--- the token leaves each before it in just as many parts
+-- the token leaves each before it in just as many nodes
 abbrev pub Exact : m.State → Kind → m.State → Type 0
 Exact s token u = (rest : List Kind) (place : ℕ) → length (token ∷ rest) < place → depth place (parts s (token ∷ rest)) ≡ depth place (parts u rest)
 
--- where the program does so
+-- if the program does so
 pub exact_where : (s u : m.State) (token : Kind) (names : Names) → m.step s token ≡ Some u → NewAs names s
     → ((place : ℕ) (rest : List Kind) (es : List Entry) → length (token ∷ rest) < place → Just place (state_count place (held_state s (token ∷ rest)) + depth place es) (moves (length (token ∷ rest)) (length rest) (held_state s (token ∷ rest)) names token es))
     → Exact s token u

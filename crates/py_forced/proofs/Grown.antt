@@ -1,4 +1,4 @@
--- One more token of an expression leaves each earlier token in as many parts at least.
+-- One more token of an expression leaves each earlier token in at least as many nodes.
 use Rattle.std.proofs.lemmas.Bool.{true≢false, false≢true}
 use Rattle.std.proofs.Common.{◌≡◌, ℕ, ◌+◌, ◌<◌, ◌≤◌, Bool, true, false, ◌&&◌, not, if◌then◌else◌, is_some, is_none, List, [], ◌∷◌, Option, Some, None, refl, arith}
 use Rattle.py_token.specs.declared.kinds.Kind.{Kind}
@@ -34,7 +34,7 @@ use Rattle.py_nesting.specs.Opened.{is_place, is_index}
 use Rattle.py_forced.proofs.Counts.{reach, reach_if, span-held, mark-held, reach_if-reach, reach_all, signs_count, lower_count, upper_count, bracket_count, brackets_count, reading_count}
 use Rattle.py_forced.proofs.Ended.{settled-ended, primary-settled, sum-ended, product-on, sum-on, compared_count, compared-related, compared-reach, compare-on, or-ended, and-on, or-on, expression-ended}
 
--- the token stands in so many parts at least, if another token is read
+-- the token is in at least `before` nodes, if another token is read
 abbrev pub Grows : Bool → ℕ → ℕ → Step → Type 0
 Grows placing place before None = Unit {0}
 Grows placing place before (Some (x, es)) = before ≤ reading_count placing place x + depth place es
@@ -49,7 +49,7 @@ only_grows false placing place before x f = tt
 
 -- ---- brackets
 
--- the bracket belongs to a part, whatever it may be
+-- the bracket belongs to a node, whatever it may be
 pub not_item : (test : Bool) (place from : ℕ) → bracket_count (test && false) place from ≡ reach place from
 not_item true place from = refl
 not_item false place from = refl
@@ -58,7 +58,7 @@ pub item : (test : Bool) (place from : ℕ) → bracket_count (test && true) pla
 item true place from = refl
 item false place from = refl
 
--- what is counted where this bracket is the innermost
+-- what is counted if this bracket is the innermost
 abbrev pub before_bracket : Bool → ℕ → List Opened → Opened → bracket_of.Bracket → ℕ
 before_bracket placing place os top bracket = brackets_count placing place os + (upper_count place top.upper + (lower_count place top.lower + bracket_count (is_place placing os top.upper top.lower && is_index bracket) place top.from))
 
@@ -120,7 +120,7 @@ innermost-grows placing place left (top ∷ os) sign es l = goes_on-grows placin
 
 -- ---- after a comparison
 
--- no part
+-- no node
 pub none : (b : Bool) (place from : ℕ) → b ≡ false → reach_if b place from ≡ 0
 none true place from e = absurd (true≢false e)
 none false place from e = refl
@@ -191,7 +191,7 @@ behind-grows placing place at left os u from last _ es l m = tt
 
 -- ---- after an operand
 
--- what is counted where the operand has been written
+-- what is counted when the operand has been written
 abbrev pub before_operator : Bool → ℕ → List Opened → Upper → Lower → ℕ
 before_operator placing place os u w = brackets_count placing place os + (upper_count place u + lower_count place w)
 
@@ -243,7 +243,7 @@ operator-grows placing place at left os u w q from token es l m =
     let b = primary-settled (is_place placing os u w) place q from in
     weaker placing place _ _ _ (omega arith) (written-grows placing place at left os u w from token (settled q from at es) l m)
 
--- ---- where an operand is to stand
+-- ---- when an operand is to come
 
 pub both_true : (a b : Bool) → (a && b) ≡ true → (a ≡ true) × (b ≡ true)
 both_true true b e = (refl, e)
@@ -265,7 +265,7 @@ bare_test : (place : ℕ) (b : Bool) (from : ℕ) → not b ≡ true → reach_i
 bare_test place true from e = absurd (false≢true e)
 bare_test place false from e = refl
 
--- nothing stands before the operand
+-- nothing is before the operand
 pub fresh_lower-count : (place : ℕ) (w : Lower) → is_fresh_lower w ≡ true → lower_count place w ≡ 0
 fresh_lower-count place w e =
     let a = both_true _ _ e in
@@ -373,7 +373,7 @@ operand-grows placing place at left os u w (t.Keyword word) es l = operand_word-
 operand-grows placing place at left os u w (t.Symbol sign) es l = operand_sign-grows placing place at left os u w sign es l
 operand-grows placing place at left os u w _ es l = tt
 
--- ---- the other places
+-- ---- the other states
 
 is-grows : (placing : Bool) (place at left : ℕ) (os : List Opened) (u : Upper) (from : ℕ) (token : Kind) (es : List Entry)
     → Grows placing place (reading_count placing place (h.AfterIs os u from) + depth place es) (after_is os u from token es)

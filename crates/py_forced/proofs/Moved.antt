@@ -1,4 +1,4 @@
--- One more token of a cell leaves each earlier token in as many parts at least.
+-- One more token of a cell leaves each earlier token in at least as many nodes.
 use Rattle.std.proofs.Common.{◌≡◌, ℕ, ◌+◌, ◌<◌, ◌≤◌, Bool, true, false, ◌&&◌, not, if◌then◌else◌, is_some, is_none, List, [], ◌∷◌, Option, Some, None, refl, arith}
 use Rattle.std.proofs.lemmas.Bool.{false≢true}
 use Rattle.py_token.specs.declared.kinds.Kind.{Kind}
@@ -46,9 +46,9 @@ use Rattle.py_forced.proofs.Counts.{reach, reach_if, span-held, mark-held, upper
 use Rattle.py_forced.proofs.Ended.{settled-ended, primary-settled, sum-ended, compared_count, compared-related, expression-ended}
 use Rattle.py_forced.proofs.Grown.{Grows, none, bare-count, reading-grows}
 
--- ---- where an expression ends
+-- ---- when an expression ends
 
--- the token stands in so many parts at least, if these are written
+-- the token is in at least `before` nodes, if these are written
 abbrev pub Keeps : ℕ → ℕ → Option (List Entry) → Type 0
 Keeps place before None = Unit {0}
 Keeps place before (Some es) = before ≤ depth place es
@@ -87,7 +87,7 @@ ended-keeps placing place at (r.Has os u w q from) es l =
 ended-keeps placing place at (r.Related os u from) es l = behind-keeps placing place at os u from c.Whole es l
 ended-keeps placing place at _ es l = tt
 
--- ---- where a place ends
+-- ---- when a target ends
 
 no_none : {A : Type 0} (x : Option A) → not (is_some x) ≡ is_none x
 no_none None = refl
@@ -124,7 +124,7 @@ placed-keeps place _ es = tt
 
 -- ---- simple statements
 
--- the token stands in so many parts at least, if another token is read
+-- the token is in at least `before` nodes, if another token is read
 abbrev pub Grown : ℕ → ℕ → Step → Type 0
 Grown place before None = Unit {0}
 Grown place before (Some (x, es)) = before ≤ state_count place x + depth place es
@@ -177,7 +177,7 @@ begins-grows place at left os x token es l m = shown-grows place at left os x to
 
 -- ---- a simple statement goes on and ends
 
--- what is written where its expression ends
+-- what is written when its expression ends
 abbrev KeepsValued : ℕ → ℕ → Option (Node × List Entry) → Type 0
 KeepsValued place before None = Unit {0}
 KeepsValued place before (Some (node, es)) = before ≤ depth place es
@@ -213,7 +213,7 @@ ends-grows : (place at left : ℕ) (os : List Outer) (x : Spot) (from before : �
 ends-grows place at left os x from before None l m g = tt
 ends-grows place at left os x from before (Some q) l m g = let a = ended-grows place at left os x q.0 from q.1 l m in omega arith
 
--- only a statement whose expression may be a place is assigned to
+-- only a statement whose expression may be a target is assigned to
 showing-grows : (place : ℕ) (os : List Outer) (x : Spot) (u : Purpose) (from : ℕ) (q : Reading) (es : List Entry) (next : Step)
     → Grown place (simple_count place os x from + (reading_count true place q + depth place es)) next → Grown place (simple_count place os x from + (reading_count (may_place u) place q + depth place es)) (if_showing u next)
 showing-grows place os x purpose.Showing from q es next g = g

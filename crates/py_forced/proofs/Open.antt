@@ -24,7 +24,7 @@ use Rattle.py_forced.proofs.Moved.{Grown, moves-grows}
 use Rattle.py_forced.proofs.Apart.{ends}
 use Rattle.py_forced.proofs.Parts.{parts, parts-shift}
 
--- the parts that count, by what the program holds
+-- the nodes that count, by what the program holds
 pub parts-held : (place : ℕ) (s : m.State) (rest : List Kind) → length rest < place → depth place (parts s rest) ≡ state_count place (held_state s rest) + depth place (written_state s rest [])
 parts-held place s rest l = ap (depth place) (sym (state-open s rest (written_state s rest []))) ∙ state-held place (held_state s rest) (length rest) (written_state s rest []) l
 
@@ -71,7 +71,7 @@ names-at front s e =
     let f = subst (λ o. Follows [] [] (run (length {A = Kind} []) first front []) o) e (run-follows front []) in
     (f.0, f.2)
 
--- in a cell each token before what follows stands as deep at least
+-- in a cell each token before what follows is as deep at least
 pub cell-deeper : (place : ℕ) (front more : List Kind) (s : m.State) (cell : Cell) → m.run start front ≡ Some s → IsCell (front ++ more) cell → length more < place → depth place (parts s more) ≤ depth place (post_cell cell)
 cell-deeper place front more s cell e is l =
     let n = names-at front s e in

@@ -234,7 +234,7 @@ state-open (after_colon os (outer b hd)) g m = outers-open os (outer-apart (oute
 state-open (after_newline os (outer b hd)) g m = let x = beside t.Newline g in outers-open os (outer-apart (outer b hd) x) g (part-moved (head-apart hd x) g m)
 state-open (done c) g m = m
 
--- the parts that count, before these tokens
+-- the nodes that count, before these tokens
 abbrev pub parts : State → List Kind → List Entry
 parts s rest = open_state s rest (written_state s rest [])
 

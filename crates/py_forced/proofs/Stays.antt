@@ -1,4 +1,4 @@
--- Tokens that end what is open leave each earlier token in just as many parts.
+-- Tokens that end what is open leave each earlier token in just as many nodes.
 use Rattle.std.proofs.Common.{◌≡◌, ℕ, ◌+◌, ◌<◌, Bool, true, false, if◌then◌else◌, List, [], ◌∷◌, Some, None, refl, arith}
 use Rattle.py_token.specs.declared.kinds.Kind.{Kind}
 use Rattle.py_token.specs.declared.kinds.Kind.TheVariants as t
@@ -29,7 +29,7 @@ use Rattle.py_forced.proofs.Counts.{reach, behind-none, span-held, mark-held, br
 use Rattle.py_forced.proofs.Ended.{settled_count, settled-ended, or-ended, expression-ended}
 use Rattle.py_forced.proofs.Grown.{not_item, item, before_bracket, none, before_comparison, ended-grows}
 
--- the token stands in just so many parts, if another token is read
+-- the token is in just `before` nodes, if another token is read
 abbrev pub Stays : Bool → ℕ → ℕ → Step → Type 0
 Stays placing place before None = Unit {0}
 Stays placing place before (Some (x, es)) = before ≡ reading_count placing place x + depth place es

@@ -1,4 +1,4 @@
--- What has been read of an expression goes on to a whole one, by tokens that leave each token before them in just as many parts.
+-- What has been read of an expression goes on to a whole one, by tokens that leave each token before them in just as many nodes.
 use Rattle.std.specs.Option.{option_map}
 use Rattle.std.specs.Prelude.{pos}
 use Rattle.std.proofs.Common.{◌≡◌, ℕ, zero, ◌+◌, ◌<◌, Bool, true, false, IsTrue, ◌&&◌, not, List, [], ◌∷◌, length, Option, Some, None, refl, ap, ◌∙◌, subst, arith}
@@ -25,7 +25,7 @@ use Rattle.py_forced.proofs.Stays.{Stays, settled-primary, no_place, Mild, readi
 
 -- ---- one token
 
--- it leaves each token before it in just as many parts
+-- it leaves each token before it in just as many nodes
 abbrev pub Exact : Bool → Reading → Kind → Reading → Type 0
 Exact placing r token s = (rest : List Kind) (es : List Entry) (place : ℕ) → length (token ∷ rest) < place
     → reading_count placing place (held r (token ∷ rest)) + depth place (written r (token ∷ rest) es) ≡ reading_count placing place (held s rest) + depth place (written s rest es)
@@ -98,7 +98,7 @@ tested_mild placing os ps b o a n w p rest =
 
 -- ---- an `if` gets its `else`
 
--- the choices, and what stands before the last operand
+-- the choices, and what is before the last operand
 abbrev chosen : List Picked → Ors → Option Ors → Option Ands → ℕ → Compares → Upper
 chosen ps b o a n c = upper (picked b (add_or o (add_and a (add_nots n (compared c)))) ∷ ps) None None None zero
 

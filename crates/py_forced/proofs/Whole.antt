@@ -1,4 +1,4 @@
--- What is open is all that is forced: one cell that begins so has no other part that holds a token which has been read.
+-- What is open is all that is forced: one cell that begins so has no other node that holds a token which has been read.
 use Rattle.std.specs.FinMap as finite
 use Rattle.std.specs.Prelude.{pos}
 use Rattle.std.proofs.Common.{◌≡◌, ℕ, ◌+◌, ◌-◌, Bool, true, false, IsTrue, List, [], ◌∷◌, ◌++◌, length, Option, Some, None, refl, ap, ◌∙◌, sym, subst, arith}
@@ -40,7 +40,7 @@ use Rattle.py_forced.proofs.Completed.{Ends, back, direct, done-ends, line-ends,
 place_is_bare : (u : Upper_) (w : Lower_) → is_place true [] u w ≡ is_bare u w
 place_is_bare u w = rw (bare_lower w) refl
 
--- something stands before the operand
+-- something is before the operand
 shown_settles : (u : Upper) (w : Lower) (p : Primary) → bare u w ≡ false → (rest : List Kind) → SettlesAt true (held (has [] u w p) rest)
 shown_settles u w p e rest =
     let tokens = spell_primary p rest in

@@ -224,7 +224,7 @@ lower-open (lower r a m ss) h g f =
     let y = scaled-apart m x in
     related-open r (added-apart a y) g (added-open a y g (scaled-open m x g (signs-open ss h g f)))
 
--- a part or none
+-- a node or none
 if-moved : {j k : ℕ} (b : Bool) {es ds fs gs : List Entry} → Moved j k es ds → Moved j k fs gs → Moved j k (if b then es else fs) (if b then ds else gs)
 if-moved true m f = m
 if-moved false m f = f

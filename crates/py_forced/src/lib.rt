@@ -1,4 +1,4 @@
-//! That the parts which are open where a text fails are those that its tokens force.
+//! That the nodes which are open where a text fails are those that its tokens force.
 #![tactic(auto)]
 
 pub mod laws;

@@ -69,7 +69,7 @@ narrow-ends (after_not os u c) h = narrow_before (spell_reading (after_not os u 
 narrow-ends (after_dot os u w p) h = narrow_before (spell_reading (after_dot os u w p)) (λ rest. t.Name (95 ∷ []) ∷ open_parenthesis ∷ close_parenthesis ∷ rest) (primary-narrow os u w (call (method p (95 ∷ [])) no_args) h)
 narrow-ends (after_method os u w p n) h = narrow_before (spell_reading (after_method os u w p n)) (λ rest. open_parenthesis ∷ close_parenthesis ∷ rest) (primary-narrow os u w (call (method p n) no_args) h)
 
--- ---- a name that hasn't stood
+-- ---- a name that is new
 
 abbrev underscores : ℕ → List ℕ
 underscores zero = []

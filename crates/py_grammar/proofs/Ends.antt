@@ -23,7 +23,7 @@ upper-ends (upper ps None o a n) c = record { more = λ rest. rest; made = add_p
 upper-ends (upper ps (Some b) o a n) c =
     record { more = λ rest. else_word ∷ t.Number (pos 0) ∷ rest; made = add_picked ps (conditional b (add_or o (add_and a (add_nots n (compared c)))) nought); spelled = λ rest. sym (chosen-spelled ps b o a n c nought rest) }
 
--- what stands in a bracket ends, and the bracket with it
+-- what is in a bracket ends, and the bracket with it
 pub record Closes (b : Bracket) (e : Expression) : Type 0 where
   pub more : List Kind → List Kind
   pub made : Primary

@@ -118,7 +118,7 @@ same_param : stops (def_word ∷ t.Name f ∷ open_parenthesis ∷ t.Name a ∷ 
 unfolding stops stops_from
 same_param = refl
 
--- break, outside a loop; return, outside a function; del a +, which is no place
+-- break, outside a loop; return, outside a function; del a +, which is no target
 break_alone : stops (break_word ∷ []) ≡ Some (0, None)
 unfolding stops stops_from
 break_alone = refl

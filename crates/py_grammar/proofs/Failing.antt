@@ -44,7 +44,7 @@ slice_get-joined : (before : List Kind) (t : Kind) (ts : List Kind) → slice_ge
 slice_get-joined [] t ts = refl
 slice_get-joined (x ∷ xs) t ts = slice_get-joined xs t ts
 
--- these tokens have been read where they lead
+-- these tokens have been read in the state that they lead to
 pub stands_at : (ts : List Kind) (s : State) → run start ts ≡ Some s → StandsAt ts s
 stands_at ts s e = let l = led ts start s (tt, tt) e in l.spelled
 
@@ -91,7 +91,7 @@ fails_on : (tokens : List Kind) (o : Option State) → run start tokens ≡ o �
 fails_on tokens None e n = find tokens tokens [] start refl refl e
 fails_on tokens (Some s) e n = absurd (n (viable tokens s e))
 
--- where no cell begins with the tokens, one of them fails
+-- if no cell begins with the tokens, one of them fails
 pub some_fails : (tokens : List Kind) → (BeginsCell tokens → ⊥) → SomeFailure tokens
 some_fails tokens n = fails_on tokens (run start tokens) refl n
 
@@ -163,7 +163,7 @@ take_past [] (suc place) h = refl
 take_past (x ∷ xs) zero h = cc
 take_past (x ∷ xs) (suc place) h = ap (◌∷◌ x) (take_past xs place h)
 
--- where the machine stands at a token, and that it refuses it
+-- the machine is at a token, and it refuses it
 pub record StopsAt (tokens : List Kind) (place : ℕ) : Type 0 where
   pub open_forms : State
   pub token : Kind

@@ -1,4 +1,4 @@
--- The rules on what may stand where hold of all that has been read.
+-- The rules on what may be where hold of all that has been read.
 use Rattle.std.proofs.Common.{◌≡◌, ℕ, Bool, true, false, IsTrue, if◌then◌else◌, List, [], ◌∷◌, ◌++◌, Option, Some, None, refl, ap, ◌∙◌, sym}
 use Rattle.py_token.specs.declared.kinds.Kind.{Kind}
 use Rattle.py_token.specs.declared.kinds.Kind.TheVariants as t
@@ -241,7 +241,7 @@ on_newline-keeps : (os : List Outer) (o : Outer) (k : Kind) → state_stands (af
 on_newline-keeps os (outer b hd) t.Indent h = (h, tt)
 on_newline-keeps os o _ h = tt
 
--- the rules on what may stand where hold of all that has been read
+-- the rules on what may be where hold of all that has been read
 pub step-keeps : (s : State) (t : Kind) → state_stands s → Keeps (step s t)
 step-keeps (line os before) t h = on_line-keeps os before t h.0 h.1
 step-keeps (in_simple os at u r) t h = on_simple-keeps os at u r t h.0 h.1 h.2

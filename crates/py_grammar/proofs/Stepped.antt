@@ -66,7 +66,7 @@ deleted-spelled : (to : Option Target) (h : List Kind → List Kind) → SpellsP
 deleted-spelled None h k = tt
 deleted-spelled (Some to) h k = λ rest. ap (◌∷◌ del_word) (k rest)
 
--- nothing stands before
+-- nothing is before
 bare_upper : (ps : List Picked) (test o : Option Ors) (a : Option Ands) (n : ℕ) → IsTrue (no_upper_part (upper ps test o a n)) → upper ps test o a n ≡ no_upper
 bare_upper [] None None None zero h = refl
 bare_upper _ test o a (suc n) h = absurd (false≢true h)

@@ -27,7 +27,7 @@ pub led : (ts : List Kind) (s u : State) → state_stands s → run s ts ≡ Som
 led [] s u h e = let same : s ≡ u = cc in record { spelled = λ rest. sym (ap (λ x. spell_state x rest) same); stands = subst state_stands same h }
 led (t ∷ ts) s u h e = led_on ts s t u (step s t) (λ v. led ts v u) (step-added s t) (step-keeps s t h) e
 
--- a run over two parts
+-- a run over two lists of tokens
 append_on : (ts us : List Kind) (u : State) (o : Option State) → ((v : State) → run v ts ≡ Some u → run v (ts ++ us) ≡ run u us) → then_run ts o ≡ Some u → then_run (ts ++ us) o ≡ run u us
 append_on ts us u None f e = cc
 append_on ts us u (Some v) f e = f v e

@@ -35,7 +35,7 @@ first_of (Some c) other = Some c
 
 -- ---- after a whole expression
 
--- `,` at statement level or in parentheses, or after what stands first in braces
+-- `,` at statement level or in parentheses, or after the first expression in braces
 abbrev pub comma_begins : List Opened → Option Expression → Option Construct
 comma_begins [] (Some a) = Some Tuple
 comma_begins (opened u w in_group ∷ os) (Some a) = Some Tuple
@@ -48,7 +48,7 @@ for_begins (opened u w (in_display es) ∷ os) (Some a) = Some Comprehension
 for_begins (opened u w (in_call f es) ∷ os) (Some a) = Some Comprehension
 for_begins _ _ = None
 
--- `}` after what stands first in braces
+-- `}` after the first expression in braces
 abbrev pub brace_begins : List Opened → Option Expression → Option Construct
 brace_begins (opened u w (in_dict None) ∷ os) (Some a) = Some Set
 brace_begins _ _ = None
@@ -102,7 +102,7 @@ outside_reading (after_is_not os u c) t = not_none t
 outside_reading (after_method os u w p n) t = no_call t
 outside_reading _ t = None
 
--- `=` after `place = expression`
+-- `=` after `target = expression`
 abbrev pub chained_by : Purpose → Option Expression → Option Construct
 chained_by (assigning to) (Some a) = Some ChainedAssignment
 chained_by _ _ = None
@@ -142,7 +142,7 @@ outside_state (has_params before n ns) t = default_at t
 outside_state (after_colon os o) t = inline_function t
 outside_state _ t = None
 
--- the construct outside the grammar that the token begins where these forms are open, if any
+-- the construct outside the grammar that the token begins when these forms are open, if any
 abbrev pub outside : State → Kind → Option Construct
 outside s t = first_of (ruleless t) (outside_state s t)
 

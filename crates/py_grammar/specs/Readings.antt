@@ -5,29 +5,29 @@ use Rattle.py_token.specs.declared.kinds.Kind.TheVariants as t
 use Rattle.py_grammar.specs.Words.{and_word, or_word, not_word, if_word, else_word, in_word, is_word, none_word, true_word, false_word, equal_sign, not_equal_sign, at_most_sign, at_least_sign, floor_sign, plus_sign, minus_sign, times_sign, mod_sign, less_sign, more_sign, open_parenthesis, close_parenthesis, open_bracket, close_bracket, open_brace, close_brace, colon, comma, dot}
 use Rattle.py_grammar.specs.Expressions.{Expression, plain, conditional, Ors, ors_one, ors_more, Ands, ands_one, ands_more, Negation, compared, negated, Compares, compares_one, compares_more, compares_none, compares_not_none, Relational, equal, not_equal, less, at_most, greater, at_least, within, not_within, Sums, sums_one, sums_more, Additive, plus, minus, Products, products_one, products_more, Multiplicative, times, floor, modulo, Signed, unsigned, signed, Primary, name, number, text, nothing, truth, falsity, group, display, dict, call, index, slice, Callee, function, method, Bound, unbounded, bounded, Args, no_args, args, args_comma, Elements, elements_one, elements_more, Entries, no_entries, entries, entries_comma, Pairs, pairs_one, pairs_more}
 
--- ---- an expression up to where an operand is to stand
+-- ---- an expression up to where an operand is to come
 
--- `a if b else`, where what stands after it is to come
+-- `a if b else`, when what is after it is to come
 pub data Picked : Type 0 where
   picked : Ors → Ors → Picked
 
--- the choices so far, the innermost first; `a if` while its test is read; what stands before `or` and `and`; `not`s
+-- the choices so far, the innermost first; `a if` while its test is read; what is before `or` and `and`; `not`s
 pub data Upper : Type 0 where
   upper : List Picked → Option Ors → Option Ors → Option Ands → ℕ → Upper
 
--- what stands before a relation
+-- what is before a relation
 pub data Related : Type 0 where
   related : Compares → Relational → Related
 
--- what stands before a sign of a sum
+-- what is before a sign of a sum
 pub data Added : Type 0 where
   added : Sums → Additive → Added
 
--- what stands before a sign of a product
+-- what is before a sign of a product
 pub data Scaled : Type 0 where
   scaled : Products → Multiplicative → Scaled
 
--- what stands before a relation, a sum's sign and a product's, and the signs of the operand, the innermost first
+-- what is before a relation, a sum's sign and a product's, and the signs of the operand, the innermost first
 pub data Lower : Type 0 where
   lower : Option Related → Option Added → Option Scaled → List Additive → Lower
 
@@ -39,7 +39,7 @@ no_lower = lower None None None []
 
 -- ---- open brackets
 
--- an open bracket, and what stands directly before it and in it
+-- an open bracket, and what is directly before it and in it
 pub data Bracket : Type 0 where
   in_group : Bracket
   in_display : Option Elements → Bracket
@@ -223,9 +223,9 @@ operator os u w p floor_sign = Some (scale os u w p floor)
 operator os u w p mod_sign = Some (scale os u w p modulo)
 operator os u w p t = behind os u (compares_of w p) t
 
--- ---- one more token where an operand is to stand
+-- ---- one more token when an operand is to come
 
--- where nothing of the expression has been read: a bracket ends without it
+-- when nothing of the expression has been read, a bracket ends without it
 abbrev pub close_parenthesis_at : List Opened → Option Reading
 close_parenthesis_at (opened u w (in_call f es) ∷ os) = Some (has os u w (call f (args_of es)))
 close_parenthesis_at _ = None
@@ -247,7 +247,7 @@ abbrev pub if_nothing : Upper → Lower → Option Reading → Option Reading
 if_nothing (upper [] None None None zero) (lower None None None []) r = r
 if_nothing _ _ r = None
 
--- a `not` stands where a comparison may begin
+-- a `not` where a comparison may begin
 abbrev pub deny : List Opened → Upper → Lower → Option Reading
 deny os (upper ps test o a n) (lower None None None []) = Some (wants os (upper ps test o a (suc n)) no_lower)
 deny os _ _ = None
@@ -274,7 +274,7 @@ operand os u w close_brace = if_nothing u w (close_brace_at os)
 operand os u w colon = if_nothing u w (colon_at os)
 operand os u w _ = None
 
--- ---- the other places
+-- ---- the other states
 
 abbrev pub is_what : List Opened → Upper → Compares → Kind → Option Reading
 is_what os u c none_word = Some (has_none os u c)
@@ -309,7 +309,7 @@ read (after_not os u c) t = not_what os u c t
 read (after_dot os u w p) t = dot_what os u w p t
 read (after_method os u w p n) t = method_what os u w p n t
 
--- the expression, where it may end
+-- the expression, if it may end
 abbrev pub whole : Reading → Option Expression
 whole (has [] u w p) = expression_of u (compares_of w p)
 whole (has_none [] u c) = expression_of u (compares_none c)
@@ -336,11 +336,11 @@ no_upper_part (upper ps test o a n) = is_zero n && (is_none a && (is_none o && (
 abbrev pub no_lower_part : Lower → Bool
 no_lower_part (lower r a m signs) = is_empty signs && (is_none m && (is_none a && is_none r))
 
--- nothing stands before the operand
+-- nothing is before the operand
 abbrev pub bare : Upper → Lower → Bool
 bare u w = no_lower_part w && no_upper_part u
 
--- nothing stands before what stands outside all brackets
+-- nothing is before what is outside all brackets
 abbrev pub bare_below : List Opened → Bool → Bool
 bare_below [] b = b
 bare_below (opened u w k ∷ os) b = bare_below os (bare u w)

@@ -1,4 +1,4 @@
--- The grammar of statements and cells, what each form spells, and what may stand where.
+-- The grammar of statements and cells, what each form spells, and what may be where.
 use Rattle.std.specs.Prelude.{◌≡◌, ◌+◌, ℕ, Bool, true, false, IsTrue, List, [], ◌∷◌, ◌++◌, take, Option, Some, None, not, nat_eq, ◌&&◌}
 use Rattle.py_token.specs.declared.kinds.Kind.{Kind}
 use Rattle.py_token.specs.declared.kinds.Kind.TheVariants as t
@@ -32,7 +32,8 @@ pub data Word : Type 0 where
   break_ : Word
   continue_ : Word
 
--- "pass" | "break" | "continue" | "return" [ expression ] | "global" names | "del" place | place "=" expression | place augmentation expression | expression
+-- "pass" | "break" | "continue" | "return" [ expression ] | "global" names | "del" target
+-- | target "=" expression | target augmentation expression | expression
 pub data Simple : Type 0 where
   word : Word → Simple
   return_ : Simple
@@ -146,9 +147,9 @@ abbrev mutual
   spell_statements (statements_one s) rest = spell_statement s rest
   spell_statements (statements_more ss s) rest = spell_statements ss (spell_statement s rest)
 
--- ---- what may stand where
+-- ---- what may be where
 
--- where a statement stands: at the top of the cell, in a function, in a loop of the same function or cell
+-- where a statement is: at the top of the cell, in a function, in a loop of the same function or cell
 pub record Around : Type 0 where
   pub top : Bool
   pub in_function : Bool
@@ -157,7 +158,7 @@ pub record Around : Type 0 where
 abbrev pub outside_all : Around
 outside_all = record { top = true; in_function = false; in_loop = false }
 
--- where the block of such a head stands
+-- where the block of such a head is
 abbrev pub inside : Head → Around → Around
 inside (choose c) a = record { top = false; in_function = a.in_function; in_loop = a.in_loop }
 inside (otherwise bs) a = record { top = false; in_function = a.in_function; in_loop = a.in_loop }

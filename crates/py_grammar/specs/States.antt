@@ -8,11 +8,11 @@ use Rattle.py_grammar.specs.Readings.{Upper, upper, Lower, lower, Reading, wants
 use Rattle.py_grammar.specs.Open.{spell_reading}
 use Rattle.py_grammar.specs.Statements.{Target, to_name, to_item, Augmentation, by_plus, by_minus, by_times, by_floor, by_modulo, Names, names_one, names_more, Word, pass_, break_, continue_, Simple, word, return_, give, declare, delete, assign, augment, show, spell_target, augmentation_sign, spell_names, keyword, Params, no_params, params, params_comma, Statement, simple, compound, Head, choose, otherwise, while_true, for_each, define, if_true, else_if, Branches, branches, Block, inline, indented, Statements, statements_one, statements_more, spell_params, spell_head, spell_branches, Around, outside_all, inside, hear, is_new, names_new, params_new, word_stands, head_stands, branches_stand, spell_front, front_stands, cell_stands}
 
--- a compound statement whose block is open: what stands before it in its own block, and its head
+-- a compound statement whose block is open: what is before it in its own block, and its head
 pub data Outer : Type 0 where
   outer : Option Statements → Head → Outer
 
--- where a simple statement stands: on a line of its own after these, or after the `:` of a head
+-- where a simple statement is: on a line of its own after these, or after the `:` of a head
 pub data Spot : Type 0 where
   own : Option Statements → Spot
   behind_head : Outer → Spot
@@ -32,7 +32,7 @@ pub data Lead : Type 0 where
   lead_while : Lead
   lead_for : List ℕ → Lead
 
--- what has been read of a cell; a function stands only at its top, so its head has nothing around it
+-- what has been read of a cell; a function is only at its top, so its head has nothing around it
 pub data State : Type 0 where
   line : List Outer → Option Statements → State
   in_simple : List Outer → Spot → Purpose → Reading → State
@@ -55,7 +55,7 @@ pub data State : Type 0 where
 abbrev pub start : State
 start = line [] None
 
--- ---- where it stands
+-- ---- where it is
 
 abbrev pub around : List Outer → Around
 around [] = outside_all
@@ -92,7 +92,7 @@ abbrev pub ended : List Outer → Spot → Simple → State
 ended os (own before) s = line os (add_statement before (simple s))
 ended os (behind_head o) s = line os (close o (inline s))
 
--- a place, where nothing stands before it
+-- a target, if nothing is before it
 abbrev pub place_of : Upper → Lower → Primary → Option Target
 place_of (upper [] None None None zero) (lower None None None []) (name n) = Some (to_name n)
 place_of (upper [] None None None zero) (lower None None None []) (index p a) = Some (to_item p a)
@@ -121,7 +121,7 @@ abbrev pub if_deleted : Option Target → Option Simple
 if_deleted None = None
 if_deleted (Some to) = Some (delete to)
 
--- the simple statement, where it may end
+-- the simple statement, if it may end
 abbrev pub finished : Purpose → Reading → Option Simple
 finished showing r = if_made show (whole r)
 finished giving r = if is_begun r then Some return_ else if_made give (whole r)
@@ -135,7 +135,7 @@ head_of (lead_elif bs) a = choose (else_if bs a)
 head_of lead_while a = while_true a
 head_of (lead_for n) a = for_each n a
 
--- the branches that stand last, and what stands before them
+-- the branches that are last, and what is before them
 pub data Continued : Type 0 where
   continued : Option Statements → Branches → Continued
 
@@ -364,11 +364,11 @@ spell_state (after_colon os o) rest = spell_outers os (spell_outer o rest)
 spell_state (after_newline os o) rest = spell_outers os (spell_outer o (t.Newline ∷ rest))
 spell_state (done c) rest = spell_front c (t.End ∷ rest)
 
--- these tokens have been read where these forms are open
+-- these tokens have been read when these forms are open
 abbrev pub StandsAt : List Kind → State → Type 0
 StandsAt tokens s = (rest : List Kind) → spell_state s rest ≡ tokens ++ rest
 
--- ---- what is open stands where it may
+-- ---- what is open is where it may be
 
 abbrev pub outers_stand : List Outer → Type 0
 outers_stand [] = Unit {0}

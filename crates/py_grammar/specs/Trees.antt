@@ -1,4 +1,4 @@
--- The tree that a form stands for: one operand alone is no chain, and parentheses and trailing commas leave no node.
+-- The tree that a form means: one operand alone is no chain, and parentheses and trailing commas leave no node.
 use Rattle.std.specs.Prelude.{◌≡◌, ℕ, Bool, true, false, List, [], ◌∷◌, ◌++◌, length, Option, Some, None}
 use Rattle.py_token.specs.declared.kinds.Kind.{Kind}
 use Rattle.py_tree.specs.declared.expressions.Expr.{Expr}
@@ -226,7 +226,7 @@ abbrev mutual
 abbrev pub Source : Type 0
 Source = ℕ → ℕ → List ℕ
 
--- the trees at the top of a cell, where each function has the text of its tokens
+-- the trees at the top of a cell, in which each function has the text of its tokens
 abbrev pub tree_top : Source → Statements → List Stmt
 tree_top source (statements_one x) = tree_statement (source 0 (length (spell_statement x []))) x ∷ []
 tree_top source (statements_more xs x) = tree_top source xs ++ tree_statement (source (length (spell_statements xs [])) (length (spell_statements xs (spell_statement x [])))) x ∷ []

@@ -1,6 +1,6 @@
 use py_token::Keyword;
 
-/// A construct of Python outside the grammar, which a token begins where the grammar has nothing for it.
+/// A construct of Python outside the grammar. It begins at a token for which the grammar has nothing.
 #[derive(Clone, Copy, Debug, PartialEq, Eq)]
 pub enum Construct {
     /// A keyword that no rule has.

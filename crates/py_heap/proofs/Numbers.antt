@@ -1,4 +1,4 @@
--- Lists of numbers: which numbers they have, and where each stands first.
+-- Lists of numbers: which numbers they have, and where each comes first.
 use Rattle.std.proofs.Common.{◌≡◌, ◌≢◌, ℕ, zero, suc, ◌<◌, ◌≤◌, ◌==◌, ◌||◌, ◌&&◌, not, Bool, true, false, List, [], ◌∷◌, ◌++◌, length, get_or, take, drop, refl, sym, ap, ◌∙◌, subst, inl, inr, arith}
 use Rattle.std.specs.Prelude.{Contains, All, AllPairs, filter}
 use Rattle.std.specs.List.{flat_map}
@@ -53,7 +53,7 @@ All-flat_map_at P f [] i d l a = absurd (omega arith)
 All-flat_map_at P f (x ∷ xs) zero d l a = All-append_left P (f x) (flat_map f xs) a
 All-flat_map_at P f (x ∷ xs) (suc i) d l a = All-flat_map_at P f xs i d (omega arith) (All-append_right P (f x) (flat_map f xs) a)
 
--- ---- each number where it stands first
+-- ---- each number where it comes first
 
 module _ {X : Type 0} where
   filter-filter : (p q : X → Bool) (xs : List X) → filter p (filter q xs) ≡ filter (λ x. q x && p x) xs
@@ -81,7 +81,7 @@ neither true false = refl
 neither false true = refl
 neither false false = refl
 
--- n is in the list that passes p where it passes and was in the list
+-- n is in the list of those that pass p if it passes p and was in the list
 has-filter : (p : ℕ → Bool) (ns : List ℕ) (n : ℕ) → has (filter p ns) n ≡ (p n && has ns n)
 has-filter p [] n = elim (cases_Bool (p n)) [ inl e ↦ rw e refl | inr e ↦ rw e refl ]
 has-filter p (m ∷ ns) n =
@@ -108,7 +108,7 @@ has-firsts (m ∷ ns) n =
       | inr d ↦ ap (λ b. (m == n) || b) (has-filter (λ k. not (k == m)) (firsts ns) n ∙ rw (ne_eqb n m (λ e. d (sym e))) r)
     ]
 
--- what is noted after a list: each number that it lacks, where it stands first
+-- what is noted after a list: each number that it lacks, where it comes first
 pub all_noted_is : (acc ns : List ℕ) → all_noted acc ns ≡ acc ++ filter (λ m. not (has acc m)) (firsts ns)
 all_noted_is acc [] = sym (append-nil acc)
 all_noted_is acc (n ∷ ns) =

@@ -37,7 +37,7 @@ module _ (s : State) (names : List (List ℕ)) where
       let same : take m (take k found) ≡ early found k = take-take m k found l ∙ (begins_so found k m e (omega arith) ∙ take_all m (early found k) (omega arith)) in
       has_of_front (take k found) m at (ap (λ (ns : List ℕ). has ns at) same ∙ (has-firsts (met s names (take k found)) at ∙ h))
 
-  -- no later place has what a front has
+  -- no number of a front comes again after it
   not_again : (found : List ℕ) (k : ℕ) → found ≡ firsts (met s names found) → k < length found → has (take k found) (get_or found k 0) ≡ true → ⊥
   not_again found k e l h =
       let x : ℕ = get_or found k 0 in

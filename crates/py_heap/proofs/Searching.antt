@@ -1,4 +1,4 @@
--- A search: what it has found when the objects at the first places of what it found were looked into.
+-- A search: what it has found when the first of the objects that it found were looked into.
 use Rattle.std.proofs.Common.{◌≡◌, ◌≢◌, ℕ, ◌+◌, ◌<◌, ◌≤◌, ◌↔◌, true, List, [], ◌∷◌, ◌++◌, length, get_or, take, sym, ap, ◌∙◌, subst, arith}
 use Rattle.std.specs.Prelude.{Contains, All, AllPairs, Some, slice_get}
 use Rattle.std.specs.List.{flat_map}
@@ -17,7 +17,7 @@ use Rattle.py_heap.specs.Reaching.Reach.{named, held}
 use Rattle.py_heap.specs.Searches.{has, noted, all_noted}
 use Rattle.py_heap.proofs.Numbers.{has_of_contains, contains_of_has, has-append, has-firsts, firsts_are, front_stays, All-all_noted, firsts_apart, All-flat_map, All-flat_map_at, has-flat_map}
 
--- what was found is what is met first in the names and in the objects at the first `next` places
+-- what was found is what is met first in the names and in the first `next` of the objects found
 pub record FoundSo (s : State) (names : List (List ℕ)) (found : List ℕ) (next : ℕ) : Type 0 where
   pub within : next ≤ length found
   pub order : found ≡ all_noted [] (met s names (take next found))
@@ -37,7 +37,7 @@ found_first s names found e =
       sound = subst (All (Reach s names)) (sym e) (All-all_noted (Reach s names) [] roots (All-nil (Reach s names)) (named_all s names));
     }
 
--- to look into the object at the next place meets its references after the others
+-- a look into the next object found meets its references after the others
 met_more : (s : State) (names : List (List ℕ)) (found : List ℕ) (next : ℕ) → next < length found
     → met s names (take next found) ++ refs_at s (get_or found next 0) ≡ met s names (take (next + 1) found)
 met_more s names found next l =

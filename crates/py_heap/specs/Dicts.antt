@@ -17,7 +17,7 @@ abbrev pub value_under : Pairs → Key → Option Value
 value_under [] key = None
 value_under (pair ∷ pairs) key = cond (same_key key pair.0) (Some pair.1) (value_under pairs key)
 
--- with a value under a key: a key that is there keeps its place and its spelling, and a new one goes last
+-- with a value under a key: a key that is there keeps its position and its spelling, and a new one goes last
 abbrev pub with_pair : Pairs → Key → Value → Pairs
 with_pair [] key value = (key, value) ∷ []
 with_pair (pair ∷ pairs) key value = cond (same_key key pair.0) ((pair.0, value) ∷ pairs) (pair ∷ with_pair pairs key value)

@@ -29,7 +29,7 @@ pub record IsValid (IsOfKind : Def → Type 0) (s : State) : Type 0 where
   pub objects : All (IsValidObject IsOfKind) s.heap
   pub meter : s.meter ≤ meter_limit
 
--- the same, where the kind is told by a test
+-- the same, with the kind told by a test
 abbrev pub IsValidBy : (Def → Bool) → State → Type 0
 IsValidBy test = IsValid (λ def. IsTrue (test def))
 

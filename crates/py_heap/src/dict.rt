@@ -8,7 +8,7 @@ use std::alloc::{AllocError, Global};
 use std::marker::Model;
 
 /// The pairs of a dict, which contracts see as the list of them, in the order in which their keys came. No two of its keys
-/// are the same, where True is 1 and False is 0.
+/// are the same, with True as 1 and False as 0.
 #[derive(Drop)]
 pub struct Dict {
     pairs: IndexMap<Key, Value>,
@@ -61,7 +61,7 @@ impl Dict {
         self.pairs.get(key)
     }
 
-    /// The pair at that place in the order, counted from 0.
+    /// The pair at that index in the order, counted from 0.
     pub fn pair_at(&self, index: usize) -> (&Key, &Value)
         requires { index < length self.now }
         ensures { slice_get self.now index ≡ Some (result.0.now, result.1.now) }
@@ -72,7 +72,7 @@ impl Dict {
         }
     }
 
-    /// Puts a value under a key. A key that is there keeps its place and its spelling; a new one goes last. After an error
+    /// Puts a value under a key. A key that is there keeps its position and its spelling; a new one goes last. After an error
     /// nothing is changed.
     pub fn put(&mut self, key: Key, value: Value) -> Result<(), AllocError>
         ensures ok { OnOk result (self.new ≡ with_pair self.old key value) }

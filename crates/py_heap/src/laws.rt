@@ -14,7 +14,7 @@ ghost use Rattle.py_heap.specs.Valid.{IsValidBy, IsValidObjectBy};
 
 use crate::meter::METER_LIMIT;
 
-/// No operation makes a state that names an address without an object, where what it puts in names none.
+/// No operation makes a state that names an address without an object, if what it puts in names none.
 pub fn operations_keep_closed()
     ensures new { IsClosed empty }
     ensures set_count { (s : State) (n : ℕ) → IsClosed s → IsClosed (record s { count = n }) }

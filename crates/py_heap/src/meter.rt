@@ -44,7 +44,7 @@ impl Model for Meter {
 }
 
 impl Meter {
-    /// A meter with so many units.
+    /// A meter with this many units.
     pub fn new(units: u32) -> Meter
         requires { units ≤ METER_LIMIT }
         ensures { result ≡ units }

@@ -119,7 +119,7 @@ impl State {
         heap.objects[at as usize].push_item(value)
     }
 
-    /// Puts items at the end of the list at an address. After an error the state stands for nothing and is only dropped.
+    /// Puts items at the end of the list at an address. After an error the state means nothing and may only be dropped.
     pub fn extend_items(&mut self, at: u32, more: Items<Value>) -> Result<(), AllocError>
         requires { IsListAt self.old.heap at }
         ensures { OnOk result (self.new ≡ spec.with_items self.old at (items_at self.old.heap at ++ more)) }
@@ -128,7 +128,7 @@ impl State {
         heap.objects[at as usize].extend_items(more)
     }
 
-    /// Puts an item into the list at an address, at that place; those from there on move up. After an error nothing is
+    /// Puts an item into the list at an address, at that index; those from there on move up. After an error nothing is
     /// changed.
     pub fn insert_item(&mut self, at: u32, index: u32, value: Value) -> Result<(), AllocError>
         requires list { IsListAt self.old.heap at }
@@ -151,8 +151,8 @@ impl State {
         heap.objects[at as usize].remove_item(index)
     }
 
-    /// Puts a value under a key of the dict at an address. A key that is there keeps its place and its spelling; a new one goes
-    /// last. After an error nothing is changed.
+    /// Puts a value under a key of the dict at an address. A key that is there keeps its position and its spelling; a new one
+    /// goes last. After an error nothing is changed.
     pub fn put_key(&mut self, at: u32, key: Key, value: Value) -> Result<(), AllocError>
         requires { IsDictAt self.old.heap at }
         ensures ok { OnOk result (self.new ≡ spec.with_pairs self.old at (with_pair (pairs_at self.old.heap at) key value)) }
@@ -182,7 +182,7 @@ impl State {
         heap.objects[at as usize].clear();
     }
 
-    /// Counts one more use of the handle at an address, and answers how many there are now. The count stands still at its
+    /// Counts one more use of the handle at an address, and answers how many there are now. The count doesn't rise past its
     /// type's end.
     pub fn raise_uses(&mut self, at: u32) -> u64
         requires { IsHandleAt self.old.heap at }

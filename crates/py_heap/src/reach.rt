@@ -24,7 +24,7 @@ impl State {
         Ok(())
     }
 
-    /// Notes the addresses in the object whose address was found at that place.
+    /// Notes the addresses in the object whose address was found at that index.
     fn note_from(&self, search: &mut Search, index: usize) -> Result<(), AllocError>
         requires closed { IsClosed self.now }
         requires room { vec_len search.old.marks ≡ length self.now.heap }
@@ -37,7 +37,7 @@ impl State {
     }
 
     /// The addresses of the objects that these names reach: those in the values of the names and, with each address, those
-    /// in its object. Each stands once, in the order in which they are reached first: name by name, and then object by
+    /// in its object. Each is there once, in the order in which they are reached first: name by name, and then object by
     /// object in that same order.
     pub fn reach(&self, alloc: Global, names: &[Text]) -> Result<Items<u32>, AllocError>
         requires { IsClosed self.now }
@@ -45,7 +45,7 @@ impl State {
         ensures live { IfOk result (λ found. AreLive self.now.heap found) }
         ensures distinct { IfOk result (λ found. AllPairs (λ a b. a ≢ b) found) }
 
-        // Each address stands where it is met first.
+        // Each address is where it is met first.
         ensures order { IfOk result (λ found. found ≡ firsts (met self.now names.now found)) }
     {
         let mut search = Search::new(alloc, self.len())?;

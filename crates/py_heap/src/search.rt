@@ -18,7 +18,7 @@ pub(crate) struct Search {
 }
 
 impl Search {
-    /// A search among so many objects that has found none.
+    /// A search among `room` objects that has found none.
     pub(crate) fn new(alloc: Global, room: usize) -> Result<Search, AllocError>
         ensures found { IfOk result (λ search. search.found ≡ []) }
         ensures room { IfOk result (λ search. vec_len search.marks ≡ room) }
@@ -37,7 +37,7 @@ impl Search {
         self.found.len()
     }
 
-    /// The address that was found at that place.
+    /// The address that was found at that index.
     pub(crate) fn at(&self, index: usize) -> u32
         requires { index < length self.now.found }
         ensures value { slice_get self.now.found index ≡ Some result }

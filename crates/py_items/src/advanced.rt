@@ -73,7 +73,7 @@ fn is_before(number: &i128, stop: &i128, step: &i128) -> bool
     }
 }
 
-/// The number after a step, if it has a place in 128 bits.
+/// The number after a step, if it fits in 128 bits.
 fn following(number: &i128, step: &i128) -> Option<i128>
     ensures { result ≡ spec.following number.now step.now }
 {

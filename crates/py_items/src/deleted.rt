@@ -113,7 +113,7 @@ fn not_deleted(alloc: Global, machine: &Machine, container: &Value) -> Result<()
     Err(Fault::Raised(no_item_deletion(alloc, kind)?))
 }
 
-/// The item of a value at an index or under a key is there no longer; the others keep their order. An IndexError past the ends, a
+/// Deletes the item of a value at an index or under a key; the others keep their order. An IndexError past the ends, a
 /// KeyError at a key that isn't there, and a TypeError at a value that holds no such items, at an index that is no number, and at
 /// a key that is none. (Python reference: the `del` statement.)
 #[tactic(auto, unfolding(py_meaning::specs::Items::item_deleted, py_machine::specs::Runs::object_at))]

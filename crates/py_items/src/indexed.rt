@@ -97,8 +97,8 @@ pub(crate) fn not_indexed(alloc: Global, machine: &Machine, value: &Value) -> Re
 
 /// What a value holds at an index or under a key: an item of a list, a value of a dict, or a character of a text, which is a text
 /// and charged by its bytes. A number below 0 counts from the end. An IndexError past the ends, a KeyError at a key that isn't
-/// there, and a TypeError at a value that holds nothing, at an index that is no number, and at a key that is none. (Python
-/// reference: subscriptions.)
+/// there, and a TypeError at a value that holds nothing, at an index that is no number, and at a key that is none. A MemoryError
+/// if the meter has no room for a character. (Python reference: subscriptions.)
 #[tactic(auto, unfolding(py_meaning::specs::Items::indexed, py_machine::specs::Runs::object_at))]
 pub fn index(
     alloc: Global,

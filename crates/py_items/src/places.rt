@@ -8,7 +8,7 @@ use py_ops::Signed;
 use py_value::Value;
 use std::alloc::AllocError;
 
-/// The place of an index among so many, if it is there: below 0 it counts from the end.
+/// The position of an index among `count` items, if it is there: below 0 it counts from the end.
 pub fn place_in(count: usize, index: Signed) -> Option<usize>
     ensures value { result ≡ spec.place_in count (number_of index) }
     ensures within { IfSome result (λ place. place < count) }
@@ -31,7 +31,7 @@ pub fn place_in(count: usize, index: Signed) -> Option<usize>
     }
 }
 
-/// The place from 0 to a count that is nearest to an index: below 0 it counts from the end.
+/// The position from 0 to `count` that is nearest to an index: below 0 it counts from the end.
 pub fn clipped(count: usize, index: Signed) -> usize
     ensures value { result ≡ spec.clipped count (number_of index) }
     ensures within { result ≤ count }
@@ -58,7 +58,7 @@ pub fn item_at(items: &Items<Value>, index: Signed) -> Option<&Value>
     }
 }
 
-/// A place as changes name it. One past 32 bits is want of memory: the meter lets no list get so long.
+/// A position as changes name it. One past 32 bits is want of memory: the meter lets no list get that long.
 pub fn short_place(place: usize) -> Result<u32, AllocError>
     ensures { IfOk result (λ short. short ≡ place) }
 {

@@ -47,7 +47,7 @@ fn to_place(count: usize, bound: &Option<i128>) -> usize
     }
 }
 
-/// The characters from one place up to another, or none.
+/// The characters from one position up to another, or none.
 fn characters(text: &SharedText, from: usize, to: usize) -> &str
     requires { to ≤ length (chars text.now) }
     ensures { result.now ≡ encode_utf8_all (slice_range (chars text.now) from to) }
@@ -90,7 +90,7 @@ fn text_sliced(
     made_text(alloc, machine, part)
 }
 
-/// The items from one place up to another, or none.
+/// The items from one position up to another, or none.
 fn range(items: &[Value], from: usize, to: usize) -> &[Value]
     requires { to ≤ length items.now }
     ensures { result.now ≡ slice_range items.now from to }
@@ -141,9 +141,9 @@ fn ref_sliced(
     }
 }
 
-/// The part of a list, as a new list, or of a text from one place up to another. A bound that is `None` is the start or the end;
-/// one below 0 counts from the end, and one past an end is that end. A TypeError at a value that has no such parts and at a bound
-/// that is no number; a MemoryError where the meter has no room. (Python reference: slicings.)
+/// The slice of a list, as a new list, or of a text from one position up to another. A bound that is `None` is the start or the
+/// end; one below 0 counts from the end, and one past an end is that end. A TypeError at a value that has no slices and at a
+/// bound that is no number; a MemoryError if the meter has no room. (Python reference: slicings.)
 #[tactic(auto, unfolding(py_meaning::specs::Items::sliced, py_machine::specs::Runs::object_at))]
 pub fn slice(
     alloc: Global,

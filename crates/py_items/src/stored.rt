@@ -64,8 +64,8 @@ fn pair_units(machine: &Machine, address: u32, key: &Key, value: &Value) -> u128
     }
 }
 
-/// Puts a value under a key of the dict at an address: a key that is there keeps its place and its spelling. The charge comes
-/// first; a MemoryError where the meter has no room. (Python reference: dictionary displays.)
+/// Puts a value under a key of the dict at an address: a key that is there keeps its position and its spelling. The charge comes
+/// first; a MemoryError if the meter has no room. (Python reference: dictionary displays.)
 #[tactic(auto, unfolding(py_meaning::specs::Meaning::put, py_meaning::specs::Items::put_in, py_machine::specs::Runs::object_at))]
 pub fn put(
     alloc: Global,
@@ -149,9 +149,10 @@ fn not_stored(alloc: Global, machine: &Machine, container: &Value) -> Result<(),
     Err(Fault::Raised(no_item_assignment(alloc, kind)?))
 }
 
-/// The item of a value at an index or under a key is this value from now on. A new key goes last, and one that is there keeps its
+/// Stores a value as the item of another at an index or under a key. A new key goes last, and one that is there keeps its
 /// spelling. The charge comes once the index or the key is found good: an IndexError past the ends, and a TypeError at a value
-/// that holds no such items, at an index that is no number, and at a key that is none. (Python reference: assignment statements.)
+/// that holds no such items, at an index that is no number, and at a key that is none. A MemoryError if the meter has no room for
+/// the charge. (Python reference: assignment statements.)
 #[tactic(auto, unfolding(py_meaning::specs::Items::item_stored, py_machine::specs::Runs::object_at))]
 pub fn store_item(
     alloc: Global,

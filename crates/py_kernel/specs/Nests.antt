@@ -1,4 +1,4 @@
--- Function values that evaluate expressions and execute statements with up to so many levels left.
+-- Function values that evaluate expressions and execute statements with up to a given number of levels left.
 use Rattle.std.specs.Prelude.{ℕ, ◌≤◌, Result}
 use Rattle.std.specs.declared.alloc.Global.{Global}
 use denote.Ref.{Bor, MutBor}

@@ -15,11 +15,12 @@ use py_value::Value;
 use std::alloc::Global;
 use std::marker::PhantomData;
 
-/// What evaluates the parts of an expression and executes those of a statement, one level below.
+/// What evaluates the expressions inside an expression or a statement and executes the statements inside a statement, one level
+/// below.
 #[derive(Drop)]
 pub struct Below<F, E, X> {
     pub(crate) alloc: Global,
-    /// The levels that are left for the parts.
+    /// The levels that are left for what is inside.
     pub(crate) left: u32,
     pub(crate) eval: E,
     pub(crate) exec: X,
@@ -61,7 +62,7 @@ impl<
         (self.exec)(self.alloc, self.left, machine, feed, statement)
     }
 
-    /// Evaluates a part of an expression that is one level below.
+    /// Evaluates an expression inside one that is one level below.
     pub(crate) fn part(
         &self,
         machine: &mut Machine,

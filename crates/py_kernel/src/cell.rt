@@ -20,7 +20,7 @@ use py_value::Value;
 use std::alloc::{AllocError, Global};
 use std::mem;
 
-/// The levels that are left for a statement of a cell: it stands at the first.
+/// The levels that are left for a statement of a cell: it is at the first.
 const STATEMENT_LEVELS: u32 = 800;
 
 /// The levels that are left for an expression of such a statement.
@@ -53,7 +53,7 @@ fn show_last<F: Feed>(
     result_of(alloc, machine, &value)
 }
 
-/// Runs a last statement, which gives a result where it is an expression.
+/// Runs a last statement, which gives a result if it is an expression.
 fn last<F: Feed>(
     alloc: Global,
     machine: &mut Machine,
@@ -109,10 +109,10 @@ fn cell<F: Feed>(
     }
 }
 
-/// Runs a cell with this tree on the state of a session, and draws from the feed. An error is an end of the cell, and what the cell did before stays. The count is the
-/// caller's. (Python language reference, in the subset of docs/LANGUAGE.md.)
+/// Runs a cell with this tree on the state of a session, and draws from the feed. An error is an end of the cell, and what the
+/// cell did before stays. The count is the caller's. (Python language reference, in the subset of docs/LANGUAGE.md.)
 ///
-/// After an `Err`, which is want of memory, the state stands for nothing and is only dropped.
+/// After an `Err`, which is want of memory, the state means nothing and may only be dropped.
 pub fn run_cell<F: Feed>(
     alloc: Global,
     state: &mut State,

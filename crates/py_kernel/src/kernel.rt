@@ -31,9 +31,9 @@ impl Kernel {
         }
     }
 
-    /// Runs a cell with this tree, and draws from the feed. A Python error is an end of the cell, and what the cell did before stays. The count is the caller's. After
-    /// an `Err`, which is want of memory, the kernel stands for nothing and is only dropped. (Python language reference, in
-    /// the subset of docs/LANGUAGE.md.)
+    /// Runs a cell with this tree, and draws from the feed. A Python error is an end of the cell, and what the cell did before
+    /// stays. The count is the caller's. After an `Err`, which is want of memory, the kernel means nothing and may only be
+    /// dropped. (Python language reference, in the subset of docs/LANGUAGE.md.)
     pub fn run_cell<F: Feed>(
         &mut self,
         alloc: Global,

@@ -92,7 +92,7 @@ impl<
         Ok(values)
     }
 
-    /// What a `for` goes over whose source is a call: the numbers of `range`, or what the call gives.
+    /// What a `for` goes over if its source is a call: the numbers of `range`, or what the call gives.
     fn source_called(
         &self,
         machine: &mut Machine,

@@ -47,7 +47,7 @@ pub(crate) fn store(
     }
 }
 
-/// Extends a list in place by the items of another as they are, or adds what isn't two lists.
+/// Extends a list itself by the items of another as they are, or adds what isn't two lists.
 #[tactic(auto, unfolding(py_meaning::specs::Meaning::refs_added))]
 fn refs_added(alloc: Global, machine: &mut Machine, a: u32, b: u32) -> Result<Value, Fault>
     ensures runs { Still (run (spec.refs_added a b)) machine.old result machine.new }

@@ -68,7 +68,7 @@ same_run (change at c) draws others m h = refl
 same_run (write bytes) draws others m h = refl
 same_run draw draws others m h = draw_same draws others m h
 
--- ---- the frame law where the other run is given other draws, but for a cell that drew
+-- ---- the frame law with other draws for the other run, but for a cell that drew
 
 pub framed_agreeing : (names : List Name) (body : List Stmt) (draws others : List Drawn) (s t : State) → Same (Contains names) s t → s.meter ≡ t.meter
     → ((name : Name) → IsIn (outcome body s draws).1.marks.looked name → Contains names name) → (Asks (outcome body s draws) → ⊥) → Agree (outcome body s draws) draws others

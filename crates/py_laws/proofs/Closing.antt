@@ -1,4 +1,5 @@
--- A cell keeps a state closed: two runs from it, with each object paired with itself, end in a state whose references are paired too.
+-- A cell keeps a state closed: two runs from it, with each object paired with itself, end in a state whose references are
+-- paired too.
 use Rattle.std.proofs.Common.{ℕ, ◌-◌, ◌<◌, List, [], ◌∷◌, length, get_or, Some, refl, sym, inl, inr, subst, arith}
 use Rattle.std.specs.Prelude.{All}
 use Rattle.std.specs.List.{AllZip, flat_map}

@@ -37,7 +37,7 @@ module _ (c : Setting) where
   abbrev Does : Act (Unit {0}) → Act (Unit {0}) → Type 0
   Does = Respects c Any
 
-  -- ---- places and keys
+  -- ---- positions and keys
 
   same_place : (vs ws : List Value) (n : ℤ) → AllZip (Values c) vs ws → place_in (length vs) n ≡ place_in (length ws) n
   same_place vs ws n h = ap (λ (l : ℕ). place_in l n) (zip_length (Values c) vs ws h)

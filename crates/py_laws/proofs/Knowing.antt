@@ -1,4 +1,4 @@
--- A cell uses only names that stand in its statements or in functions of its state: the two runs of the law that it keeps a state
+-- A cell uses only names that are in its statements or in functions of its state: the two runs of the law that it keeps a state
 -- closed, under the rules of such names.
 use Rattle.std.proofs.Common.{◌≡◌, ℕ, Bool, true, false, IsTrue, cond, List, [], ◌∷◌, ◌++◌, get_or, map, Option, Some, None, refl, subst, arith, ◌⊎◌, inl, inr}
 use Rattle.std.specs.Prelude.{slice_get}
@@ -41,7 +41,7 @@ use Rattle.py_laws.proofs.Respecting.{Setting, Alike, Ends, Equal}
 use Rattle.py_laws.proofs.Constructs.{cell_respects}
 use Rattle.py_laws.proofs.Framing as framing
 
--- each element of a list that is so is so otherwise
+-- if each element of a list has P, each has what follows from P
 pub each_more : {X : Type 0} (P Q : X → Type 0) → ((x : X) → P x → Q x) → (xs : List X) → AllByRecursion P xs → AllByRecursion Q xs
 each_more P Q f [] h = tt
 each_more P Q f (x ∷ xs) h = (f x h.0, each_more P Q f xs h.1)
@@ -50,7 +50,7 @@ module _ (Known : Name → Type 0) where
   abbrev pub Pass : Names → Type 0
   Pass = AllByRecursion Known
 
-  -- ---- parts of a list of names
+  -- ---- pieces of a list of names
 
   pub parts : (xs ys : Names) → Pass (xs ++ ys) → Pass xs × Pass ys
   parts [] ys h = (tt, h)

@@ -20,8 +20,8 @@ use Rattle.py_heap.specs.References.{value_refs}
 use Rattle.py_heap.specs.States.{raised}
 use Rattle.py_machine.specs.declared.frame.Change.{Change}
 use Rattle.py_machine.specs.declared.frame.Frame.{Frame}
-use Rattle.py_machine.specs.declared.frame.Slot.{Slot}
-use Rattle.py_machine.specs.declared.frame.Slot.TheVariants.{Empty, Held}
+use Rattle.py_machine.specs.declared.frame.FrameSlot.{FrameSlot}
+use Rattle.py_machine.specs.declared.frame.FrameSlot.TheVariants.{Empty, Held}
 use Rattle.py_machine.specs.declared.machine.Machine.{Machine}
 use Rattle.py_machine.specs.declared.marks.Marks.{Marks}
 use Rattle.py_machine.specs.Builtins.{builtin_named}
@@ -49,7 +49,7 @@ module _ (c : Setting) where
   abbrev pub Frames : Option Frame → Option Frame → Type 0
   Frames = BothOrNone (FramesMatch (Paired c))
 
-  abbrev Locals : Option Slot → Option Slot → Type 0
+  abbrev Locals : Option FrameSlot → Option FrameSlot → Type 0
   Locals = BothOrNone (SlotsMatch (Paired c))
 
   -- ---- steps, the meter and output
@@ -160,7 +160,7 @@ module _ (c : Setting) where
   slots_match x (Some f) None h = absurd h
   slots_match x None (Some g) h = absurd h
 
-  looked_ends : (x : Name) (o u : Option Slot) (m n : Machine) → c.rules.known x → Alike c m n → Locals o u → Stays c (looked x o m).1 → Ends c Values (looked x o m) (looked x u n)
+  looked_ends : (x : Name) (o u : Option FrameSlot) (m n : Machine) → c.rules.known x → Alike c m n → Locals o u → Stays c (looked x o m).1 → Ends c Values (looked x o m) (looked x u n)
   looked_ends x (Some _) (Some _) m n r h (held v w k) stay = record { alike = h; result = k }
   looked_ends x (Some _) (Some _) m n r h empty stay = record { alike = h; result = refl }
   looked_ends x None None m n r h k stay =
@@ -172,7 +172,7 @@ module _ (c : Setting) where
   unfolding runs.look
   look_respects x r = record { ends = λ draws m n h stay. looked_ends x _ _ m n r h (slots_match x m.frame n.frame h.frame) stay }
 
-  sought_ends : (x : Name) (o u : Option Slot) (m n : Machine) → c.rules.known x → Alike c m n → Locals o u → Stays c (sought x o m).1 → Ends c Any (sought x o m) (sought x u n)
+  sought_ends : (x : Name) (o u : Option FrameSlot) (m n : Machine) → c.rules.known x → Alike c m n → Locals o u → Stays c (sought x o m).1 → Ends c Any (sought x o m) (sought x u n)
   sought_ends x (Some _) (Some _) m n r h (held v w k) stay = plain m n h
   sought_ends x (Some _) (Some _) m n r h empty stay = record { alike = h; result = refl }
   sought_ends x None None m n r h k stay =
@@ -204,7 +204,7 @@ module _ (c : Setting) where
     unbound_there : (g k : Named A) (name x : Name) → x ≡ name → BothOrNone M (finite.get (finite.remove g name) x) (finite.get (finite.remove k name) x)
     unbound_there g k name x e = rw (unbound g name x, unbound k name x, e, name_itself name) tt
 
-  with_slots_match : (x : Name) (p q : Slot) (f g : Option Frame) → SlotsMatch (Paired c) p q → Frames f g → Frames (with_slot x p f) (with_slot x q g)
+  with_slots_match : (x : Name) (p q : FrameSlot) (f g : Option Frame) → SlotsMatch (Paired c) p q → Frames f g → Frames (with_slot x p f) (with_slot x q g)
   with_slots_match x p q None None k h = tt
   with_slots_match x p q (Some f) (Some g) k h = record { slots = λ y. bound_match (SlotsMatch (Paired c)) f.slots g.slots x y p q k (h.slots y) }
   with_slots_match x p q (Some f) None k h = absurd h
@@ -239,7 +239,7 @@ module _ (c : Setting) where
     | inr other ↦ h x w (sym (unbound_other g name x other) ∙ e)
   ]
 
-  bound_alike : (x : Name) (v w : Value) (o u : Option Slot) (m n : Machine) → Values v w → c.rules.may x × c.rules.known x → Alike c m n → Locals o u → Alike c (runs.bound x v o m) (runs.bound x w u n)
+  bound_alike : (x : Name) (v w : Value) (o u : Option FrameSlot) (m n : Machine) → Values v w → c.rules.may x × c.rules.known x → Alike c m n → Locals o u → Alike c (runs.bound x v o m) (runs.bound x w u n)
   bound_alike x v w (Some o) (Some u) m n k r h s = framed_alike m n _ _ h (with_slots_match x (Held v) (Held w) m.frame n.frame (held v w k) h.frame)
   bound_alike x v w None None m n k r h s = record {
     counts = record { steps = h.counts.steps; printed = h.counts.printed; meter = h.counts.meter; drawn = h.counts.drawn };
@@ -264,7 +264,7 @@ module _ (c : Setting) where
   unfolding runs.bind
   bind_respects name v w k r = record { ends = λ draws m n h stay. plain _ _ (bound_alike name v w _ _ m n k r h (slots_match name m.frame n.frame h.frame)) }
 
-  unbound_alike : (x : Name) (o u : Option Slot) (m n : Machine) → c.rules.known x → Alike c m n → Locals o u → Alike c (runs.unbound x o m) (runs.unbound x u n)
+  unbound_alike : (x : Name) (o u : Option FrameSlot) (m n : Machine) → c.rules.known x → Alike c m n → Locals o u → Alike c (runs.unbound x o m) (runs.unbound x u n)
   unbound_alike x (Some o) (Some u) m n r h s = framed_alike m n _ _ h (with_slots_match x Empty Empty m.frame n.frame empty h.frame)
   unbound_alike x None None m n r h s = record {
     counts = record { steps = h.counts.steps; printed = h.counts.printed; meter = h.counts.meter; drawn = h.counts.drawn };
@@ -289,7 +289,7 @@ module _ (c : Setting) where
   unfolding runs.unbind
   unbind_respects name r = record { ends = λ draws m n h stay. plain _ _ (unbound_alike name _ _ m n r h (slots_match name m.frame n.frame h.frame)) }
 
-  same_slot : (o u : Option Slot) → Locals o u → is_some o ≡ is_some u
+  same_slot : (o u : Option FrameSlot) → Locals o u → is_some o ≡ is_some u
   same_slot (Some o) (Some u) h = refl
   same_slot None None h = refl
   same_slot (Some o) None h = absurd h

@@ -1,4 +1,5 @@
--- What matches by some pairs matches by more, by the turned ones, by such as lead on, and by those that pair what it names with itself.
+-- What matches by some pairs matches by more, by the turned ones, by such as lead on, and by those that pair what it names with
+-- itself.
 use Rattle.std.proofs.Common.{ℕ, List, [], ◌∷◌, Option, Some, None, arith, refl, sym, ◌∙◌}
 use Rattle.std.specs.Prelude.{Contains}
 use Rattle.std.specs.List.{AllZip, flat_map}
@@ -12,7 +13,7 @@ use Rattle.py_heap.specs.References.{value_refs, pair_refs, object_refs}
 use Rattle.py_heap.specs.Reaching.{held_refs}
 use Rattle.py_laws.specs.Same.{ValuesMatch, equal, refs, PairsMatch, ObjectsMatch, BothOrNone, Both}
 
--- ---- lists place by place, and what two may hold
+-- ---- lists item by item, and what two may hold
 
 module _ {A : Type 0} where
   pub AllZip-more : (R S : A → A → Type 0) → ((a b : A) → R a b → S a b) → (xs ys : List A) → AllZip R xs ys → AllZip S xs ys
@@ -124,7 +125,7 @@ object_through ps qs (object.Function def) (object.Function other) _ h g = absur
 object_through ps qs (object.Handle name uses) (object.Handle other others) _ h g = absurd g
 object_through ps qs _ _ _ h g = absurd h
 
--- ---- with itself, where each address in it is paired with itself
+-- ---- with itself, if each address in it is paired with itself
 
 module _ (ps : ℕ → ℕ → Type 0) where
   pub value_itself : (v : Value) → ((a : ℕ) → Contains (value_refs v) a → ps a a) → ValuesMatch ps v v

@@ -10,8 +10,8 @@ use Rattle.py_value.specs.declared.value.Builtin.{Builtin}
 use Rattle.py_value.specs.declared.value.Value.{Value}
 use Rattle.py_heap.specs.declared.heap.Object.{Object}
 use Rattle.py_heap.specs.declared.state.State.{State}
-use Rattle.py_machine.specs.declared.frame.Slot.{Slot}
-use Rattle.py_machine.specs.declared.frame.Slot.TheVariants.{Empty, Held}
+use Rattle.py_machine.specs.declared.frame.FrameSlot.{FrameSlot}
+use Rattle.py_machine.specs.declared.frame.FrameSlot.TheVariants.{Empty, Held}
 use Rattle.py_machine.specs.declared.machine.Machine.{Machine}
 use Rattle.py_machine.specs.declared.marks.Marks.{Marks}
 use Rattle.py_machine.specs.Builtins.{builtin_named}
@@ -54,7 +54,7 @@ found_reported : (name : Name) (o : Option Value) (m : Machine) → (found name 
 found_reported name (Some held) m = refl
 found_reported name None m = built_in_reported name (builtin_named name) m
 
-looked_reported : (name : Name) (o : Option Slot) (m : Machine) → (looked name o m).1.marks ≡ reported m.marks (if_global o (Look name))
+looked_reported : (name : Name) (o : Option FrameSlot) (m : Machine) → (looked name o m).1.marks ≡ reported m.marks (if_global o (Look name))
 looked_reported name (Some (Held held)) m = refl
 looked_reported name (Some Empty) m = refl
 looked_reported name None m = found_reported name (finite.get m.state.globals name) (marked (Look name) m)
@@ -67,7 +67,7 @@ met_reported : (name : Name) (o : Option Value) (m : Machine) → (met name o m)
 met_reported name (Some held) m = refl
 met_reported name None m = refl
 
-sought_reported : (name : Name) (o : Option Slot) (m : Machine) → (sought name o m).1.marks ≡ reported m.marks (if_global o (Look name))
+sought_reported : (name : Name) (o : Option FrameSlot) (m : Machine) → (sought name o m).1.marks ≡ reported m.marks (if_global o (Look name))
 sought_reported name (Some (Held held)) m = refl
 sought_reported name (Some Empty) m = refl
 sought_reported name None m = met_reported name (finite.get m.state.globals name) (marked (Look name) m)
@@ -76,7 +76,7 @@ seek_reported : (name : Name) (m : Machine) → (runs.seek name m).1.marks ≡ r
 unfolding runs.seek
 seek_reported name m = sought_reported name (slot m.frame name) m
 
-bound_reported : (name : Name) (held : Value) (o : Option Slot) (m : Machine) → (runs.bound name held o m).marks ≡ reported m.marks (if_global o (Bind name))
+bound_reported : (name : Name) (held : Value) (o : Option FrameSlot) (m : Machine) → (runs.bound name held o m).marks ≡ reported m.marks (if_global o (Bind name))
 bound_reported name held (Some old) m = refl
 bound_reported name held None m = refl
 
@@ -84,7 +84,7 @@ bind_reported : (name : Name) (held : Value) (m : Machine) → (runs.bind name h
 unfolding runs.bind
 bind_reported name held m = bound_reported name held (slot m.frame name) m
 
-unbound_reported : (name : Name) (o : Option Slot) (m : Machine) → (runs.unbound name o m).marks ≡ reported m.marks (if_global o (Unbind name))
+unbound_reported : (name : Name) (o : Option FrameSlot) (m : Machine) → (runs.unbound name o m).marks ≡ reported m.marks (if_global o (Unbind name))
 unbound_reported name (Some old) m = refl
 unbound_reported name None m = refl
 

@@ -1,5 +1,7 @@
--- Acts on machines that are alike end in machines that are alike, where the first run looks up no name but some and those bound before.
--- The pairs are known from the start: those of the states, and the new objects of both runs in their order. Both runs take the same draws.
+-- Acts on machines that are alike end in machines that are alike, if the first run looks up only given names and those bound
+-- before.
+-- The pairs are known from the start: those of the states, and the new objects of both runs in their order. Both runs take the
+-- same draws.
 use Rattle.std.proofs.Common.{◌≡◌, ℕ, ℤ, ◌+◌, ◌<◌, ◌≤◌, Bool, true, false, cond, List, length, Option, Some, Result, Ok, Err, ap, ◌⊎◌, arith}
 use Rattle.std.specs.Prelude.{slice_get}
 use Rattle.std.specs.FinMap as finite
@@ -15,8 +17,8 @@ use Rattle.py_machine.specs.declared.frame.Change.TheVariants as change
 use Rattle.py_machine.specs.declared.frame.Flow.{Flow}
 use Rattle.py_machine.specs.declared.frame.Flow.TheVariants as flow
 use Rattle.py_machine.specs.declared.frame.Frame.{Frame}
-use Rattle.py_machine.specs.declared.frame.Slot.{Slot}
-use Rattle.py_machine.specs.declared.frame.Slot.TheVariants.{Empty, Held}
+use Rattle.py_machine.specs.declared.frame.FrameSlot.{FrameSlot}
+use Rattle.py_machine.specs.declared.frame.FrameSlot.TheVariants.{Empty, Held}
 use Rattle.py_machine.specs.declared.iteration.Iteration.{Iteration}
 use Rattle.py_machine.specs.declared.iteration.Iteration.TheVariants as iteration
 use Rattle.py_machine.specs.declared.machine.Machine.{Machine}
@@ -34,8 +36,8 @@ use Rattle.py_laws.proofs.Places.{Named}
 use Rattle.py_laws.proofs.Sparing.{Spared, spared}
 use Rattle.py_laws.proofs.Rules.{Rules}
 
--- the names and pairs of the two states, how many objects each state has, the most objects that the runs may add, and what the first
--- run may look up, bind, add, evaluate and execute
+-- the names and pairs of the two states, how many objects each state has, the most objects that the runs may add, and what the
+-- first run may look up, bind, add, evaluate and execute
 pub record Setting : Type 1 where
   pub named : Name → Type 0
   pub base : ℕ → ℕ → Type 0
@@ -52,8 +54,8 @@ Paired c a b = c.base a b ⊎ ((i : ℕ) × (i < c.most) × (a ≡ c.lefts + i) 
 
 -- ---- what matches by pairs
 
--- locals match where both are empty or hold matching values
-pub data SlotsMatch (ps : ℕ → ℕ → Type 0) : Slot → Slot → Type 0 where
+-- locals match if both are empty or hold matching values
+pub data SlotsMatch (ps : ℕ → ℕ → Type 0) : FrameSlot → FrameSlot → Type 0 where
   empty : SlotsMatch ps Empty Empty
   held : (v w : Value) → ValuesMatch ps v w → SlotsMatch ps (Held v) (Held w)
 

@@ -80,7 +80,7 @@ pub record Rules : Type 1 where
   pub fit : Object → Type 0
   pub evals : Expr → Type 0
   pub runs : Stmt → Type 0
-  -- what a program adds is fit but for functions, and what a change makes of an object that is
+  -- what a program adds is fit, but for functions; and so is what a change makes of an object that is fit
   pub list_fit : (items : List Value) → fit (object.List items)
   pub dict_fit : fit (object.Dict [])
   pub handle_fit : (name : List ℕ) (uses : ℕ) → fit (object.Handle name uses)

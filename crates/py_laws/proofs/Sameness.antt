@@ -1,4 +1,4 @@
--- Sameness goes both ways and on, and a closed state is the same as itself.
+-- Sameness is symmetric and transitive, and a closed state is the same as itself.
 use Rattle.std.proofs.Common.{◌≡◌, ℕ, ◌<◌, List, [], length, get_or, Option, Some, None, refl, sym, ◌∙◌, subst, arith}
 use Rattle.std.specs.Prelude.{Contains, slice_get}
 use Rattle.std.specs.FinMap as finite
@@ -23,7 +23,7 @@ same_by_agreeing ps qs named s t to from h = record {
   objects = λ a b p. Both-more (ObjectsMatch ps) (ObjectsMatch qs) (more_object ps qs to) _ _ (h.objects a b (from a b p));
 }
 
--- ---- both ways
+-- ---- symmetry
 
 pub same_by_turned : (ps : ℕ → ℕ → Type 0) (named : Name → Type 0) (s t : State) → SameBy ps named s t → SameBy (Turned ps) named t s
 same_by_turned ps named s t h = record {
@@ -42,7 +42,7 @@ same_turned named s t h = record {
 pub states_turned : (s t : State) → SameStates s t → SameStates t s
 states_turned s t h = record { names = same_turned Every s t h.names; count = sym h.count; meter = sym h.meter }
 
--- ---- on
+-- ---- transitivity
 
 through_one : (ps qs : ℕ → ℕ → Type 0) → IsOneToOne ps → IsOneToOne qs → IsOneToOne (Through ps qs)
 through_one ps qs h g = record {

@@ -32,7 +32,7 @@ pub keys_match : (c : Setting) (k l : Key) → k ≡ l → Values c (value_of k)
 keys_match c k l e = subst (λ x. Values c (value_of k) (value_of x)) e (equal (value_of k) (no_refs k))
 
 module _ (c : Setting) where
-  -- the lists that are open are paired place by place
+  -- the lists that are open are paired one by one
   abbrev Paths : List ℕ → List ℕ → Type 0
   Paths = AllZip (Paired c)
 

@@ -28,7 +28,7 @@ use Rattle.py_machine.specs.declared.frame.Change.TheVariants as changes
 use Rattle.py_machine.specs.declared.frame.Flow.{Flow}
 use Rattle.py_machine.specs.declared.frame.Flow.TheVariants as flow
 use Rattle.py_machine.specs.declared.frame.Frame.{Frame}
-use Rattle.py_machine.specs.declared.frame.Slot.TheVariants.{Empty, Held}
+use Rattle.py_machine.specs.declared.frame.FrameSlot.TheVariants.{Empty, Held}
 use Rattle.py_machine.specs.Errors.{overflow_error, not_callable, wrong_number, wrong_argument}
 use Rattle.py_machine.specs.Runs.{Name}
 use Rattle.py_meaning.specs.Acts.{Act, pure, fail}

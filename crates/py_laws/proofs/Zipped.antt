@@ -1,4 +1,4 @@
--- Lists and dicts that match place by place, after the same change.
+-- Lists and dicts that match item by item, after the same change.
 use Rattle.std.proofs.Common.{◌≡◌, ℕ, zero, suc, true, false, List, [], ◌∷◌, ◌++◌, length, take, drop, set, refl, ap, inl, inr, subst}
 use Rattle.std.specs.Prelude.{◌-◌, insert, remove, slice_get, slice_range}
 use Rattle.std.specs.List.{AllZip, repeat}

@@ -35,6 +35,6 @@ IsAllowed IsOfKind = every-Stmt (IsAllowedHere IsOfKind) ArmAny DefAny
 abbrev pub AreAllowed : (Def → Type 0) → List Stmt → Type 0
 AreAllowed IsOfKind body = All (IsAllowed IsOfKind) body
 
--- the same, where the kind is told by a test
+-- the same, with the kind told by a test
 abbrev pub AreAllowedBy : (Def → Bool) → List Stmt → Type 0
 AreAllowedBy test = AreAllowed (λ def. IsTrue (test def))

@@ -1,4 +1,5 @@
--- The names that stand in a tree: of what it looks up, binds, deletes and declares, of functions, parameters and methods, at any depth.
+-- The names in a tree: those that it looks up, binds, deletes and declares, and those of functions, parameters and methods, at
+-- any depth.
 use Rattle.std.specs.Prelude.{ℕ, Bool, IsTrue, List, [], ◌∷◌, ◌++◌, map, All, Option, Some, None}
 use Rattle.py_tree.specs.declared.expressions.Expr.{Expr}
 use Rattle.py_tree.specs.declared.expressions.Expr.TheOpen.{Expr-F, Relation-F, Operand-F, Pair-F}
@@ -117,6 +118,6 @@ abbrev pub NamesPass : (List ℕ → Bool) → Object → Type 0
 NamesPass test (object.Function def) = AllPass test (names_by_def def)
 NamesPass test _ = Unit {0}
 
--- the names that stand in the functions of a state
+-- the names in the functions of a state
 abbrev pub FunctionsPass : (List ℕ → Bool) → State → Type 0
 FunctionsPass test s = All (NamesPass test) s.heap

@@ -28,16 +28,16 @@ pub record IsOneToOne (paired : ℕ → ℕ → Type 0) : Type 0 where
 
 -- ---- what matches by pairs
 
--- values match where they are equal and no references, or are references to paired addresses
+-- values match if they are equal and no references, or are references to paired addresses
 pub data ValuesMatch (paired : ℕ → ℕ → Type 0) : Value → Value → Type 0 where
   equal : (v : Value) → value_refs v ≡ [] → ValuesMatch paired v v
   refs : (a b : ℕ) → paired a b → ValuesMatch paired (value.Ref a) (value.Ref b)
 
--- pairs of dicts match where their keys are equal, spelled alike too, and their values match
+-- pairs of dicts match if their keys are equal, spelled alike too, and their values match
 abbrev pub PairsMatch : (ℕ → ℕ → Type 0) → Key × Value → Key × Value → Type 0
 PairsMatch paired pair other = (pair.0 ≡ other.0) × ValuesMatch paired pair.1 other.1
 
--- objects match where they have one kind and match place by place
+-- objects match if they have one kind and match item by item
 abbrev pub ObjectsMatch : (ℕ → ℕ → Type 0) → Object → Object → Type 0
 ObjectsMatch paired (object.List items) (object.List others) = AllZip (ValuesMatch paired) items others
 ObjectsMatch paired (object.Dict pairs) (object.Dict others) = AllZip (PairsMatch paired) pairs others
@@ -69,7 +69,7 @@ pub record Same (named : Name → Type 0) (s t : State) : Type 0 where
   pub by : Pairs
   pub same : SameBy (HasPair by) named s t
 
--- by pairs of objects that the names reach alone
+-- by pairs of only such objects as the names reach
 pub record SameWithin (names : List Name) (s t : State) : Type 0 where
   pub by : Pairs
   pub same : SameBy (HasPair by) (Contains names) s t

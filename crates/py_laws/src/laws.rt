@@ -16,13 +16,13 @@ ghost use Rattle.py_laws.specs.Mentioned.{names_in, AllPass, FunctionsPass};
 
 /// What a cell does depends on the names that it looks up, and on its draws, alone. From two states that are the same over
 /// these names, with equal meters and under the same draws, it does the same. In neither does it change a name that it doesn't
-/// bind or unbind, or an object that was there and that these names don't reach; and what these names and those bound reach
-/// at its end, these names reached, or it is new.
+/// bind or unbind, or an object that was there and that these names don't reach. What these names and those bound reach at its
+/// end was reached by these names before, or is new.
 pub fn cells_depend_on_what_they_look_up()
     ensures same_draws { (names : List Name) (body : List Stmt) (draws : List Drawn) (s t : State) → Same (Contains names) s t → s.meter ≡ t.meter
         → ((name : Name) → IsIn (outcome body s draws).1.marks.looked name → Contains names name)
         → Framed names s t (outcome body s draws) (outcome body t draws) }
-    // Where the first run ends without asking for more draws, a cell that didn't draw may be given any others.
+    // If the first run ends without asking for more draws, a cell that didn't draw may be given any others.
     ensures agreeing_draws { (names : List Name) (body : List Stmt) (draws others : List Drawn) (s t : State) → Same (Contains names) s t
         → s.meter ≡ t.meter → ((name : Name) → IsIn (outcome body s draws).1.marks.looked name → Contains names name)
         → (Asks (outcome body s draws) → ⊥) → Agree (outcome body s draws) draws others
@@ -41,7 +41,7 @@ pub fn what_names_reach_is_a_list()
     ensures { (names : List Name) (s : State) → IsClosed s → (found : List ℕ) × IsListOf s names found }
 {}
 
-/// Closed states that are the same over some names are so by pairs of what these names reach alone.
+/// Closed states that are the same over some names are the same by pairs of only what these names reach.
 pub fn sameness_is_of_what_is_reached()
     ensures { (names : List Name) (s t : State) → IsClosed s → IsClosed t → Same (Contains names) s t → SameWithin names s t }
 {}
@@ -59,20 +59,20 @@ pub fn cells_run_alike_in_same_states()
     ensures { (body : List Stmt) (draws : List Drawn) (s t : State) → SameStates s t → Renamed (outcome body s draws) (outcome body t draws) }
 {}
 
-/// A cell keeps a state closed: where each reference named an object before, each does after.
+/// A cell keeps a state closed: if each reference named an object before, each does after.
 pub fn cells_keep_states_closed()
     ensures { (body : List Stmt) (draws : List Drawn) (s : State) → IsClosed s → IsClosed (end_state body s draws) }
 {}
 
-/// A cell keeps a state valid, whatever test the definitions of functions have to pass: where each name that the cell's
-/// statements bind is one that a program may bind, and each function that they define has such a name and passes the test, and
-/// where the body of each function that passes the test is such too.
+/// A cell keeps a state valid, whatever test the definitions of functions have to pass, if two things are so. Each name that the
+/// cell's statements bind is one that a program may bind, and each function that they define has such a name and passes the test.
+/// The same is so of the statements in the body of each function that passes the test.
 pub fn cells_keep_states_valid()
     ensures { (test : Def → Bool) (body : List Stmt) (draws : List Drawn) (s : State) → AreAllowedBy test body
         → ((def : Def) → IsTrue (test def) → AreAllowedBy test def.body) → IsValidBy test s → IsValidBy test (end_state body s draws) }
 {}
 
-/// A cell looks up, binds and deletes only names that stand in its statements or in the functions of its state: if these all pass
+/// A cell looks up, binds and deletes only names that are in its statements or in the functions of its state: if these all pass
 /// a test, so do those. At its end the names in the functions of the state pass it too.
 pub fn cells_use_names_that_stand_in_trees()
     ensures names { (test : Name → Bool) (body : List Stmt) (draws : List Drawn) (s : State) → IsClosed s → AllPass test (names_in body)
@@ -95,7 +95,7 @@ pub fn marks_report_the_trace()
         → ((outcome body s draws).1.marks.drew ≡ true) ↔ IsDrew (traced body s draws) }
 {}
 
-/// Where a cell doesn't ask for more draws, others after those that it has change nothing.
+/// If a cell doesn't ask for more draws, others after those that it has change nothing.
 pub fn more_draws_change_nothing()
     ensures { (body : List Stmt) (s : State) (draws more : List Drawn) → (Asks (outcome body s draws) → ⊥)
         → outcome body s (draws ++ more) ≡ outcome body s draws }
@@ -109,7 +109,7 @@ pub fn a_state_is_the_same_as_itself()
     ensures over_all { (s : State) → IsClosed s → SameStates s s }
 {}
 
-/// Where a state is the same as another, that is the same as it.
+/// If a state is the same as another, the other is the same as it.
 pub fn sameness_goes_both_ways()
     ensures over_a_list { (names : List Name) (s t : State) → Same (Contains names) s t → Same (Contains names) t s }
     ensures over_a_set { (named : Name → Bool) (s t : State) → Same (λ name. IsTrue (named name)) s t
@@ -117,7 +117,7 @@ pub fn sameness_goes_both_ways()
     ensures over_all { (s t : State) → SameStates s t → SameStates t s }
 {}
 
-/// Where a state is the same as a second, and that is the same as a third, the first is the same as the third.
+/// If a state is the same as a second, and that is the same as a third, the first is the same as the third.
 pub fn sameness_goes_on()
     ensures over_a_list { (names : List Name) (s t u : State) → Same (Contains names) s t → Same (Contains names) t u
         → Same (Contains names) s u }

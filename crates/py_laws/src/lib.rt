@@ -1,7 +1,7 @@
 //! Laws of the meaning of a cell: what a cell depends on, what its marks report, that it keeps states valid, and when two
 //! states are the same.
 //!
-//! Two states are the same over some names where these have equal values, but for the addresses of objects. Each law is
+//! Two states are the same over some names if these have equal values, but for the addresses of objects. Each law is
 //! the contract of a function that does nothing.
 #![tactic(auto)]
 

@@ -7,7 +7,7 @@ use Rattle.std.proofs.lemmas.List.{length-drop, take_at}
 use Rattle.std.proofs.lemmas.Str.{IsCharBoundary-past_char, IsUtf8-past_char, chars_past_char, encodes-chars, drop_past_char, length-encode}
 use Rattle.py_machine.specs.Rests.{cut_of, first_cut}
 
--- rest is what is left of text at place; it begins with the character first, of so many bytes, and then comes after
+-- rest is what is left of text from place on: it begins with the character first, of width bytes, and goes on with after
 module _ (text rest after : List ℕ) (place first width : ℕ) (is_width : width ≡ len_utf8 first) (is_rest : rest ≡ drop place text)
     (utf8 : IsUtf8 rest) (split : rest ≡ encode_utf8 first ++ after) where
   encoded : length (encode_utf8 first) ≡ width

@@ -11,7 +11,7 @@ use Rattle.py_machine.specs.declared.frame.Change.TheVariants as change
 use Rattle.py_machine.specs.declared.kind.ValueKind.{ValueKind}
 use Rattle.py_machine.specs.declared.kind.ValueKind.TheVariants as kind
 
--- what the change makes of a list's items, if it is one for lists and the place is there
+-- what the change makes of a list's items, if it is one for lists and the index is there
 abbrev pub changed_items : Change → List Value → Option Object
 changed_items (change.Push last) items = Some (object.List (items ++ last ∷ []))
 changed_items (change.Extend more) items = Some (object.List (items ++ more))

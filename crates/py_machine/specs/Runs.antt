@@ -15,8 +15,8 @@ use Rattle.py_machine.specs.declared.error.Fault.{Fault}
 use Rattle.py_machine.specs.declared.error.Fault.TheVariants.{OutOfMemory, DrawFailed, Raised}
 use Rattle.py_machine.specs.declared.frame.Change.{Change}
 use Rattle.py_machine.specs.declared.frame.Frame.{Frame}
-use Rattle.py_machine.specs.declared.frame.Slot.{Slot}
-use Rattle.py_machine.specs.declared.frame.Slot.TheVariants.{Empty, Held}
+use Rattle.py_machine.specs.declared.frame.FrameSlot.{FrameSlot}
+use Rattle.py_machine.specs.declared.frame.FrameSlot.TheVariants.{Empty, Held}
 use Rattle.py_machine.specs.declared.machine.Machine.{Machine}
 use Rattle.py_machine.specs.Marked.{Event, noted, no_marks}
 use Rattle.py_machine.specs.Marked as event
@@ -27,7 +27,7 @@ use Rattle.py_machine.specs.Builtins.{builtin_named}
 abbrev pub Name : Type 0
 Name = List ℕ
 
--- why a run ends early: an error, a draw that failed, or a draw where none is left
+-- why a run ends early: an error, a draw that failed, or a draw when none is left
 pub data Stop : Type 0 where
   raised : PyError → Stop
   draw_failed : Stop
@@ -41,7 +41,7 @@ Outcome A = Result A Stop × Machine
 abbrev pub Run : Type 0 → Type 0
 Run A = List Drawn → Machine → Outcome A
 
--- goes on where there is a value
+-- goes on if there is a value
 abbrev pub after : {A B : Type 0} → Result A Stop → Machine → (A → Machine → Outcome B) → Outcome B
 after (Ok a) m next = next a m
 after (Err e) m next = (Err e, m)
@@ -58,7 +58,7 @@ raise e m = (Err (raised e), m)
 unfoldable pub step : Machine → Outcome (Unit {0})
 step m = cond (nat_lt m.steps 1000000) (Ok tt, record m { steps = m.steps + 1 }) (raise step_limit_error m)
 
--- so many units more on the meter, up to 16,777,216
+-- this many units more on the meter, up to 16,777,216
 unfoldable pub charge : ℕ → Machine → Outcome (Unit {0})
 charge n m = cond (nat_le (m.state.meter + n) 16777216) (Ok tt, record m { state = record m.state { meter = m.state.meter + n } }) (raise memory_error m)
 
@@ -68,15 +68,15 @@ abbrev pub marked : Event → Machine → Machine
 marked e m = record m { marks = noted e m.marks }
 
 -- what the frame has for a name, if that is a local
-abbrev pub slot : Option Frame → Name → Option Slot
+abbrev pub slot : Option Frame → Name → Option FrameSlot
 slot None name = None
 slot (Some frame) name = finite.get frame.slots name
 
-abbrev pub with_slot : Name → Slot → Option Frame → Option Frame
+abbrev pub with_slot : Name → FrameSlot → Option Frame → Option Frame
 with_slot name new None = None
 with_slot name new (Some frame) = Some (record { slots = finite.insert frame.slots name new })
 
--- a built-in function, where the name is one's
+-- a built-in function, if the name is one's
 abbrev pub built_in : Name → Option Builtin → Machine → Outcome Value
 built_in name (Some builtin) = give (value.Builtin builtin)
 built_in name None = raise (name_error name)
@@ -85,7 +85,7 @@ abbrev pub found : Name → Option Value → Machine → Outcome Value
 found name (Some held) = give held
 found name None = built_in name (builtin_named name)
 
-abbrev pub looked : Name → Option Slot → Machine → Outcome Value
+abbrev pub looked : Name → Option FrameSlot → Machine → Outcome Value
 looked name (Some (Held held)) m = give held m
 looked name (Some Empty) m = raise (unbound_error name) m
 looked name None m = found name (finite.get m.state.globals name) (marked (event.Look name) m)
@@ -98,7 +98,7 @@ abbrev pub met : Name → Option Value → Machine → Outcome (Unit {0})
 met name (Some held) = give tt
 met name None = raise (name_error name)
 
-abbrev pub sought : Name → Option Slot → Machine → Outcome (Unit {0})
+abbrev pub sought : Name → Option FrameSlot → Machine → Outcome (Unit {0})
 sought name (Some (Held held)) m = give tt m
 sought name (Some Empty) m = raise (unbound_error name) m
 sought name None m = met name (finite.get m.state.globals name) (marked (event.Look name) m)
@@ -107,7 +107,7 @@ sought name None m = met name (finite.get m.state.globals name) (marked (event.L
 unfoldable pub seek : Name → Machine → Outcome (Unit {0})
 seek name m = sought name (slot m.frame name) m
 
-abbrev pub bound : Name → Value → Option Slot → Machine → Machine
+abbrev pub bound : Name → Value → Option FrameSlot → Machine → Machine
 bound name held (Some old) m = record m { frame = with_slot name (Held held) m.frame }
 bound name held None m = marked (event.Bind name) (record m { state = with_name m.state name held })
 
@@ -115,7 +115,7 @@ bound name held None m = marked (event.Bind name) (record m { state = with_name 
 unfoldable pub bind : Name → Value → Machine → Outcome (Unit {0})
 bind name held m = (Ok tt, bound name held (slot m.frame name) m)
 
-abbrev pub unbound : Name → Option Slot → Machine → Machine
+abbrev pub unbound : Name → Option FrameSlot → Machine → Machine
 unbound name (Some old) m = record m { frame = with_slot name Empty m.frame }
 unbound name None m = marked (event.Unbind name) (record m { state = without_name m.state name })
 
@@ -151,7 +151,7 @@ abbrev pub replaced : ℕ → Option Object → Machine → Machine
 replaced at None m = m
 replaced at (Some new) m = marked (event.Change at) (record m { state = with_object_at m.state at new })
 
--- the object at an address is changed; where it isn't of the change's kind, or none is there, nothing changes
+-- the object at an address is changed; if it isn't of the change's kind, or none is there, nothing changes
 unfoldable pub change : ℕ → Change → Machine → Outcome (Unit {0})
 change at c m = (Ok tt, replaced at (changed_in c (slice_get m.state.heap at)) m)
 
@@ -166,7 +166,7 @@ write bytes m = (Ok tt, record m { printed = m.printed ++ bytes })
 abbrev pub drawn : Drawn → Machine → Machine
 drawn d m = record m { drawn = m.drawn ++ d ∷ []; marks = noted event.Drew m.marks }
 
--- the next draw's word, or an end where it failed
+-- the next draw's word, or an end if it failed
 abbrev pub taken : Option Drawn → Machine → Outcome ℕ
 taken None m = (Err asks, m)
 taken (Some (answer.Word word)) m = (Ok word, drawn (answer.Word word) m)

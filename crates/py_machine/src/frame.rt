@@ -3,7 +3,7 @@ use py_value::{Key, Value};
 
 /// What a local of a function is.
 #[derive(Debug, Drop)]
-pub enum Slot {
+pub enum FrameSlot {
     /// Not bound by now.
     Empty,
     Held(Value),
@@ -12,7 +12,7 @@ pub enum Slot {
 /// The locals of a call.
 #[derive(Drop)]
 pub struct Frame {
-    pub slots: TextMap<Slot>,
+    pub slots: TextMap<FrameSlot>,
 }
 
 /// Where a statement leads.
@@ -35,13 +35,13 @@ pub enum Change {
     Push(Value),
     /// A list gets these values after its end.
     Extend(Items<Value>),
-    /// A list gets this value at a place from 0 to its length; the items from there on move up.
+    /// A list gets this value at an index from 0 to its length; the items from there on move up.
     Insert { at: u32, item: Value },
-    /// A list has this value at a place.
+    /// A list has this value at an index.
     Set { at: u32, item: Value },
-    /// A list loses the item at a place; those after it move down.
+    /// A list loses the item at an index; those after it move down.
     Remove { at: u32 },
-    /// A dict has this value under a key. A key that is there keeps its place and its spelling.
+    /// A dict has this value under a key. A key that is there keeps its position and its spelling.
     Put { key: Key, value: Value },
     /// A dict loses the pair with a key.
     Drop(Key),

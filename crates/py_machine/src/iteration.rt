@@ -3,12 +3,12 @@ use crate::text_rest::TextRest;
 /// What a `for` goes over, from where it has come to.
 #[derive(Drop)]
 pub enum Iteration {
-    /// The items of the list at an address, from a place on.
+    /// The items of the list at the address `at`, from the index `next` on.
     Items {
         at: u32,
         next: usize,
     },
-    /// The keys of the dict at an address, from a place on. The dict had so many pairs at the start.
+    /// The keys of the dict at the address `at`, from the index `next` on. The dict had `size` pairs at the start.
     Keys {
         at: u32,
         next: usize,

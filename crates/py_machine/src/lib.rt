@@ -23,7 +23,7 @@ pub use error::{
     ErrorKind, Fault, PyError, memory_error, name_error, overflow_error, recursion_error,
     step_limit_error, unbound_error,
 };
-pub use frame::{Change, Flow, Frame, Slot};
+pub use frame::{Change, Flow, Frame, FrameSlot};
 pub use item_errors::{
     changed_size, empty_separator, invalid_literal, no_assigned_index, no_item_assignment,
     no_item_deletion, no_key, no_list_index, no_popped_index, no_text_index, not_an_index,

@@ -5,7 +5,7 @@ ghost use Rattle.py_machine.specs.Runs.{Is, Runs, Grows, Feeding};
 
 use crate::builtins::builtin_named;
 use crate::error::{Fault, memory_error, name_error, step_limit_error, unbound_error};
-use crate::frame::{Change, Frame, Slot};
+use crate::frame::{Change, Frame, FrameSlot};
 use crate::marks::Marks;
 use nb_outside::{Drawn, Feed};
 use plain_data::{Items, Text};
@@ -81,8 +81,8 @@ impl Machine {
     {
         if let Some(frame) = &self.frame {
             match frame.slots.look(name) {
-                Some(Slot::Held(value)) => return Ok(value.copy()?),
-                Some(Slot::Empty) => return Err(Fault::Raised(unbound_error(alloc, name)?)),
+                Some(FrameSlot::Held(value)) => return Ok(value.copy()?),
+                Some(FrameSlot::Empty) => return Err(Fault::Raised(unbound_error(alloc, name)?)),
                 None => {}
             }
         }
@@ -111,8 +111,8 @@ impl Machine {
     {
         if let Some(frame) = &self.frame {
             match frame.slots.look(name) {
-                Some(Slot::Held(_)) => return Ok(()),
-                Some(Slot::Empty) => return Err(Fault::Raised(unbound_error(alloc, name)?)),
+                Some(FrameSlot::Held(_)) => return Ok(()),
+                Some(FrameSlot::Empty) => return Err(Fault::Raised(unbound_error(alloc, name)?)),
                 None => {}
             }
         }
@@ -138,7 +138,7 @@ impl Machine {
     {
         if let Some(frame) = &mut self.frame {
             if frame.slots.look(name).is_some() {
-                frame.slots.bind(name.copy(alloc)?, Slot::Held(value))?;
+                frame.slots.bind(name.copy(alloc)?, FrameSlot::Held(value))?;
                 return Ok(());
             }
         }
@@ -162,7 +162,7 @@ impl Machine {
     {
         if let Some(frame) = &mut self.frame {
             if frame.slots.look(name).is_some() {
-                frame.slots.bind(name.copy(alloc)?, Slot::Empty)?;
+                frame.slots.bind(name.copy(alloc)?, FrameSlot::Empty)?;
                 return Ok(());
             }
         }
@@ -228,7 +228,7 @@ impl Machine {
         }
     }
 
-    /// Changes the object at an address. Where it isn't of the change's kind, or none is there, nothing changes.
+    /// Changes the object at an address. If it isn't of the change's kind, or none is there, nothing changes.
     pub fn change(&mut self, at: u32, change: Change) -> Result<(), Fault>
         ensures runs { Is (spec.change at change self.old) result self.new }
         ensures drawn { self.new.drawn ≡ self.old.drawn }
@@ -364,7 +364,7 @@ impl Machine {
         Ok(())
     }
 
-    /// Takes a draw from the feed, and records it. Where there is no memory for it, nothing is drawn.
+    /// Takes a draw from the feed, and records it. If there is no memory for it, nothing is drawn.
     fn take<F: Feed>(&mut self, feed: &mut F) -> Result<Drawn, AllocError>
         ensures takes { IfOk result (λ draw. self.new ≡ spec.drawn draw self.old) }
         ensures grows { Grows self.old self.new }

@@ -164,7 +164,7 @@ pub fn division_error(alloc: Global) -> Result<PyError, AllocError>
     })
 }
 
-/// The error of a call of a value that no call can stand on.
+/// The error of a call of a value of this kind, which can't be called.
 pub fn not_callable(alloc: Global, kind: ValueKind) -> Result<PyError, AllocError>
     ensures { IfOk result (λ error. error ≡ spec.not_callable kind) }
 {

@@ -7,7 +7,7 @@ use Rattle.py_meaning.specs.Acts.{Act, run}
 use Rattle.py_meaning.specs.Kept.{Keeps, Leaves}
 use Rattle.py_meaning.proofs.Keeping.{IsKept, run_keeps}
 
--- the counts rise, and stay within their limits where they were
+-- the counts rise, and stay within their limits if they were
 pub record Rises (m n : Machine) : Type 0 where
   pub steps : m.steps ≤ n.steps
   pub meter : m.state.meter ≤ n.state.meter

@@ -10,8 +10,8 @@ use Rattle.py_heap.specs.declared.heap.Object.{Object}
 use Rattle.py_heap.specs.States.{with_name, without_name, with_object, with_object_at}
 use Rattle.py_machine.specs.declared.frame.Change.{Change}
 use Rattle.py_machine.specs.declared.frame.Frame.{Frame}
-use Rattle.py_machine.specs.declared.frame.Slot.{Slot}
-use Rattle.py_machine.specs.declared.frame.Slot.TheVariants.{Empty, Held}
+use Rattle.py_machine.specs.declared.frame.FrameSlot.{FrameSlot}
+use Rattle.py_machine.specs.declared.frame.FrameSlot.TheVariants.{Empty, Held}
 use Rattle.py_machine.specs.declared.machine.Machine.{Machine}
 use Rattle.py_machine.specs.Builtins.{builtin_named}
 use Rattle.py_machine.specs.Changes.{changed_in}
@@ -49,7 +49,7 @@ module _ (R : Machine → Machine → Type 0) (k : IsKept R) where
   found_keeps name (Some held) m n h = h
   found_keeps name None m n h = built_in_keeps name (builtin_named name) m n h
 
-  looked_keeps : (name : Name) (o : Option Slot) (m : Machine) → R m (looked name o m).1
+  looked_keeps : (name : Name) (o : Option FrameSlot) (m : Machine) → R m (looked name o m).1
   looked_keeps name (Some (Held held)) m = k.same m
   looked_keeps name (Some Empty) m = k.same m
   looked_keeps name None m = found_keeps name (finite.get m.state.globals name) m _ (k.looks name m)
@@ -62,7 +62,7 @@ module _ (R : Machine → Machine → Type 0) (k : IsKept R) where
   met_keeps name (Some held) m n h = h
   met_keeps name None m n h = h
 
-  sought_keeps : (name : Name) (o : Option Slot) (m : Machine) → R m (sought name o m).1
+  sought_keeps : (name : Name) (o : Option FrameSlot) (m : Machine) → R m (sought name o m).1
   sought_keeps name (Some (Held held)) m = k.same m
   sought_keeps name (Some Empty) m = k.same m
   sought_keeps name None m = met_keeps name (finite.get m.state.globals name) m _ (k.looks name m)
@@ -71,7 +71,7 @@ module _ (R : Machine → Machine → Type 0) (k : IsKept R) where
   unfolding runs.seek
   seek_keeps name m = sought_keeps name (slot m.frame name) m
 
-  bound_keeps : (name : Name) (held : Value) (o : Option Slot) (m : Machine) → R m (bound name held o m)
+  bound_keeps : (name : Name) (held : Value) (o : Option FrameSlot) (m : Machine) → R m (bound name held o m)
   bound_keeps name held (Some old) m = k.frames (with_slot name (Held held) m.frame) m
   bound_keeps name held None m = k.binds name held m
 
@@ -79,7 +79,7 @@ module _ (R : Machine → Machine → Type 0) (k : IsKept R) where
   unfolding runs.bind
   bind_keeps name held m = bound_keeps name held (slot m.frame name) m
 
-  unbound_keeps : (name : Name) (o : Option Slot) (m : Machine) → R m (unbound name o m)
+  unbound_keeps : (name : Name) (o : Option FrameSlot) (m : Machine) → R m (unbound name o m)
   unbound_keeps name (Some old) m = k.frames (with_slot name Empty m.frame) m
   unbound_keeps name None m = k.unbinds name m
 

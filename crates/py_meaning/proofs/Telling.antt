@@ -14,8 +14,8 @@ use Rattle.py_value.specs.declared.value.Value.TheVariants as value
 use Rattle.py_machine.specs.declared.error.Fault.{Fault}
 use Rattle.py_machine.specs.declared.error.Fault.TheVariants as fault
 use Rattle.py_machine.specs.declared.error.PyError.{PyError}
-use Rattle.py_machine.specs.declared.frame.Slot.{Slot}
-use Rattle.py_machine.specs.declared.frame.Slot.TheVariants.{Empty, Held}
+use Rattle.py_machine.specs.declared.frame.FrameSlot.{FrameSlot}
+use Rattle.py_machine.specs.declared.frame.FrameSlot.TheVariants.{Empty, Held}
 use Rattle.py_machine.specs.declared.machine.Machine.{Machine}
 use Rattle.py_machine.specs.Builtins.{builtin_named}
 use Rattle.py_machine.specs.Errors.{name_error, unbound_error, step_limit_error, memory_error}
@@ -24,7 +24,7 @@ use Rattle.py_machine.specs.Runs as runs
 use Rattle.py_meaning.specs.Acts.{Act, run, pure, fail, chain, step, charge, look, seek, bind, unbind, is_local, enter, leave, add, object_at, change, write, draw}
 use Rattle.py_meaning.specs.Cells.{Asks}
 
--- where a run ends by a failed draw, one is recorded
+-- if a run ends by a failed draw, one is recorded
 pub record TellsFailed {A : Type 0} (o : Outcome A) : Type 0 where
   pub tells : o.0 ≡ Err draw_failed → Contains o.1.drawn answer.Failed
 
@@ -58,7 +58,7 @@ found_tells : (name : Name) (o : Option Value) (m : Machine) → TellsFailed (fo
 found_tells name (Some held) m = ok_tells held m
 found_tells name None m = built_in_tells name (builtin_named name) m
 
-looked_tells : (name : Name) (o : Option Slot) (m : Machine) → TellsFailed (looked name o m)
+looked_tells : (name : Name) (o : Option FrameSlot) (m : Machine) → TellsFailed (looked name o m)
 looked_tells name (Some (Held held)) m = ok_tells held m
 looked_tells name (Some Empty) m = raised_tells (unbound_error name) m
 looked_tells name None m = found_tells name (finite.get m.state.globals name) _
@@ -71,7 +71,7 @@ met_tells : (name : Name) (o : Option Value) (m : Machine) → TellsFailed (met 
 met_tells name (Some held) m = ok_tells tt m
 met_tells name None m = raised_tells (name_error name) m
 
-sought_tells : (name : Name) (o : Option Slot) (m : Machine) → TellsFailed (sought name o m)
+sought_tells : (name : Name) (o : Option FrameSlot) (m : Machine) → TellsFailed (sought name o m)
 sought_tells name (Some (Held held)) m = ok_tells tt m
 sought_tells name (Some Empty) m = raised_tells (unbound_error name) m
 sought_tells name None m = met_tells name (finite.get m.state.globals name) _

@@ -7,7 +7,7 @@ use Rattle.py_heap.specs.declared.heap.Object.{Object}
 use Rattle.py_machine.specs.declared.error.PyError.{PyError}
 use Rattle.py_machine.specs.declared.frame.Change.{Change}
 use Rattle.py_machine.specs.declared.frame.Frame.{Frame}
-use Rattle.py_machine.specs.declared.frame.Slot.{Slot}
+use Rattle.py_machine.specs.declared.frame.FrameSlot.{FrameSlot}
 use Rattle.py_machine.specs.declared.kind.ValueKind.{ValueKind}
 use Rattle.py_machine.specs.declared.machine.Machine.{Machine}
 use Rattle.py_machine.specs.Marked.{Event}
@@ -43,7 +43,7 @@ infixl 10 ◌>>◌
 abbrev pub ◌>>◌ : {A B : Type 0} → Act A → Act B → Act B
 p >> q = chain p (λ _. q)
 
--- the first where the test holds, and the second where it doesn't
+-- the first if the test holds, and the second if it doesn't
 abbrev pub choose : {A : Type 0} → Bool → Act A → Act A → Act A
 choose true p q = p
 choose false p q = q
@@ -85,7 +85,7 @@ later (Ok a) m next = next a m
 later (Err e) m next = []
 
 -- a local's look or change is no event
-abbrev pub if_global : Option Slot → Event → List Event
+abbrev pub if_global : Option FrameSlot → Event → List Event
 if_global (Some old) e = []
 if_global None e = e ∷ []
 

@@ -27,7 +27,7 @@ pub record UsesUp (body : List Stmt) (s : State) (draws : List Drawn) : Type 0 w
   pub ends : Asks (outcome body s draws) → ⊥
   pub takes : (outcome body s draws).1.drawn ≡ draws
 
--- a draw that failed is an OSError; a run that asks gives no end, and the answer here stands for nothing
+-- a draw that failed is an OSError; a run that asks gives no end, and the answer here means nothing
 abbrev pub error_of : Stop → CellError
 error_of (raised e) = error.Raised e
 error_of draw_failed = error.Feed

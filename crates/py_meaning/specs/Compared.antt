@@ -48,7 +48,7 @@ abbrev pub Compares : Type 1
 Compares = Value → Value → Act Bool
 
 module _ (below : Compares) where
-  -- place by place, up to the first pair that isn't equal
+  -- pair by pair, up to the first one that isn't equal
   abbrev pub items_equal : List Value → List Value → Act Bool
   items_equal [] [] = pure true
   items_equal (v ∷ vs) (w ∷ ws) = below v w >>= (λ same. choose same (items_equal vs ws) (pure false))
@@ -192,7 +192,7 @@ module _ (equal : Compares) where
   is_in held (value.Ref at) = in_ref held at
   is_in held container = not_searchable container
 
--- ---- a comparison of two values, with so many levels left for pairs
+-- ---- a comparison of two values, with this many levels left for pairs
 
 abbrev pub compared : ℕ → Op → Value → Value → Act Bool
 compared n op.Equal left right = values_equal (pair_equal n) left right

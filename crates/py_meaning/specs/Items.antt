@@ -1,4 +1,5 @@
--- Items of lists, dicts and texts: indexes, slices, and what is stored and deleted. (Python reference: subscriptions, slicings, assignment statements.)
+-- Items of lists, dicts and texts: indexes, slices, and what is stored and deleted. (Python reference: subscriptions, slicings,
+-- assignment statements.)
 use Rattle.std.specs.Prelude.{ℕ, suc, ◌+◌, ◌-◌, min, ℤ, pos, negsuc, cond, nat_lt, is_some, List, length, slice_get, slice_index, slice_range, encode_utf8, Option, Some, None}
 use Rattle.std.specs.Str.{chars, encode_utf8_all}
 use Rattle.py_value.specs.declared.key.Key.{Key}
@@ -18,9 +19,9 @@ use Rattle.py_meaning.specs.Acts.{Act, ◌>>=◌, ◌>>◌, pure, fail, charge, 
 use Rattle.py_meaning.specs.Numbers.{as_number}
 use Rattle.py_meaning.specs.Operators.{made_text, joined}
 
--- ---- places and keys
+-- ---- positions and keys
 
--- the place of an index among so many: below 0 it counts from the end
+-- the position of an index among this many items: below 0 it counts from the end
 abbrev pub place_in : ℕ → ℤ → Option ℕ
 place_in n (pos i) = cond (nat_lt i n) (Some i) None
 place_in n (negsuc i) = cond (nat_lt i n) (Some (n - suc i)) None
@@ -82,7 +83,7 @@ abbrev pub bound : Option Value → Act (Option ℤ)
 bound None = pure None
 bound (Some held) = number_or (as_number held)
 
--- the place from 0 to n that is nearest: below 0 a bound counts from the end
+-- the position from 0 to n that is nearest: below 0 a bound counts from the end
 abbrev pub clipped : ℕ → ℤ → ℕ
 clipped n (pos i) = min i n
 clipped n (negsuc i) = n - suc i
@@ -147,7 +148,7 @@ object_stored a at held other = fail (no_item_assignment (object_kind other))
 unfoldable pub not_stored : Value → Act (Unit {0})
 not_stored held = kind_of held >>= (λ kind. fail (no_item_assignment kind))
 
--- the item of a value at an index or a key is another one from now on
+-- a value is stored as the item of another at an index or a key
 unfoldable pub item_stored : Value → Value → Value → Act (Unit {0})
 item_stored (value.Ref a) at held = object_at a >>= object_stored a at held
 item_stored container at held = not_stored container
@@ -177,7 +178,7 @@ object_deleted a at other = fail (no_item_deletion (object_kind other))
 unfoldable pub not_deleted : Value → Act (Unit {0})
 not_deleted held = kind_of held >>= (λ kind. fail (no_item_deletion kind))
 
--- the item of a value at an index or a key is there no longer
+-- the item of a value at an index or a key is deleted
 unfoldable pub item_deleted : Value → Value → Act (Unit {0})
 item_deleted (value.Ref a) at = object_at a >>= object_deleted a at
 item_deleted container at = not_deleted container

@@ -35,7 +35,7 @@ use Rattle.py_machine.specs.declared.frame.Change.TheVariants as changes
 use Rattle.py_machine.specs.declared.frame.Flow.{Flow}
 use Rattle.py_machine.specs.declared.frame.Flow.TheVariants as flow
 use Rattle.py_machine.specs.declared.frame.Frame.{Frame}
-use Rattle.py_machine.specs.declared.frame.Slot.TheVariants.{Empty, Held}
+use Rattle.py_machine.specs.declared.frame.FrameSlot.TheVariants.{Empty, Held}
 use Rattle.py_machine.specs.Changes.{object_kind}
 use Rattle.py_machine.specs.declared.iteration.Iteration.{Iteration}
 use Rattle.py_machine.specs.Errors.{recursion_error, step_limit_error, overflow_error, not_callable, wrong_number, wrong_argument, range_elsewhere, invalid_literal}
@@ -150,7 +150,7 @@ with_held frame _ _ = frame
 unfoldable pub frame_of : Def → List Value → Frame
 frame_of def args = with_held (with_empty (record { slots = finite.empty }) (locals_of def)) def.params args
 
--- what a function gives whose body ended so
+-- what a function gives if its body ended in this way
 abbrev pub returned : Flow → Value
 returned (flow.Return held) = held
 returned _ = value.Nothing
@@ -171,7 +171,7 @@ store name held = is_local name >>= (λ local. choose local (bind name held) (ch
 
 -- ---- augmented assignments
 
--- a list is extended in place by the items of a list as they are
+-- a list itself is extended by the items of a list as they are
 abbrev pub extended : ℕ → ℕ → Option (List Value) → Option (List Value) → Act Value
 extended a b (Some items) (Some more) = extend a more >> pure (value.Ref a)
 extended a b _ _ = operated op.Plus (value.Ref a) (value.Ref b)
@@ -219,7 +219,7 @@ filled at (pair ∷ more) = put at pair.0 pair.1 >> filled at more
 
 -- ---- loops
 
--- what a loop does after a turn that ended so, if it goes on with more
+-- what a loop does after a turn that ended in this way; `more` is how it goes on
 abbrev pub after_turn : Flow → Act Flow → Act Flow
 after_turn flow.Next more = more
 after_turn flow.Continue more = more
@@ -230,13 +230,13 @@ after_turn (flow.Return held) more = pure (flow.Return held)
 abbrev pub most_turns : ℕ
 most_turns = 1000001
 
--- what stands one level below
+-- what is one level below
 pub record Inner : Type 1 where
   pub eval : Expr → Act Value
   pub exec : Stmt → Act Flow
   -- the levels that are left for it
   pub left : ℕ
-  -- evaluates the parts of an expression that stands there, and makes its calls
+  -- evaluates the expressions inside an expression that is there, and makes its calls
   pub part : Expr → Act Value
   pub calls : Value → List Value → Act Value
 
@@ -254,7 +254,7 @@ module _ (inner : Inner) where
 
   -- ---- expressions
 
-  -- the values of expressions, after those that stand already
+  -- the values of expressions, after those that are there already
   abbrev pub items_from : List Value → List Expr → Act (List Value)
   items_from values [] = pure values
   items_from values (e ∷ es) = inner.eval e >>= (λ held. items_from (values ++ held ∷ []) es)
@@ -616,7 +616,7 @@ module _ (inner : Inner) where
   statement (Stmt-F.For name source body) = for_each name source body
   statement (Stmt-F.Function def) = define def
 
--- with so many levels left
+-- with this many levels left
 unfoldable pub level : ℕ → Inner
 level zero = record { eval = λ _. fail recursion_error; exec = λ _. fail recursion_error; left = 0; part = λ _. fail recursion_error; calls = λ _ _. fail recursion_error }
 level (suc n) = record {
@@ -627,7 +627,7 @@ level (suc n) = record {
   calls = called (level n);
 }
 
--- ---- a cell: its statements stand at level 1 of 800
+-- ---- a cell: its statements are at level 1 of 800
 
 -- A result is shown as by a call of `repr`: at level 3, with its bytes charged after its steps.
 unfoldable pub result_text : Value → Act (Option (List ℕ))
@@ -644,7 +644,7 @@ result held = result_text held
 abbrev pub show_last : Expr → Act (Option (List ℕ))
 show_last e = step >> (level 799).eval e >>= result
 
--- a last statement gives a result where it is an expression
+-- a last statement gives a result if it is an expression
 abbrev pub last : Stmt → Stmt-F Stmt Arm Def → Act (Option (List ℕ))
 last s (Stmt-F.Expression e) = show_last e
 last s _ = (level 800).exec s >> pure None

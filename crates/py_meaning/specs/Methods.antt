@@ -73,7 +73,7 @@ inserted a n held o = do
   change a (changes.Insert (clipped (length (items_in o)) n) held)
   pure value.Nothing
 
--- the place is clipped to the list
+-- the index is clipped to the list
 abbrev pub insert_at : ℕ → Option ℤ → Value → Act Value
 insert_at a (Some n) held = object_at a >>= inserted a n held
 insert_at a None held = fail (wrong_argument (codes "insert"))
@@ -136,7 +136,7 @@ abbrev pub value_or : Value → Option Value → Value
 value_or other (Some held) = held
 value_or other None = other
 
--- the value under a key, or another one where the key isn't there
+-- the value under a key, or another one if the key isn't there
 unfoldable pub get : ℕ → Value → Value → Act Value
 get a at other = keyed at >>= (λ key. object_at a >>= (λ object. pure (value_or other (value_under (pairs_in object) key))))
 

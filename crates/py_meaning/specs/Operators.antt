@@ -11,7 +11,7 @@ use Rattle.py_machine.specs.Errors.{unsupported_operands, bad_operand}
 use Rattle.py_meaning.specs.Acts.{Act, ◌>>=◌, ◌>>◌, pure, fail, step, charge, add, list_at, kind_of}
 use Rattle.py_meaning.specs.Numbers.{as_number, number, calculated}
 
--- so many steps
+-- this many steps
 unfoldable pub steps : ℕ → Act (Unit {0})
 steps zero = pure tt
 steps (suc n) = step >> steps n
@@ -67,7 +67,7 @@ list_repeated n left right None = unsupported op.Times left right
 unfoldable pub ref_repeated : ℤ → Value → Value → ℕ → Act Value
 ref_repeated n left right at = list_at at >>= list_repeated n left right
 
--- so many times a text or a list, which is one of the two operands
+-- a text or a list, which is one of the two operands, this many times
 abbrev pub repeated : ℤ → Value → Value → Value → Act Value
 repeated n left right (value.Text text) = made_text (repeat (times n) text)
 repeated n left right (value.Ref at) = ref_repeated n left right at

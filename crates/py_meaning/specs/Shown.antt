@@ -1,4 +1,5 @@
--- The text that a value shows, as acts, by the levels left and the lists and dicts that are open. (Python reference: `repr`, `str`.)
+-- The text that a value shows, as acts, by the levels left and the lists and dicts that are open. (Python reference: `repr`,
+-- `str`.)
 use Rattle.std.specs.Prelude.{ℕ, zero, suc, List, [], ◌∷◌, ◌++◌, codes, Option, Some, None}
 use Rattle.py_value.specs.declared.key.Key.{Key}
 use Rattle.py_value.specs.declared.key.Key.TheVariants as key
@@ -46,7 +47,7 @@ function_text name = (codes "<function " ++ name) ++ codes ">"
 abbrev pub handle_text : List ℕ → List ℕ
 handle_text name = (codes "<handle " ++ key_text (key.Text name)) ++ codes ">"
 
--- what shows a value after a text, with the lists and dicts open that it stands in, the outermost first
+-- what shows a value after a text, with the open lists and dicts that it is in, the outermost first
 abbrev pub Shows : Type 1
 Shows = List ℕ → List ℕ → Value → Act (List ℕ)
 
@@ -106,7 +107,7 @@ module _ (below : Shows) where
   abbrev pub written_one : Value → Act (List ℕ)
   written_one held = step >> str_text held
 
--- the text, with what a value shows after it: an item stands one level below its list
+-- the text, with what a value shows after it: an item is one level below its list
 unfoldable pub shown : ℕ → Shows
 shown zero path text held = fail recursion_error
 shown (suc n) path text held = shown_one (shown n) path text held

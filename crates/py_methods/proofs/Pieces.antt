@@ -1,4 +1,4 @@
--- The pieces of a text between the places of a separator.
+-- The pieces of a text between the occurrences of a separator.
 use Rattle.std.proofs.Common.{◌≡◌, ◌≢◌, ◌≤◌, ◌<◌, ℕ, suc, ◌-◌, ◌+◌, false, List, [], ◌∷◌, ◌++◌, length, drop, None, refl, sym, ap, ◌∙◌, arith, append_assoc, append-nil}
 use Rattle.std.specs.Str.Pattern.{FindsText, SplitsAroundMatch}
 use Rattle.std.proofs.lemmas.Bool.{cond-true, cond-false, false_from_ne_true}
@@ -14,7 +14,7 @@ use Rattle.py_meaning.specs.Texts.{begins, pieces, split_at}
 use Rattle.py_meaning.specs.Methods.{as_texts}
 use Rattle.py_ops.proofs.Substrings.{begins_from, begins_gives}
 
--- so many bytes are passed over
+-- the bytes of `over` are passed over
 skip : (separator piece over text : List ℕ) → pieces separator piece (length over) (over ++ text) ≡ pieces separator piece 0 text
 skip separator piece [] text = refl
 skip separator piece (x ∷ over) text = skip separator piece over text

@@ -234,8 +234,8 @@ fn text_method(
     }
 }
 
-/// What a call of a method gives. A TypeError at a wrong number of arguments and at an argument of a wrong kind, and the errors of
-/// the method: an IndexError or a KeyError of `pop`, a ValueError of `split`, and a MemoryError where the meter has no room.
+/// What a call of a method gives. A TypeError at a wrong number of arguments and at an argument of a wrong kind, and the errors
+/// of the method: an IndexError or a KeyError of `pop`, a ValueError of `split`, and a MemoryError if the meter has no room.
 /// (Python reference: `list`, `dict` and `str` methods.)
 pub fn call_method(
     alloc: Global,

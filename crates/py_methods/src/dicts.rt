@@ -23,7 +23,7 @@ fn value_at(machine: &Machine, at: u32, key: &Key) -> Result<Option<Value>, Allo
     }
 }
 
-/// The value under a key, or another one where the key isn't there.
+/// The value under a key, or another one if the key isn't there.
 #[tactic(auto, unfolding(py_meaning::specs::Methods::get, py_machine::specs::Runs::object_at))]
 pub(crate) fn get(
     alloc: Global,

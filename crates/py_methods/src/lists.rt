@@ -59,7 +59,7 @@ fn inserted(
     Ok(Value::Nothing)
 }
 
-/// Puts a value into a list. The place is clipped to the list.
+/// Puts a value into a list. The index is clipped to the list.
 pub(crate) fn insert_at(
     alloc: Global,
     machine: &mut Machine,
@@ -76,7 +76,7 @@ pub(crate) fn insert_at(
     }
 }
 
-/// A copy of the item at a place of the list at an address, if it is there.
+/// A copy of the item at a position of the list at an address, if it is there.
 fn item_in(machine: &Machine, at: u32, place: usize) -> Result<Option<Value>, AllocError>
     ensures { IfOk result (λ item. item ≡ slice_get (spec.items_in (slice_get machine.now.state.heap at)) place) }
 {
@@ -154,7 +154,7 @@ fn charge_all(alloc: Global, machine: &mut Machine, items: &Items<Value>) -> Res
 }
 
 /// Puts items after the end of the list at an address: they are charged by their weights, and each takes a step. A MemoryError
-/// where the meter has no room, a StepLimitError where no steps are left. (Python reference: mutable sequence types.)
+/// if the meter has no room, a StepLimitError if no steps are left. (Python reference: mutable sequence types.)
 #[tactic(auto, unfolding(py_meaning::specs::Methods::extend))]
 pub fn extend(
     alloc: Global,

@@ -12,7 +12,7 @@ use py_objects::take_steps;
 use py_value::Value;
 use std::alloc::{AllocError, Global};
 
-/// So many units, if the meter's limit has room for them.
+/// These units, if the meter's limit has room for them.
 fn within(units: u128) -> Option<u64>
     ensures { SomeIff result (units ≤ METER_LIMIT) units }
 {
@@ -82,7 +82,7 @@ fn count_of(text: &str, separator: &str) -> usize
     count
 }
 
-/// The pieces of a text between the places of a separator.
+/// The pieces of a text between the occurrences of a separator.
 fn pieces(alloc: Global, text: &str, separator: &str) -> Result<Items<Value>, AllocError>
     requires { 0 < length separator.now }
     ensures { IfOk result (λ all. all ≡ spec.as_texts (split_at separator.now text.entry.now)) }
@@ -116,7 +116,7 @@ fn split_text(
     Ok(Value::Ref(at))
 }
 
-/// A new list of the pieces of a text between the places of a separator.
+/// A new list of the pieces of a text between the occurrences of a separator.
 pub(crate) fn split(
     alloc: Global,
     machine: &mut Machine,

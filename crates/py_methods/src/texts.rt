@@ -41,7 +41,7 @@ fn joined_len(between: &str, texts: &[SharedText]) -> Option<u64>
     }
 }
 
-/// The same of texts after the first.
+/// The same for a first text and those after it.
 #[tactic(auto, using(crate::proofs::Together::lengths))]
 fn more_len(between: &str, first: &str, more: &[SharedText]) -> Option<u64>
     ensures { SomeIff result (length (first.now ++ flat_map (λ text. between.now ++ text) more.entry.now) ≤ METER_LIMIT) (length (first.now ++ flat_map (λ text. between.now ++ text) more.entry.now)) }
@@ -72,7 +72,7 @@ fn joined(alloc: Global, between: &str, texts: &[SharedText]) -> Result<Text, Al
     }
 }
 
-/// The same of texts after the first.
+/// The same for a first text and those after it.
 #[tactic(auto, using(crate::proofs::Together::grouped))]
 fn with_more(
     alloc: Global,

@@ -12,7 +12,7 @@ begins_name c = is_ascii_alphabetic c || nat_eq c 95
 abbrev pub continues_name : ℕ → Bool
 continues_name c = begins_name c || is_ascii_digit c
 
--- one byte that begins a name, and then such as continue it
+-- one byte that begins a name, and then bytes that continue it
 abbrev pub is_spelled_as_name : List ℕ → Bool
 is_spelled_as_name [] = false
 is_spelled_as_name (c ∷ cs) = begins_name c && list_all continues_name cs

@@ -25,7 +25,7 @@ pub fn begins_name(byte: u8) -> bool
     byte.is_ascii_alphabetic() || byte == b'_'
 }
 
-/// Whether the byte may stand inside a name: an ASCII letter, a digit or an underscore.
+/// Whether the byte may be inside a name: an ASCII letter, a digit or an underscore.
 pub fn continues_name(byte: u8) -> bool
     ensures { result ≡ names.continues_name byte }
 {

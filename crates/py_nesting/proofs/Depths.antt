@@ -35,14 +35,14 @@ pub few : (es : List Entry) (s : Side) (k : ℕ) → number s k es ≤ length es
 few [] s k = omega arith
 few (e ∷ es) s k = let a = at-most-one (nat_lt e.to e.from && nat_eq (place_of s e) k) in let b = few es s k in omega arith
 
--- ---- the greatest place
+-- ---- the greatest position
 
 pub within_more : (es : List Entry) (i m : ℕ) (e : Entry) → i < length es → e ≡ slice_index_or es i e → e.from ≤ m → e.to ≤ m → AllWithin m (drop (i + 1) es) → AllWithin m (drop i es)
 within_more es i m e l is f t w = rw (drop_more es i e l) rw (← is) (f, t, w)
 
 -- ---- counting
 
--- so many are counted as there are without those that are left
+-- the counts are those of all entries without the ones that are left
 pub record Tallied (s : Side) (most : ℕ) (es rest : List Entry) (counts : List ℕ) : Type 0 where
   pub within : AllWithin most rest
   pub all : length counts ≡ suc most

@@ -1,4 +1,4 @@
--- The parts that are open where forms are open: each from where it begins up to these tokens, which are not read.
+-- The nodes that are open when forms are open: each from where it begins up to these tokens, which are not read.
 use Rattle.std.specs.Prelude.{◌≡◌, length, ℕ, zero, suc, Bool, true, false, if◌then◌else◌, ◌&&◌, List, [], ◌∷◌, Option, Some, None}
 use Rattle.py_token.specs.declared.kinds.Kind.{Kind}
 use Rattle.py_token.specs.declared.kinds.Kind.TheVariants as t
@@ -15,7 +15,7 @@ use Rattle.py_postfix.specs.Statements.{own_head}
 use Rattle.py_statements.specs.declared.state.State as held
 use Rattle.py_statements.specs.Held.{own_lead, held_state}
 
--- a part that is open
+-- a node that is open
 abbrev pub open_part : List Kind → List Kind → List Entry → List Entry
 open_part tokens stop es = part n.Group tokens stop es
 
@@ -66,7 +66,7 @@ abbrev pub open_lower : Lower → List Kind → List Kind → List Entry → Lis
 open_lower (lower r a m ss) rest stop es =
     open_related r (front_added a (front_scaled m (signs ss rest))) stop (open_added a (front_scaled m (signs ss rest)) stop (open_scaled m (signs ss rest) stop (open_signs ss rest stop es)))
 
--- an item that may still be what is assigned to is no expression yet
+-- an item that may still be a target is no expression yet
 abbrev pub is_item : Bracket → Bool
 is_item (in_index p) = true
 is_item _ = false
@@ -86,13 +86,13 @@ open_brackets placing (opened u w k ∷ os) rest stop es =
 abbrev pub open_around : Bool → List Opened → Upper → List Kind → List Kind → List Entry → List Entry
 open_around placing os u rest stop es = open_brackets placing os (spell_upper u rest) stop (open_upper u rest stop es)
 
--- a name or an item that may still be what is assigned to is no expression yet; anything else is written
+-- a name or an item that may still be a target is no expression yet; anything else is written
 abbrev pub open_primary : Bool → Primary → List Kind → List Entry → List Entry
 open_primary place (name m) stop es = if place then es else open_part (spell_primary (name m) stop) stop es
 open_primary place (index p a) stop es = if place then es else open_part (spell_primary (index p a) stop) stop es
 open_primary place p stop es = es
 
--- whether what is read may be what is assigned to or deleted
+-- the nodes that are open of an expression; `placing` says whether what is read may be assigned to or deleted
 abbrev pub open_reading : Bool → Reading → List Kind → List Entry → List Entry
 open_reading placing (wants os u w) stop es = open_around placing os u (spell_lower w stop) stop (open_lower w stop stop es)
 open_reading placing (has os u w p) stop es = open_around placing os u (spell_lower w (spell_primary p stop)) stop (open_lower w (spell_primary p stop) stop (open_primary (may_be_place placing os u w) p stop es))
@@ -144,6 +144,6 @@ open_state (after_colon os (outer before h)) stop es = open_outers os (spell_out
 open_state (after_newline os (outer before h)) stop es = open_outers os (spell_outer (outer before h) (t.Newline ∷ stop)) stop (open_part (own_head h (t.Newline ∷ stop)) stop es)
 open_state (done c) stop es = es
 
--- what is written where the program holds a state: the parts that are open of its forms
+-- what is written when the program holds a state: the nodes that are open of its forms
 abbrev pub WritesOpen : held.State → ℕ → List Entry → List Entry → Type 0
 WritesOpen state at old new = (s : State) (stop : List Kind) → state ≡ held_state s stop → at ≡ length stop → new ≡ open_state s stop old

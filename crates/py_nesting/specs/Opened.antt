@@ -1,4 +1,4 @@
--- The parts that are open, by what the program holds.
+-- The nodes that are open, by what the program holds.
 use Rattle.std.specs.Prelude.{ℕ, Bool, true, false, if◌then◌else◌, ◌&&◌, not, List, [], ◌∷◌, is_some}
 use Rattle.py_grammar.specs.Readings.{is_empty}
 use Rattle.py_postfix.specs.declared.entries.Node.TheVariants as n
@@ -41,7 +41,7 @@ upper_opened u at es = spans u.picks at (span_if u.test u.from at (span_if u.ors
 abbrev pub lower_opened : Lower → ℕ → List Entry → List Entry
 lower_opened w at es = span_if (is_some w.relation) w.compare_from at (span_if (is_some w.addition) w.sum_from at (span_if (is_some w.multiplication) w.product_from at (signs_opened w.signs at es)))
 
--- nothing stands before the operand
+-- nothing is before the operand
 abbrev pub lower_bare : Lower → Bool
 lower_bare w = is_empty w.signs && (not (is_some w.multiplication) && (not (is_some w.addition) && not (is_some w.relation)))
 

@@ -27,7 +27,7 @@ fn greatest(most: usize, entry: &Entry) -> usize
     most.max(entry.from.max(entry.to))
 }
 
-/// The greatest place of an entry.
+/// The greatest position at which an entry begins or ends.
 fn most(entries: &[Entry]) -> usize
     ensures { AllWithin result entries.now }
 {
@@ -38,7 +38,7 @@ fn most(entries: &[Entry]) -> usize
     most
 }
 
-/// Counts the end of a part.
+/// Counts this end of the entry at its position, if the entry counts as a node.
 fn count(counts: &mut Vec<usize>, entry: &Entry, side: Side)
     requires within { place_of side entry.now < length counts.old.items }
     requires fits { slice_index_or counts.old.items (place_of side entry.now) 0 + 1 < 2 ^ 64 }
@@ -49,7 +49,7 @@ fn count(counts: &mut Vec<usize>, entry: &Entry, side: Side)
     }
 }
 
-/// How many parts have that end at each place.
+/// How many nodes have that end at each position.
 fn tally(
     alloc: Global,
     entries: &[Entry],
@@ -71,7 +71,7 @@ fn tally(
 /// The greatest depth of a node.
 const MAX_DEPTH: usize = 64;
 
-/// The first token that is too deep, by how many tokens are left there, itself counted.
+/// The first token that is too deep, by how many tokens are left there, itself counted. None if no token is too deep.
 pub fn first_too_deep(alloc: Global, entries: &[Entry]) -> Result<Option<usize>, AllocError>
     ensures { IfOk result (λ found. MatchOption found (IsShallow entries.now) (IsFirstTooDeep entries.now)) }
 {

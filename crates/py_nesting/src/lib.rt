@@ -1,8 +1,8 @@
-//! How deep the parts of a cell stand in each other.
+//! How deep the nodes of a cell are in each other.
 //!
-//! A statement at the top has depth 1, and what a part holds directly has one more: the statements of a block, the
-//! expressions of a statement or expression, and what stands in parentheses. So a token stands as deep as there are parts
-//! that hold it, and the first token of a part at depth 65 is too deep. (A chain of one kind of operator is one part.)
+//! A statement at the top has depth 1. What a node holds directly has a depth of one more: the statements of a block, the
+//! expressions of a statement or expression, and what is in parentheses. So the depth of a token is the number of nodes that
+//! hold it, and the first token of a node at depth 65 is too deep. (A chain of one kind of operator is one node.)
 #![tactic(auto)]
 
 mod depth;

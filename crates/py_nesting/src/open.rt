@@ -337,8 +337,8 @@ fn state_opened(state: State, at: usize, entries: &mut Stack<Entry>) -> Result<(
     }
 }
 
-/// Writes the parts that are open, as far as they are read, where so many tokens are left. What may still be assigned to or
-/// deleted is no part yet.
+/// Writes the nodes that are open, as far as they are read, when `at` tokens are left. What may still be assigned to or
+/// deleted is no node yet.
 #[tactic(auto, using(crate::proofs::Opens::writes_open))]
 pub fn open_parts(state: State, at: usize, entries: &mut Stack<Entry>) -> Result<(), AllocError>
     ensures { OnOk result (WritesOpen state at entries.old entries.new) }

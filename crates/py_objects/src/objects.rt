@@ -100,7 +100,7 @@ pub fn truth_of(machine: &Machine, value: &Value) -> Result<bool, Fault>
     }
 }
 
-/// Takes so many steps.
+/// Takes this many steps.
 pub fn take_steps(alloc: Global, machine: &mut Machine, count: usize) -> Result<(), Fault>
     ensures runs { Still (run (steps count)) machine.old result machine.new }
     ensures drawn { machine.new.drawn ≡ machine.old.drawn }

@@ -48,7 +48,7 @@ ends_here equal ordered op draws m [] ws e = refl
 ends_here equal ordered op draws m (v ∷ vs) [] e = refl
 ends_here equal ordered op draws m (v ∷ vs) (w ∷ ws) e = absurd (omega arith)
 
--- where one list ends, the lengths decide
+-- when one list ends, the lengths decide
 pub ordered_end : (equal : Compares) (ordered : Op → Compares) (op : Op) (draws : List Drawn) (m : Machine) (vs ws : List Value) (k : ℕ) → k ≡ min (length vs) (length ws)
     → run (items_ordered equal ordered op (drop k vs) (drop k ws)) draws m ≡ (Ok (order_holds op (nat_cmp (length vs) (length ws))), m)
 ordered_end equal ordered op draws m vs ws k e =

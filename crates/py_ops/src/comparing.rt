@@ -40,8 +40,8 @@ fn is_not_in(
 }
 
 /// Whether a comparison of two values holds: `op` is one of the eight from `Equal` to `NotIn`. Pairs inside lists and dicts
-/// have `left` levels left, and a RecursionError comes where there is none; each pair takes a step. A TypeError comes where the
-/// values have no order, or where nothing can be in the second. (Python reference: comparisons.)
+/// have `left` levels left, and a RecursionError comes if there is none; each pair takes a step. A TypeError comes if the
+/// values have no order, or if nothing can be in the second. (Python reference: comparisons.)
 pub fn compare(
     alloc: Global,
     left: u32,

@@ -37,7 +37,7 @@ fn is_one(left: &Value, right: &Value) -> bool
     }
 }
 
-/// Compares the items of two lists, place by place, up to the first pair that isn't equal.
+/// Compares the items of two lists, pair by pair, up to the first one that isn't equal.
 #[cycle(equal)]
 fn items_equal(
     alloc: Global,

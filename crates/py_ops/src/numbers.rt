@@ -67,7 +67,7 @@ fn quotient_by_negative(a: u128, b: u128) -> i128
     }
 }
 
-/// The quotient of two numbers, rounded down, if it has a place in 128 bits.
+/// The quotient of two numbers, rounded down, if it fits in 128 bits.
 fn floor(a: &i128, b: &i128) -> Option<i128>
     requires { IsFalse (is_zero b.now) }
     ensures { SomeIff result (FitsSigned w128 (spec.floor a.now b.now)) (spec.floor a.now b.now) }
@@ -129,7 +129,7 @@ fn remainder(alloc: Global, machine: &Machine, a: &i128, b: &i128) -> Result<Val
     Ok(Value::Number(modulo(a, b)))
 }
 
-/// The error of a comparison in an operator's place.
+/// The error of a comparison in place of an arithmetic operator.
 fn not_calculated(alloc: Global, machine: &Machine, op: Op) -> Result<Value, Fault>
     ensures { Still (run (fail (unsupported op ValueKind.Number ValueKind.Number))) machine.now result machine.now }
 {

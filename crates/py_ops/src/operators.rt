@@ -15,7 +15,7 @@ use py_tree::Op;
 use py_value::{Value, weight};
 use std::alloc::{AllocError, Global};
 
-/// The charge of so many units, up to what no meter has room for.
+/// Charges this many units, or raises a MemoryError if the meter has no room for them.
 #[tactic(auto, unfolding(py_machine::specs::Runs::charge))]
 pub fn charge(alloc: Global, machine: &mut Machine, units: u128) -> Result<(), Fault>
     ensures runs { Is (meter_charge units machine.old) result machine.new }

@@ -15,7 +15,7 @@ use py_value::Value;
 use std::alloc::Global;
 use std::cmp::Ordering;
 
-/// Whether a comparison of order holds between two that stand so to one another.
+/// Whether a comparison of order holds between two values with this ordering.
 fn order_holds(op: Op, order: Ordering) -> bool
     ensures { result ≡ spec.order_holds op order }
 {
@@ -125,8 +125,8 @@ fn others_ordered(
     }
 }
 
-/// Whether two values stand in that order: numbers, texts by characters, lists by their first pair that isn't equal. Pairs
-/// inside have `left` levels left.
+/// Whether a comparison of order holds between two values: numbers, texts by characters, lists by their first pair that isn't
+/// equal. Pairs inside have `left` levels left.
 #[cycle(order)]
 #[tactic(auto, unfolding(py_meaning::specs::Compared::values_ordered))]
 pub fn values_ordered(

@@ -8,7 +8,7 @@ use py_machine::Machine;
 use py_value::Value;
 use std::alloc::AllocError;
 
-/// A copy of the item at a place of the list at an address.
+/// A copy of the item at an index of the list at an address.
 pub(crate) fn item_of(machine: &Machine, at: u32, place: usize) -> Result<Value, AllocError>
     requires { place < length (items_at machine.now.state.heap at) }
     ensures { IfOk result (λ item. item ≡ spec.item_of machine.now.state.heap at place) }
@@ -22,7 +22,7 @@ pub(crate) fn item_of(machine: &Machine, at: u32, place: usize) -> Result<Value,
     }
 }
 
-/// Copies of the value at a place of one dict, and of the value under the same key of another, if the key is there.
+/// Copies of the value at an index of one dict, and of the value under the same key of another, if the key is there.
 pub(crate) fn values_of(
     machine: &Machine,
     a: u32,

@@ -27,7 +27,7 @@ fn times(number: Signed) -> u128
     }
 }
 
-/// So many times so many units, if the meter's limit has room for them.
+/// `count` times `each` units, if the meter's limit has room for them.
 fn units_of(count: u128, each: u64) -> Option<u64>
     ensures { SomeIff result (count * each ≤ METER_LIMIT) (count * each) }
 {
@@ -43,7 +43,7 @@ fn units_of(count: u128, each: u64) -> Option<u64>
     }
 }
 
-/// The charge of a text so many times.
+/// The charge of a text `count` times.
 #[tactic(auto, unfolding(py_machine::specs::Runs::charge), using(crate::proofs::Repeated::repetitions))]
 fn charge_text(
     alloc: Global,
@@ -61,7 +61,7 @@ fn charge_text(
     }
 }
 
-/// A text so many times.
+/// A text `count` times.
 #[tactic(auto, using(crate::proofs::Repeated::repeat_none, crate::proofs::Repeated::times_le))]
 fn copies_of_text(alloc: Global, count: u128, text: &SharedText) -> Result<Text, AllocError>
     requires { count * length text.now ≤ METER_LIMIT }
@@ -106,7 +106,7 @@ fn weights(items: &[Value]) -> Option<u64>
     Some(units)
 }
 
-/// The units of a list of items so many times, if the meter's limit has room for them.
+/// The units of a list of items `count` times, if the meter's limit has room for them.
 #[tactic(auto, using(crate::proofs::Repeated::weighed))]
 fn list_units(count: u128, items: &[Value]) -> Option<u64>
     ensures { SomeIff result (spec.list_units (repeat count items.now) ≤ METER_LIMIT) (spec.list_units (repeat count items.now)) }
@@ -123,7 +123,7 @@ fn list_units(count: u128, items: &[Value]) -> Option<u64>
     }
 }
 
-/// The charge of a new list of items so many times.
+/// The charge of a new list of items `count` times.
 #[tactic(auto, unfolding(py_machine::specs::Runs::charge))]
 fn charge_copies(
     alloc: Global,
@@ -151,7 +151,7 @@ fn append_copies(all: &mut Items<Value>, items: &[Value]) -> Result<(), AllocErr
     Ok(())
 }
 
-/// Items so many times.
+/// Items `count` times.
 #[tactic(auto, using(crate::proofs::Repeated::copied))]
 fn copies_of_items(alloc: Global, count: u128, items: &[Value]) -> Result<Items<Value>, AllocError>
     requires { spec.list_units (repeat count items.now) ≤ METER_LIMIT }

@@ -34,7 +34,7 @@ pub fn natural(size: u128) -> i128
     size as i128
 }
 
-/// The number that is so far below -1.
+/// The number that is this far below -1.
 pub fn negative(size: u128) -> i128
     requires { size < 2 ^ 127 }
     ensures { result ≡ negsuc size }
@@ -42,7 +42,7 @@ pub fn negative(size: u128) -> i128
     -(size as i128) - 1
 }
 
-/// The number that is so far below 0.
+/// The number that is this far below 0.
 pub fn opposite(size: u128) -> i128
     requires { size < 2 ^ 127 }
     ensures { result ≡ neg_ℤ (pos size) }
@@ -50,7 +50,7 @@ pub fn opposite(size: u128) -> i128
     -(size as i128)
 }
 
-/// The number from 0 on, if it has a place in 128 bits.
+/// The number from 0 on, if it fits in 128 bits.
 pub fn fitting(size: u128) -> Option<i128>
     ensures { SomeIff result (size < 2 ^ 127) (pos size) }
 {

@@ -7,11 +7,11 @@ use Rattle.py_postfix.specs.declared.entries.Node.{Node}
 use Rattle.py_postfix.specs.declared.entries.Entry.{Entry}
 use Rattle.py_grammar.specs.Expressions.{Relational, equal, not_equal, less, at_most, greater, at_least, within, not_within, Additive, plus, minus, Multiplicative, times, floor, modulo}
 
--- a part from the first of these tokens up to the others
+-- the entry of a node, whose tokens go from the first of these up to the others
 abbrev pub part : Node → List Kind → List Kind → List Entry → List Entry
 part n tokens rest es = record { node = n; from = length tokens; to = length rest } ∷ es
 
--- an entry that is no part
+-- an entry of no node
 abbrev pub mark : Node → List Entry → List Entry
 mark n es = record { node = n; from = 0; to = 0 } ∷ es
 

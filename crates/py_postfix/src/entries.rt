@@ -8,7 +8,7 @@ pub enum Node {
     Name(Text),
     /// An operand.
     Literal(Literal),
-    /// A parenthesis round the expression before it. It leaves no node in a tree.
+    /// A parenthesis round the expression before it. The tree has nothing for it.
     Group,
     /// Begins a list of expressions.
     Empty,
@@ -66,7 +66,7 @@ pub enum Node {
     Pass,
     Break,
     Continue,
-    /// Whether with a value.
+    /// A `return`: whether with a value.
     Return(bool),
     /// Begins a list of names.
     NoNames,
@@ -92,9 +92,9 @@ pub enum Node {
     Function,
 }
 
-/// An entry, and the tokens that the part has: those with more than `to` and at most `from` tokens left, itself counted. An
-/// entry that is no part has none, and both are 0. An `elif` or `else` has its own tokens, which the `if` before it
-/// doesn't have.
+/// An entry, and the tokens of its node: those with more than `to` and at most `from` tokens left, itself counted. An entry
+/// that is no node of the code has no tokens, and both are 0. An `elif` or `else` has its own tokens, which the `if` before
+/// it doesn't have.
 #[derive(Drop)]
 pub struct Entry {
     pub node: Node,

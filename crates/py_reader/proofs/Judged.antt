@@ -107,9 +107,6 @@ deep_is es left d = down es (most es) left (within (nat_lt (most es) left) refl)
 
 -- ---- two readings of the same tokens
 
-abbrev pub stuck_run : Option m.State → List Kind → Option m.State
-stuck_run o ts = then_run ts o
-
 -- a token that is refused isn't among those that are read
 no_run : (front more : List Kind) (x : Kind) (u v : m.State) → m.run m.start front ≡ Some u → m.step u x ≡ None → m.run m.start (front ++ x ∷ more) ≡ Some v → ⊥
 no_run front more x u v e h r =

@@ -29,7 +29,7 @@ use Rattle.py_reader.proofs.Final.{ends_so}
 
 -- ---- nesting
 
--- what the search finds from a number of tokens on, where no token before is too deep
+-- what the search finds from a number of tokens on, if no token before is too deep
 pub data Deep (es : List Entry) : Option ℕ → Type 0 where
   nowhere : IsShallow es → Deep es None
   first_at : (left : ℕ) → IsFirstTooDeep es left → Deep es (Some left)

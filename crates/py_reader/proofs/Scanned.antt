@@ -37,7 +37,7 @@ front_at tokens index token is = take_more tokens index token (slice_get_within 
 stands : (tokens : List Kind) (index : ℕ) (f : m.State) → m.run m.start (take index tokens) ≡ Some f → m.state_stands f
 stands tokens index f e = (led (take index tokens) m.start f (tt, tt) e).stands
 
--- what stands before the token, by what is left
+-- what is before the token, by what is left
 follows : (tokens : List Kind) (index : ℕ) (token : Kind) (reader : Reader) (old : List Entry) → slice_get tokens index ≡ Some token → (r : Reads tokens index reader old)
     → Follows (drop (index + 1) tokens) [] (step (length tokens - index) (length tokens - index - 1) reader token old) (m.step r.state token)
 follows tokens index token reader old is r =
@@ -86,7 +86,7 @@ refused-on rest (Some u) (names, same, hears) = cc
 pub begins : (tokens : List Kind) (index : ℕ) (token : Kind) (reader : Reader) (old : List Entry) → slice_get tokens index ≡ Some token → (r : Reads tokens index reader old) → outside reader.state token ≡ g.outside r.state token
 begins tokens index token reader old is r = ap (λ x. outside x.state token) (r.is_held ∙ ap (λ x. reader_at r.state x reader.names) (rest_at tokens index token is)) ∙ outside-same r.state token (token ∷ drop (index + 1) tokens)
 
--- what is held and written tells what stands before the token, and what it begins there
+-- the reader and the entries tell what is before the token, and what it begins there
 abbrev pub reaches : (tokens : List Kind) (index : ℕ) (token : Kind) (reader : Reader) (old : List Entry) (construct : Option Construct) → slice_get tokens index ≡ Some token
     → outside reader.state token ≡ construct → Reads tokens index reader old → Reaches tokens index construct
 reaches tokens index token reader old construct is o r = record { state = r.state; run = r.run; token = token; is_token = is; begins = sym (begins tokens index token reader old is r) ∙ o }

@@ -1,4 +1,4 @@
--- What the tokens of one function are judged as, by what stands before them, their nesting and what stands after them.
+-- What the tokens of one function are judged as, by what is before them, their nesting and what is after them.
 use Rattle.std.proofs.Common.{◌≡◌, ℕ, ◌≤◌, Bool, false, nat_lt, if◌then◌else◌, List, [], ◌∷◌, ◌++◌, length, Option, None, Ok, Err, IsUtf8, ap, ◌∙◌, sym}
 use Rattle.std.proofs.Common.{arith}
 use Rattle.py_token.specs.declared.kinds.Token.{Token}
@@ -79,7 +79,7 @@ pub last_is : (code : List ℕ) (tokens : List Token) (es more : List Entry) (bo
     → start ≡ start_of tokens 0 → start ≤ 0 → at ≡ end_of_words tokens → length code ≤ at → body ≡ front ++ last ∷ [] → last ≡ s.Function (definition code f.called f.takes f.block)
 last_is code tokens es more body front last start at f same built utf8 is none ends enough e = last_of _ last front (sym (built_is code tokens es more body start at f same built utf8 is none ends enough) ∙ e)
 
--- what is read where nothing stands before it, is too deep or stands after it
+-- what is read if nothing is before it, is too deep or is after it
 pub is_read : (code : List ℕ) (tokens : List Token) (es more slice : List Entry) (start : ℕ) (found : Option ℕ) (at : ℕ) (body front : List Stmt) (last : Stmt) (def : Def)
     → more ≡ es → Builds code tokens more body → IsUtf8 code → start ≡ start_of tokens 0 → start ≤ 0 → slice ≡ more → found ≡ place_of_deep tokens (deep_from (most slice) slice) → found ≡ None
     → at ≡ end_of_words tokens → length code ≤ at → body ≡ front ++ last ∷ [] → last ≡ s.Function def → (f : IsFunction code tokens es) → of_function code tokens es (definition code f.called f.takes f.block) ≡ Ok def

@@ -33,7 +33,7 @@ abbrev pub is_def : Kind → Bool
 is_def def_word = true
 is_def _ = false
 
--- at the top, where this stands before: `def` begins the function, and the end is after it
+-- at the top, after what was last: `def` begins the function, and the end is after it
 abbrev pub may_come_behind : Last → Kind → Bool
 may_come_behind Nothing token = is_def token
 may_come_behind _ token = is_end token

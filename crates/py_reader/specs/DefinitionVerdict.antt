@@ -29,18 +29,18 @@ abbrev pub run_alone_from : ℕ → State → List Kind → End
 run_alone_from n s [] = all_read s
 run_alone_from n s (t ∷ ts) = elim (step_alone s t) [ None ↦ stopped n s t | Some u ↦ run_alone_from (suc n) u ts ]
 
--- what stands after the function comes before it
+-- what is after the function comes before the definition
 abbrev pub unless_more : List ℕ → List Token → JudgedDefinition → JudgedDefinition
 unless_more code tokens judged = if nat_lt (end_of_words tokens) (length code) then Err (NoParse (end_of_words tokens) false) else judged
 
--- and what stands before it comes first
+-- and what is before the function comes first
 abbrev pub unless_later : List Token → JudgedDefinition → JudgedDefinition
 unless_later tokens judged = if nat_lt 0 (start_of tokens 0) then Err (NoParse 0 false) else judged
 
 abbrev pub of_function : List ℕ → List Token → List Entry → Def → JudgedDefinition
 of_function code tokens es def = unless_later tokens (nested tokens es (unless_more code tokens (Ok def)))
 
--- after all tokens nothing else has been read
+-- after all tokens nothing else than one function has been read
 abbrev pub of_state : List ℕ → List Token → State → JudgedDefinition
 of_state code tokens (done (Some (statements_one (compound (define called takes) block)))) = of_function code tokens (post_cell (alone called takes block)) (definition code called takes block)
 of_state code tokens _ = Err TooLong

@@ -32,12 +32,12 @@ end_of_words tokens = end_if (last_word tokens)
 abbrev pub definition : List ℕ → List ℕ → Params → Block → Def
 definition code called takes block = roll-Def (record { name = called; params = tree_params takes; body = tree_block block; source = code })
 
--- the parts that the tokens before the failing one hold
+-- the nodes that the tokens before the failing one begin
 abbrev pub parts_before_alone : {tokens : List Kind} {place : ℕ} {construct : Option Construct} → FailsAlone tokens place construct → List Entry
 parts_before_alone {tokens} {place} fails = open_state fails.open_forms (drop place tokens) (written_state fails.open_forms (drop place tokens) [])
 
--- How a text is judged: by its length and its tokens. Where they are those of one function, by what stands before it, its
--- nesting and what stands after it; and else by the nesting before the failing token and by that.
+-- How a text is judged: by its length and its tokens. If they are those of one function, it is judged by what is before it,
+-- its nesting and what is after it; else by the nesting before the failing token, and by that token.
 pub data DefinitionVerdict : List ℕ → Result Def SyntaxFault → Type 0 where
   too_long : {code : List ℕ} → 262144 < length code → DefinitionVerdict code (Err TooLong)
   bad_token : {code : List ℕ} {fault : TokenFault} → length code ≤ 262144 → tokens_of code ≡ Err fault → DefinitionVerdict code (Err (BadToken fault))

@@ -26,7 +26,7 @@ use Rattle.py_reader.specs.declared.scan.Advance.TheVariants.{Onward, Halted}
 use Rattle.py_reader.specs.declared.scan.Scan.{Scan}
 use Rattle.py_reader.specs.declared.scan.Scan.TheVariants.{Whole, Refused}
 
--- the first tokens are read, and this is held and written
+-- the first tokens are read, with this reader and these entries
 pub record Reads (tokens : List Kind) (count : ℕ) (reader : Reader) (entries : List Entry) : Type 0 where
   pub state : forms.State
   pub run : forms.run forms.start (take count tokens) ≡ Some state
@@ -34,7 +34,7 @@ pub record Reads (tokens : List Kind) (count : ℕ) (reader : Reader) (entries :
   pub is_held : reader ≡ reader_at state (drop count tokens) reader.names
   pub is_written : entries ≡ written_state state (drop count tokens) []
 
--- what stands before the token with that number, and the construct that it begins there
+-- what is before the token with that number, and the construct that it begins there
 pub record Reaches (tokens : List Kind) (place : ℕ) (construct : Option Construct) : Type 0 where
   pub state : forms.State
   pub run : forms.run forms.start (take place tokens) ≡ Some state
@@ -56,7 +56,7 @@ abbrev pub Scans : List Kind → ℕ → Scan → Type 0
 Scans tokens count (Whole reader entries) = Reads tokens count reader entries
 Scans tokens count (Refused place construct) = (place < count) × Refuses tokens place construct
 
--- the parts that the tokens before the one with that number hold
+-- the nodes that the tokens before the one with that number begin
 abbrev pub ArePartsBefore : List Token → ℕ → List Entry → Type 0
 ArePartsBefore tokens place parts = (construct : Option Construct) (reached : Reaches (kinds tokens) place construct)
     → parts ≡ open_state reached.state (drop place (kinds tokens)) (written_state reached.state (drop place (kinds tokens)) [])

@@ -22,7 +22,7 @@ use Rattle.py_reader.specs.Verdicts.{start_of, refusal}
 abbrev pub Judged : Type 0
 Judged = Result (List Stmt) SyntaxFault
 
--- where the machine of the grammar ends: after all tokens, or at one that it refuses, so many tokens on
+-- where the machine of the grammar ends: after all tokens, or at one that it refuses, with the number of those before it
 pub data End : Type 0 where
   all_read : State → End
   stopped : ℕ → State → Kind → End
@@ -31,7 +31,7 @@ abbrev pub run_from : ℕ → State → List Kind → End
 run_from n s [] = all_read s
 run_from n s (t ∷ ts) = elim (step s t) [ None ↦ stopped n s t | Some u ↦ run_from (suc n) u ts ]
 
--- the first token that is too deep, from one with so many left on
+-- the first token that is too deep, from the one with that many tokens left on
 abbrev pub deep_from : ℕ → List Entry → Option ℕ
 deep_from zero es = None
 deep_from (suc k) es = if nat_lt 64 (depth (suc k) es) then Some (suc k) else deep_from k es
@@ -53,7 +53,7 @@ place_of_deep tokens (Some left) = Some (start_of tokens (length tokens - left))
 abbrev pub nested : {A : Type 0} → List Token → List Entry → Result A SyntaxFault → Result A SyntaxFault
 nested tokens es judged = unless_deep tokens (deep_from (most es) es) judged
 
--- the same, where the rest is a fault
+-- the same, if the rest is a fault
 abbrev pub fault_unless_deep : List Token → Option ℕ → SyntaxFault → SyntaxFault
 fault_unless_deep tokens None fault = fault
 fault_unless_deep tokens (Some left) fault = TooDeep (start_of tokens (length tokens - left))

@@ -28,11 +28,11 @@ start_if (Some token) = token.start
 abbrev pub start_of : List Token → ℕ → ℕ
 start_of tokens number = start_if (slice_get tokens number)
 
--- the parts that the tokens before the failing one hold: those that have ended, and those that are open
+-- the nodes that the tokens before the failing one begin: those that have ended, and those that are open
 abbrev pub parts_before : {tokens : List Kind} {place : ℕ} {construct : Option Construct} → Fails tokens place construct → List Entry
 parts_before {tokens} {place} fails = open_state fails.open_forms (drop place tokens) (written_state fails.open_forms (drop place tokens) [])
 
--- the parts of the cell that the tokens spell, or those before the failing token
+-- the nodes of the cell that the tokens spell, or those before the failing token
 pub data Parts : List Kind → List Entry → Type 0 where
   of_cell : {tokens : List Kind} (cell : Cell) → IsCell tokens cell → Parts tokens (post_cell cell)
   of_open : {tokens : List Kind} {place : ℕ} {construct : Option Construct} (fails : Fails tokens place construct) → Parts tokens (parts_before fails)

@@ -3,7 +3,7 @@
 pub enum Completeness {
     /// The text is a cell.
     Complete,
-    /// The text begins a cell, which has to go on after it. So many spaces are to stand before the next line.
+    /// The text begins a cell, which has to go on after it. The next line is to begin with that many spaces.
     Incomplete(usize),
     /// The text is no cell and begins none, or a cell is refused for its length, its tokens, its nesting or a construct.
     Invalid,

@@ -39,7 +39,7 @@ fn spaces(line: &[u8]) -> usize
     line.iter().take_while(|byte| **byte == b' ').count()
 }
 
-/// How much further in the next line stands.
+/// How many spaces further in the next line is.
 fn further(kind: &Kind) -> usize
     ensures exact { result ≡ spec.further kind.now }
     ensures bound { result ≤ 4 }
@@ -50,7 +50,7 @@ fn further(kind: &Kind) -> usize
     }
 }
 
-/// How far in the line of the last word stands, and further after a colon.
+/// How many spaces the line of the last word begins with, and four more after a colon.
 fn indent_behind(code: &str, last: Option<&Token>) -> usize
     ensures { result ≡ spec.indent_behind code.now (option_copied last.entry) }
 {
@@ -63,7 +63,7 @@ fn indent_behind(code: &str, last: Option<&Token>) -> usize
     }
 }
 
-/// How many spaces are to stand before the line after a code that isn't too long.
+/// How many spaces the line after a code that isn't too long is to begin with.
 fn indent(alloc: Global, code: &str) -> Result<usize, AllocError>
     requires { length code.now ≤ 262144 }
     ensures { IfOk result (λ indent. indent ≡ spec.indent_of code.now (tokens_of code.now)) }
@@ -77,7 +77,7 @@ fn indent(alloc: Global, code: &str) -> Result<usize, AllocError>
 
 /// How far a text is a cell: whether `read_cell` gives a tree, or refuses just the end of the text, or anything else.
 ///
-/// After a text that is incomplete the next line stands as far in as the line of the last token that isn't a line's end,
+/// After a text that is incomplete the next line is as far in as the line of the last token that isn't a line's end,
 /// and four spaces further after a `:`. (Jupyter messaging 5.3, `is_complete_request`.)
 #[tactic(auto, using(crate::proofs::Told::told))]
 pub fn completeness(alloc: Global, code: &str) -> Result<Completeness, AllocError>

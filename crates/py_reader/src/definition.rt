@@ -24,7 +24,7 @@ fn end_of_words(tokens: &[Token]) -> u32
     }
 }
 
-/// The definition of the function that the tokens are, unless something stands before or after it or it is too deep.
+/// The definition of the function that the tokens are, unless something is before or after it or it is too deep.
 fn whole_alone(
     alloc: Global,
     code: &str,
@@ -80,9 +80,9 @@ fn judge_alone(alloc: Global, source: &str) -> Result<Shared<Def>, ReadError>
 
 /// Reads a text that is one function alone, from its first byte to the last byte of its last word.
 ///
-/// Faults are those of `read_cell`, where the first failing token is the first such that no function alone begins with the
-/// tokens up to it. Where the tokens are those of one function and other bytes stand before or after it, the first such byte
-/// is `NoParse`, unless a part is too deep before it. (Python language reference, in the subset of docs/LANGUAGE.md.)
+/// Faults are those of `read_cell`, but the first failing token is the first such that no function alone begins with the
+/// tokens up to it. If the tokens are those of one function and other bytes are before or after it, the first such byte is
+/// `NoParse`, unless a node is too deep before it. (Python language reference, in the subset of docs/LANGUAGE.md.)
 #[tactic(auto, using(crate::proofs::MeantAlone::told))]
 pub fn read_def(alloc: Global, source: &str) -> Result<Shared<Def>, ReadError>
     // The verdict as a definition that computes.

@@ -14,9 +14,9 @@ pub enum SyntaxFault {
     Token(TokenFault),
     /// The first token such that no cell begins with the tokens up to it, and whether that is the end of the text.
     NoParse { at: u32, end: bool },
-    /// The first part that stands at depth 65.
+    /// The first node at depth 65.
     TooDeep(u32),
-    /// That first token, where it begins this construct, which Python has and this language doesn't.
+    /// That first token, if it begins this construct, which Python has and this language doesn't.
     Outside(u32, Construct),
 }
 

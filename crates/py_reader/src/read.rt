@@ -48,7 +48,7 @@ fn refused(at: u32, token: &Kind, construct: Option<Construct>) -> SyntaxFault
     }
 }
 
-/// The place of the first part that is too deep.
+/// The place of the first node that is too deep.
 pub fn too_deep(
     alloc: Global,
     tokens: &[Token],
@@ -80,7 +80,7 @@ fn whole(
     })
 }
 
-/// What stands before the token with that number: the parts that have ended, and those that are open.
+/// The nodes that the tokens before the one with that number begin: those that have ended, and those that are open.
 fn parts_before(alloc: Global, tokens: &[Token], place: usize) -> Result<Stack<Entry>, AllocError>
     requires { place ≤ length tokens.now }
     ensures { IfOk result (ArePartsBefore tokens.now place) }
@@ -137,11 +137,11 @@ fn judge(alloc: Global, code: &str) -> Result<Tree, ReadError>
 
 /// Reads the code of a cell.
 ///
-/// A code of more than 262,144 bytes is `TooLong`, and one without tokens has the fault of its tokens. Otherwise, if a part
-/// stands at depth 65 or deeper, the first such part is `TooDeep`: in a code without a tree a part counts as far as the
-/// tokens before the failing one begin it. Otherwise the code has its one tree in the grammar, or it is refused at the first
-/// token such that no cell begins with the tokens up to it: as `Outside`, where that token begins a construct of Python
-/// that this language leaves out, and else as `NoParse`. (Python language reference, in the subset of docs/LANGUAGE.md.)
+/// A code of more than 262,144 bytes is `TooLong`, and one without tokens has the fault of its tokens. Otherwise, if a node
+/// is at depth 65 or deeper, the first such node is `TooDeep`: in a code without a tree a node counts as far as the tokens
+/// before the failing one begin it. Otherwise the code has its one tree in the grammar, or it is refused at the first token
+/// such that no cell begins with the tokens up to it: as `Outside` if that token begins a construct of Python that this
+/// language leaves out, and else as `NoParse`. (Python language reference, in the subset of docs/LANGUAGE.md.)
 #[tactic(auto, using(crate::proofs::Meant::told, crate::proofs::Sources::sources))]
 pub fn read_cell(alloc: Global, code: &str) -> Result<Tree, ReadError>
     // The verdict as a definition that computes.

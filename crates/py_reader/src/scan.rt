@@ -61,7 +61,7 @@ fn read_token(
     }
 }
 
-/// Reads the first tokens, so many of them.
+/// Reads the first `count` tokens.
 pub fn read_tokens(alloc: Global, tokens: &[Token], count: usize) -> Result<Scan, AllocError>
     requires { count ≤ length tokens.now }
     ensures { IfOk result (Scans (kinds tokens.now) count) }

@@ -11,7 +11,7 @@ use Rattle.py_meaning.specs.declared.end.CellError.{CellError}
 use Rattle.py_meaning.specs.declared.end.CellError.TheVariants as error
 use Rattle.py_meaning.specs.Cells.{UsesUp, end, end_state}
 use Rattle.py_session.specs.declared.reply.Failure.{Failure}
-use Rattle.py_session.specs.declared.reply.Reply.{Reply}
+use Rattle.py_session.specs.declared.reply.CellReply.{CellReply}
 
 -- ---- errors
 
@@ -38,13 +38,13 @@ abbrev pub state_after : State → List Drawn → Judged → State
 state_after s draws (Err fault) = counted s
 state_after s draws (Ok body) = end_state body (counted s) draws
 
-abbrev pub reply_of : ℕ → CellEnd → Reply
+abbrev pub reply_of : ℕ → CellEnd → CellReply
 reply_of count cell = record { count = count; printed = cell.printed; result = cell.result; error = option_map failure cell.error }
 
-abbrev pub refusal : ℕ → SyntaxFault → Reply
+abbrev pub refusal : ℕ → SyntaxFault → CellReply
 refusal count fault = record { count = count; printed = []; result = None; error = Some (refused fault) }
 
-abbrev pub reply_to : State → List Drawn → Judged → Reply
+abbrev pub reply_to : State → List Drawn → Judged → CellReply
 reply_to s draws (Err fault) = refusal (s.count + 1) fault
 reply_to s draws (Ok body) = reply_of (s.count + 1) (end body (counted s) draws)
 
@@ -58,7 +58,7 @@ unfoldable pub next_state : List ℕ → List Drawn → State → State
 next_state code draws s = state_after s draws (verdict code)
 
 -- the reply to a cell with this code that takes these draws
-unfoldable pub answer : List ℕ → List Drawn → State → Reply
+unfoldable pub answer : List ℕ → List Drawn → State → CellReply
 answer code draws s = reply_to s draws (verdict code)
 
 -- a cell with this code takes just these draws
@@ -68,7 +68,7 @@ Takes code draws s = TakesJust s draws (verdict code)
 -- ---- all cells: each a code, and the draws that it takes
 
 -- the replies of a session to these cells
-abbrev pub answers : State → List (List ℕ × List Drawn) → List Reply
+abbrev pub answers : State → List (List ℕ × List Drawn) → List CellReply
 answers s [] = []
 answers s (cell ∷ more) = answer cell.0 cell.1 s ∷ answers (next_state cell.0 cell.1 s) more
 

@@ -9,7 +9,7 @@ pub struct Failure {
 
 /// The reply to a cell. (Jupyter messaging 5.3, `execute_reply`, `stream`, `execute_result` and `error`.)
 #[derive(Drop)]
-pub struct Reply {
+pub struct CellReply {
     /// The count of the cell.
     pub count: u32,
     /// All that it printed.

@@ -33,7 +33,7 @@ use Rattle.py_show.proofs.Limiting.{limited_more, limited_shift}
 abbrev pub on_machine : {A : Type 0} → Machine → Ending A → Outcome A
 on_machine m ending = (ending.0, record m { steps = ending.1 })
 
--- a run and what is put, whatever bytes stand before
+-- a run and what is put, whatever bytes come before
 pub record Alike (state : State) (p : List ℕ → Act (List ℕ)) (s : Puts) : Type 0 where
   pub on : (before text : List ℕ) (draws : List Drawn) (m : Machine) → m.state ≡ state
       → limited_after before (run (p text) draws m) ≡ on_machine m (s (limited (before ++ text)) m.steps)
@@ -43,7 +43,7 @@ pub record Written (state : State) (p : Act (List ℕ)) (s : Puts) : Type 0 wher
   pub on : (before : List ℕ) (draws : List Drawn) (m : Machine) → m.state ≡ state
       → limited_after before (run p draws m) ≡ on_machine m (s (limited before) m.steps)
 
--- one after the other; the second may stand after other bytes
+-- one after the other; the second may come after other bytes
 joined : (before outer : List ℕ) (r : Result (List ℕ) Stop) (n : Machine) (q : Result Limit Stop) (k : ℕ) (m : Machine)
     (next : List ℕ → Machine → Outcome (List ℕ)) (t : Puts)
     → limited_after before (r, n) ≡ on_machine m (q, k)

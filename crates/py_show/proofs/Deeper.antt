@@ -20,7 +20,7 @@ unfolding level
 level-left zero = refl
 level-left (suc n) = refl
 
--- the list from a place on
+-- the list from an index on
 pub dropped : {A : Type 0} (xs : List A) (i : ℕ) (x : A) → slice_get xs i ≡ Some x → drop i xs ≡ x ∷ drop (i + 1) xs
 dropped xs i x h = drop_more xs i x (slice_get_within xs i x h) ∙ ap (λ z. z ∷ drop (i + 1) xs) (get_or_from_slice_get xs i x x h)
 

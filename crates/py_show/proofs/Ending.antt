@@ -1,4 +1,4 @@
--- What functions ensure, from what they put; and what stands after a text.
+-- What functions ensure, from what they put; and what comes after a text.
 use Rattle.std.proofs.Common.{◌≡◌, ℕ, zero, suc, ◌+◌, ◌<◌, true, false, List, [], length, drop, Some, None, Result, Ok, Err, refl, sym, ap, subst, ◌∙◌, arith}
 use Rattle.std.specs.Prelude.{nat_le, slice_get, codes}
 use Rattle.std.proofs.lemmas.Bool.Decides.{nat_tests}
@@ -63,7 +63,7 @@ pair_err state s path pairs i pair text steps e r new now at is t h =
     next_pair state s path pairs i pair text steps at
     ∙ gives_err e r (on.pair_shown state s path pair (pushed text (codes ", ")) steps) new now (on.more_pairs state s path (drop (i + 1) pairs)) is t h
 
--- goes on after a text that is held as far as the limit
+-- goes on after a text that is kept as far as the limit
 ended_by : {B : Type 0} (r : Result (List ℕ) Stop) (n : Machine) (text : Limit) (m : Machine) (next : List ℕ → Machine → Outcome B) (x : Outcome B)
     → limited_after [] (r, n) ≡ (Ok text, m) → ((bytes : List ℕ) → limited bytes ≡ text → next bytes m ≡ x) → runs.after r n next ≡ x
 ended_by (Ok a) n text m next x h g =
@@ -79,7 +79,7 @@ pub ended : {B : Type 0} (o : Outcome (List ℕ)) (text : Limit) (m : Machine) (
     → limited_after [] o ≡ (Ok text, m) → ((bytes : List ℕ) → limited bytes ≡ text → next bytes m ≡ x) → runs.after o.0 o.1 next ≡ x
 ended o text m next x h g = ended_by o.0 o.1 text m next x h g
 
--- or not, where it is an end
+-- or doesn't go on, if it is an end
 stopped_by : {B : Type 0} (r : Result (List ℕ) Stop) (n : Machine) (e : Stop) (m : Machine) (next : List ℕ → Machine → Outcome B)
     → limited_after [] (r, n) ≡ (Err e, m) → runs.after r n next ≡ (Err e, m)
 stopped_by (Ok a) n e m next h =
@@ -120,7 +120,7 @@ charge_err (Raised x) r o m is t h = rw is (h refl)
 past_limit : (meter n : ℕ) → 16777216 < n → nat_le (meter + n) 16777216 ≡ false
 past_limit meter n h = grind (arith, nat_tests)
 
--- the charge of a text that isn't held is refused
+-- the charge of a text that isn't kept is refused
 pub refused : (bytes : List ℕ) (m : Machine) → limited bytes ≡ None → runs.charge (length bytes) m ≡ raise memory_error m
 unfolding runs.charge
 refused bytes m h = let past = past_limit m.state.meter (length bytes) (is_long bytes h) in rw past refl

@@ -36,7 +36,7 @@ more_by false bytes more e =
     let longer : 16777216 < length (bytes ++ more) = omega (arith, length-append bytes more) in
     ap (λ t. pushed t more) (limited_long bytes long) ∙ sym (limited_long (bytes ++ more) longer)
 
--- what is held of a text with more after it is told by what is held of it
+-- what is kept of a text with more after it is told by what is kept of it
 pub limited_more : (bytes more : List ℕ) → pushed (limited bytes) more ≡ limited (bytes ++ more)
 limited_more bytes more = more_by (nat_le (length bytes) 16777216) bytes more refl
 
@@ -47,7 +47,7 @@ is_by : (b : Bool) (bytes text : List ℕ) → nat_le (length bytes) 16777216 �
 is_by true bytes text e h = let same : Some bytes ≡ Some text = sym (limited_short bytes (from_true _ _ e)) ∙ h in cc
 is_by false bytes text e h = let none : None ≡ Some text = sym (limited_long bytes (from_false _ _ e)) ∙ h in absurd (let no : ⊥ = cc in no)
 
--- a text that is held is whole
+-- a text that is kept is whole
 pub limited_is : (bytes text : List ℕ) → limited bytes ≡ Some text → bytes ≡ text
 limited_is bytes text h = is_by (nat_le (length bytes) 16777216) bytes text refl h
 
@@ -55,7 +55,7 @@ long_by : (b : Bool) (bytes : List ℕ) → nat_le (length bytes) 16777216 ≡ b
 long_by true bytes e h = let none : Some bytes ≡ None = sym (limited_short bytes (from_true _ _ e)) ∙ h in absurd (let no : ⊥ = cc in no)
 long_by false bytes e h = from_false _ _ e
 
--- a text that isn't held is longer than the limit
+-- a text that isn't kept is longer than the limit
 pub is_long : (bytes : List ℕ) → limited bytes ≡ None → 16777216 < length bytes
 is_long bytes h = long_by (nat_le (length bytes) 16777216) bytes refl h
 
@@ -63,7 +63,7 @@ within_by : (b : Bool) (bytes : List ℕ) → nat_le (length bytes) 16777216 ≡
 within_by true bytes e = let short : length bytes ≤ 16777216 = from_true _ _ e in rw (limited_short bytes short) short
 within_by false bytes e = rw (limited_long bytes (from_false _ _ e)) tt
 
--- what is held is within the limit
+-- what is kept is within the limit
 pub limited_within : (bytes : List ℕ) → IfSome (limited bytes) (λ text. length text ≤ 16777216)
 limited_within bytes = within_by (nat_le (length bytes) 16777216) bytes refl
 

@@ -3,7 +3,7 @@
 use Rattle.std.specs.Prelude.{ℕ, ◌-◌, cond, nat_le, List, ◌++◌, length, Option, Some, None}
 use Rattle.py_heap.specs.Valid.{meter_limit}
 
--- the text, or nothing where it is longer than the limit
+-- the text, or nothing if it is longer than the limit
 abbrev pub Limit : Type 0
 Limit = Option (List ℕ)
 
@@ -15,7 +15,7 @@ abbrev pub pushed : Limit → List ℕ → Limit
 pushed (Some text) more = limited (text ++ more)
 pushed None more = None
 
--- how many bytes more can be held
+-- how many bytes more can be kept
 abbrev pub room : Limit → ℕ
 room (Some text) = meter_limit - length text
 room None = 0

@@ -20,7 +20,7 @@ use Rattle.py_show.specs.Limits.{Limit, pushed}
 abbrev pub Ending : Type 0 → Type 0
 Ending A = Result A Stop × ℕ
 
--- goes on where there is a value
+-- goes on if there is a value
 abbrev pub after : {A B : Type 0} → Result A Stop → ℕ → (A → ℕ → Ending B) → Ending B
 after (Ok a) steps next = next a steps
 after (Err e) steps next = (Err e, steps)
@@ -98,7 +98,7 @@ module _ (state : State) (below : List ℕ → Value → Puts) where
   abbrev pub one_written : Value → Puts
   one_written held = stepped (str_shown held)
 
--- what a value shows, with so many levels left
+-- what a value shows, with this many levels left
 unfoldable pub shown : State → ℕ → List ℕ → Value → Puts
 shown state zero path held = fails recursion_error
 shown state (suc n) path held = one_shown state (shown state n) path held

@@ -34,7 +34,7 @@ abbrev pub limited_after : List ℕ → Outcome (List ℕ) → Outcome Limit
 limited_after before outcome = (limited_text before outcome.0, outcome.1)
 
 -- On every machine that has this state and these steps, the run gives what is put after the bytes that the text stands
--- for, or the same end; and of the machine the steps alone change.
+-- for, or the same end. Of the machine only the steps change.
 abbrev pub PutsRun : Run (List ℕ) → State → Limit → ℕ → Result (Unit {0}) Fault → Limit → ℕ → Type 0
 PutsRun go state text steps result new now = (before : List ℕ) (draws : List Drawn) (m : Machine)
     → m.state ≡ state → m.steps ≡ steps → limited before ≡ text → tells result ≡ true

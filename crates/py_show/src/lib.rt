@@ -1,7 +1,7 @@
 //! The text that a value shows: its `str` and its `repr`. (Python reference: `str`, `repr`.)
 //!
-//! What shows reads a state that it is lent, and counts steps. It copies no list and no dict, and it never holds more than
-//! `METER_LIMIT` bytes of an output: of a longer one it keeps only that it is longer. That is enough, since each use
+//! The functions that show values borrow a state, and count steps. They copy no list and no dict, and they never keep more
+//! than `METER_LIMIT` bytes of an output: of a longer one they keep only that it is longer. That is enough, since each use
 //! charges the bytes of its output, and that charge is refused.
 #![tactic(auto)]
 

@@ -9,8 +9,8 @@ use std::mem;
 /// The most bytes of an output: `METER_LIMIT`.
 const MAX_BYTES: usize = 16_777_216;
 
-/// An output, which contracts see as its text, or as nothing where that is longer than `METER_LIMIT` bytes. Such a text
-/// isn't held, nor is any part of it.
+/// An output, which contracts see as its text, or as nothing if that is longer than `METER_LIMIT` bytes. Such a text
+/// isn't kept, nor is any piece of it.
 #[derive(Drop)]
 pub struct Limited {
     text: Option<Text>,
@@ -62,14 +62,14 @@ impl Limited {
         })
     }
 
-    /// Whether the text is longer than what is held.
+    /// Whether the text is longer than `METER_LIMIT` bytes, so that it isn't kept.
     pub fn is_long(&self) -> bool
         ensures { result ≡ is_none self.now }
     {
         self.text.is_none()
     }
 
-    /// How many bytes more can be held.
+    /// How many bytes more can be kept.
     pub(crate) fn room(&self) -> usize
         ensures value { result ≡ spec.room self.now }
         ensures limit { result ≤ 16777216 }
@@ -87,7 +87,7 @@ impl Limited {
         self.text = None;
     }
 
-    /// Puts a text at the end. After an error the output stands for nothing.
+    /// Puts a text at the end. After an error the output means nothing.
     pub fn push_str(&mut self, more: &str) -> Result<(), AllocError>
         ensures { OnOk result (self.new ≡ spec.pushed self.old more.now) }
     {

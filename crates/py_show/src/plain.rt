@@ -39,7 +39,7 @@ fn plain_text(alloc: Global, value: &Value) -> Result<Text, AllocError>
     }
 }
 
-/// Puts the text of a value that isn't looked into. It isn't made where the output is too long already.
+/// Puts the text of a value that isn't looked into. It isn't made if the output is too long already.
 pub(crate) fn put_plain(alloc: Global, value: &Value, out: &mut Limited) -> Result<(), AllocError>
     ensures { OnOk result (out.new ≡ pushed out.old (spec.plain_text value.now)) }
 {

@@ -64,7 +64,7 @@ pub fn written_of(
     Ok(out)
 }
 
-/// The text of an output, charged by its bytes. One that is too long to be held is past every meter.
+/// The text of an output, charged by its bytes. One that is too long to be kept is past every meter.
 pub fn charge_shown(alloc: Global, machine: &mut Machine, out: Limited) -> Result<Text, Fault>
     ensures runs { Charges out machine.old result machine.new }
     ensures text { IfOk result (λ text. out ≡ Some text) }
@@ -153,7 +153,7 @@ fn line_of(
     Ok(out)
 }
 
-/// Prints a line of the texts of values, charged by its bytes. The values stand one level below the call.
+/// Prints a line of the texts of values, charged by its bytes. The values are one level below the call.
 pub fn print_line(
     alloc: Global,
     left: u32,
@@ -186,7 +186,7 @@ fn text_str(
     Ok(Value::Text(text.share()?))
 }
 
-/// The `str` of a value, which stands one level below the call. A text that is made is charged by its bytes.
+/// The `str` of a value, which is one level below the call. A text that is made is charged by its bytes.
 pub fn str_value(
     alloc: Global,
     left: u32,
@@ -205,7 +205,7 @@ pub fn str_value(
     }
 }
 
-/// The `repr` of a value, which stands one level below the call, charged by its bytes.
+/// The `repr` of a value, which is one level below the call, charged by its bytes.
 pub fn repr_value(
     alloc: Global,
     left: u32,

@@ -39,7 +39,7 @@ fn escaped_len(quote: u8, byte: u8) -> usize
     }
 }
 
-/// Whether what a text shows as has at most so many bytes. Takes no memory.
+/// Whether what a text shows as has at most `room` bytes. Takes no memory.
 fn quoted_fits(text: &str, room: usize) -> bool
     requires { room ≤ 16777216 }
     ensures { result ≡ nat_le (length (spec.quoted text.now)) room }
@@ -55,7 +55,7 @@ fn quoted_fits(text: &str, room: usize) -> bool
     len <= room
 }
 
-/// Puts what a text shows as. It isn't made if the output would be too long to be held.
+/// Puts what a text shows as. It isn't made if the output would be too long to be kept.
 pub(crate) fn put_quoted(
     alloc: Global,
     text: &SharedText,

@@ -294,7 +294,7 @@ fn show(
     show_one(alloc, left - 1, state, steps, path, value, out)
 }
 
-/// Puts what a value shows (its `repr`), with `left` levels left.
+/// Puts what a value shows (its `repr`), with `left` levels left and no list or dict open.
 fn show_first(
     alloc: Global,
     left: u32,

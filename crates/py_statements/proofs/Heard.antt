@@ -46,7 +46,7 @@ new-spelled {f} s i rest =
     let first : is_new i (f []) ≡ is_new i s.tokens = ap (is_new i) (s.spelled []) ∙ is_new-append i s.tokens [] ∙ and_true (is_new i s.tokens) in
     ap (is_new i) (s.spelled rest) ∙ is_new-append i s.tokens rest ∙ ap (λ b. b && is_new i rest) (sym first)
 
--- a name is new after one more token where it was new and isn't the token
+-- a name is new after one more token if it was new and isn't the token
 abbrev pub Adds1 : List Kind → Kind → List Kind → Type 0
 Adds1 ks t more = (i : List ℕ) → is_new i more ≡ (is_new i ks && not (is_name i t))
 
@@ -57,7 +57,7 @@ adds {f} s t more same = λ i. ap (is_new i) same ∙ new-spelled s i (t ∷ [])
 pub adds_behind : {f : List Kind → List Kind} → Spelling f → (ks : List Kind) (t : Kind) (more : List Kind) → Adds1 ks t more → Adds1 (f ks) t (f more)
 adds_behind {f} s ks t more a = λ i. new-spelled s i more ∙ ap (λ b. is_new i (f []) && b) (a i) ∙ sym (and_assoc (is_new i (f [])) (is_new i ks) (not (is_name i t))) ∙ ap (λ b. b && not (is_name i t)) (sym (new-spelled s i ks))
 
--- ---- where a function is open
+-- ---- when a function is open
 
 abbrev pub Grown : Option (List Kind) → Kind → Option (List Kind) → Type 0
 Grown ks t None = Unit {0}
@@ -140,9 +140,9 @@ purpose-tokens u = state-tokens (in_simple [] (own None) u begun)
 lead-tokens : (l : Lead) → Spelling (spell_lead l)
 lead-tokens l = state-tokens (in_test [] None l begun)
 
--- ---- what stands in a block, once it is closed
+-- ---- what is in a block, once it is closed
 
--- a function stands at the top
+-- a function is at the top
 top-outside : (os : List Outer) → IsTrue (around os).top → (around os).in_function ≡ false
 top-outside [] h = refl
 top-outside (outer before (choose c) ∷ os) h = absurd (false≢true h)

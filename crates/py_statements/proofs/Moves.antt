@@ -40,7 +40,7 @@ block_around-held (while_true a) x = refl
 block_around-held (for_each m a) x = refl
 block_around-held (define m ps) x = refl
 
--- a head, and where its block stands
+-- a head, and where its block is
 outer-held : (os : List m.Outer) (hd : g.Head) (rest before : List Kind) → Same (h.AfterColon (held_outers os before) (record { head = held_head hd; from = length (own_head hd rest); around = block_around (held_head hd) (around_of (held_outers os before)) }), []) (h.AfterColon (held_outers os before) (held_outer os hd rest), [])
 outer-held os hd rest before = ap (λ x. (h.AfterColon (held_outers os before) (record { head = held_head hd; from = length (own_head hd rest); around = x }), [])) (ap (block_around (held_head hd)) (around-held os before) ∙ block_around-held hd (m.around os))
 
@@ -115,7 +115,7 @@ end_at-shown : (os : List m.Outer) (before : Option Statements) (rest : List Kin
 end_at-shown [] before rest es = refl
 end_at-shown (outer b hd ∷ os) before rest es = refl
 
--- ---- the other places
+-- ---- the other states
 
 on_word-shown : (names : Names) (os : List m.Outer) (at : m.Spot) (w : g.Word) (t : Kind) (rest : List Kind) (es : List Entry) → moves (length (t ∷ rest)) (length rest) (held_state (after_word os at w) (t ∷ rest)) names t (written_state (after_word os at w) (t ∷ rest) es) ≡ shown rest es (m.on_word os at w t)
 on_word-shown names os at pass_ t.Newline rest es = ap Some (ended-shown os at (word pass_) rest es)
@@ -205,7 +205,7 @@ lead-shown os before (lead_elif bs) a rest es = opens-shown os before (choose (e
 lead-shown os before lead_while a rest es = opens-shown os before (while_true a) rest es
 lead-shown os before (lead_for i) a rest es = opens-shown os before (for_each i a) rest es
 
--- what has been written where the expression of a head begins
+-- what has been written when the expression of a head begins
 abbrev before_test : List m.Outer → Option Statements → m.Lead → List Kind → List Entry → List Entry
 before_test os before l begin es = written_lead l begin (before_head os before (spell_lead l begin) es)
 

@@ -32,7 +32,7 @@ use Rattle.py_statements.specs.Written.{written_outer, written_outers, written_p
 use Rattle.py_statements.specs.Steps.{Step, around_of, spot_around, last_of, closed, ended, if_allowed, valued, finished as finished_held, goes_on, begins_word, begins, ends, assigns, if_showing, assignment, on_simple}
 use Rattle.py_statements.proofs.Reading.{read_shown, whole_shown, place_shown}
 
--- what is held and written where these forms are open, before these tokens
+-- what is held and written when these forms are open, before these tokens
 abbrev pub shown : List Kind → List Entry → Option m.State → Step
 shown rest es None = None
 shown rest es (Some u) = Some (held_state u rest, written_state u rest es)
@@ -41,7 +41,7 @@ shown rest es (Some u) = Some (held_state u rest, written_state u rest es)
 abbrev pub Same : State × List Entry → State × List Entry → Type 0
 Same a b = a ≡ b
 
--- ---- where it stands
+-- ---- where it is
 
 pub around-held : (os : List m.Outer) (rest : List Kind) → around_of (held_outers os rest) ≡ held_around (m.around os)
 around-held [] rest = refl
@@ -80,7 +80,7 @@ ended-shown os (own None) s rest es = refl
 ended-shown os (own (Some ss)) s rest es = refl
 ended-shown os (behind_head (outer before hd)) s rest es = closed-shown os before hd (inline s) rest es
 
--- ---- the simple statement, where it may end
+-- ---- the simple statement, if it may end
 
 abbrev pub SpellsPlace : Option Target → (List Kind → List Kind) → Type 0
 SpellsPlace None f = Unit {0}
@@ -165,7 +165,7 @@ simple-shown : (os : List m.Outer) (at : m.Spot) (u : m.Purpose) (s : r.Reading)
 simple-shown os at u s rest es begin e =
     ap (λ x. (h.InSimple (held_outers os (spell_spot at (spell_purpose u x))) (held_spot os at (spell_purpose u x)) (held_purpose u) (length (spell_purpose u x)) (held s rest), written s rest (written_purpose u x (before_simple os at (spell_purpose u x) es)))) (sym e)
 
--- where it may go on
+-- if it may go on
 goes-shown : (os : List m.Outer) (at : m.Spot) (u : m.Purpose) (s : r.Reading) (rest : List Kind) (es : List Entry) (begin : List Kind) → spell_reading s rest ≡ begin
     → goes_on (held_outers os (spell_spot at (spell_purpose u begin))) (held_spot os at (spell_purpose u begin)) (held_purpose u) (length (spell_purpose u begin)) (Some (held s rest, written s rest (written_purpose u begin (before_simple os at (spell_purpose u begin) es)))) ≡ shown rest es (m.then_simple os at u (Some s))
 goes-shown os at showing s rest es begin e = ap Some (simple-shown os at showing s rest es begin e)
@@ -191,7 +191,7 @@ begins-shown os at global_word rest es = allowed-shown (m.spot_around os at).in_
 begins-shown os at del_word rest es = refl
 begins-shown os at t rest es = goes_on-shown os at showing (read begun t) _ t (λ x. x) rest es (read-adds begun t) (step-seen begun t rest (before_simple os at (t ∷ rest) es))
 
--- ---- a place is assigned to
+-- ---- a target is assigned to
 
 assigns-shown : (os : List m.Outer) (at : m.Spot) (u : m.Purpose) (o : Option Target) (p : Option (List Entry)) (f : List Kind → List Kind) (rest : List Kind) (es : List Entry) → SpellsPlace o f
     → (u ≡ showing → p ≡ place_shown (assign_sign ∷ rest) (before_simple os at (f (assign_sign ∷ rest)) es) o)

@@ -11,7 +11,7 @@ use Rattle.py_statements.specs.Written.{written_state}
 use Rattle.py_statements.specs.Heard.{heard_now}
 use Rattle.py_statements.specs.Steps.{Names, is_new_in, start, step, run}
 
--- where a function is open, the names are those that stand in it
+-- if a function is open, the names are those that are in it
 abbrev pub HearsIn : Option (List Kind) → Names → Type 0
 HearsIn None names = Unit {0}
 HearsIn (Some ks) names = (n : List ℕ) → is_new_in names n ≡ is_new n ks
@@ -19,16 +19,16 @@ HearsIn (Some ks) names = (n : List ℕ) → is_new_in names n ≡ is_new n ks
 abbrev pub Hears : m.State → Names → Type 0
 Hears s names = HearsIn (heard_now s) names
 
--- what is held where these forms are open, before these tokens
+-- what is held when these forms are open, before these tokens
 abbrev pub reader_at : m.State → List Kind → Names → Reader
 reader_at s rest names = record { state = held_state s rest; names = names }
 
--- what stands before these tokens is what these forms say, if there are any, and nothing else
+-- what is found before these tokens is what these forms say, if there are any, and otherwise nothing
 abbrev pub Follows : List Kind → List Entry → Option (Reader × List Entry) → Option m.State → Type 0
 Follows rest es found None = found ≡ None
 Follows rest es found (Some u) = (names : Names) × (found ≡ Some (reader_at u rest names, written_state u rest es)) × Hears u names
 
--- one more token makes of what is held and written what it makes of the forms
+-- one more token does to what is held and written what it does to the forms
 abbrev pub StepFollows : Type 0
 StepFollows = (s : m.State) (token : Kind) (rest : List Kind) (es : List Entry) (names : Names) → state_stands s → Hears s names
     → Follows rest es (step (length (token ∷ rest)) (length rest) (reader_at s (token ∷ rest) names) token (written_state s (token ∷ rest) es)) (m.step s token)

@@ -10,7 +10,7 @@ use Rattle.py_grammar.specs.States.{Outer, outer, State, line, in_simple, after_
 abbrev in_function : List Outer → List Kind → Option (List Kind)
 in_function os ks = if (around os).in_function then Some ks else None
 
--- the tokens of the function that is open, its parameters first; none where no function is open
+-- the tokens of the function that is open, its parameters first; none if no function is open
 abbrev pub heard_now : State → Option (List Kind)
 heard_now (line os before) = in_function os (heard os (spell_front before []))
 heard_now (in_simple os at u r) = if (spot_around os at).in_function then Some (spot_heard os at (spell_purpose u (spell_reading r []))) else None

@@ -41,7 +41,7 @@ held_head (define n ps) = head.Function
 abbrev pub held_around : g.Around → Around
 held_around a = record { top = a.top; in_function = a.in_function; in_loop = a.in_loop }
 
--- a head, and where its block stands
+-- a head, and where its block is
 abbrev pub held_outer : List m.Outer → g.Head → List Kind → Outer
 held_outer os h rest = record { head = held_head h; from = length (own_head h rest); around = held_around (g.inside h (m.around os)) }
 

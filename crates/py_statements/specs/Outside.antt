@@ -46,7 +46,7 @@ abbrev pub is_assigning : Purpose → Bool
 is_assigning purpose.Assigning = true
 is_assigning _ = false
 
--- `=` after `place = expression`
+-- `=` after `target = expression`
 abbrev pub chained : Purpose → Reading → Kind → Option Construct
 chained u r (t.Symbol s.Assign) = if is_assigning u then (if is_whole r then Some ChainedAssignment else None) else None
 chained u r _ = None

@@ -45,7 +45,7 @@ use Rattle.py_statements.specs.declared.state.Reader.{Reader}
 abbrev pub Step : Type 0
 Step = Option (State × List Entry)
 
--- ---- where it stands
+-- ---- where it is
 
 abbrev pub outside_all : Around
 outside_all = record { top = true; in_function = false; in_loop = false }
@@ -58,7 +58,7 @@ abbrev pub spot_around : List Outer → Spot → Around
 spot_around os spot.Own = around_of os
 spot_around os (spot.Behind o) = o.around
 
--- where the block of such a head stands
+-- where the block of such a head is
 abbrev pub block_around : Head → Around → Around
 block_around head.If a = record { top = false; in_function = a.in_function; in_loop = a.in_loop }
 block_around head.Elif a = record { top = false; in_function = a.in_function; in_loop = a.in_loop }
@@ -98,7 +98,7 @@ head_node head.While = n.While
 head_node head.For = n.For
 head_node head.Function = n.Function
 
--- what stands before the next statement where a block of such a head ends
+-- what is before the next statement when a block of such a head has ended
 abbrev pub last_of : Head → Last
 last_of head.If = last.Branches
 last_of head.Elif = last.Branches
@@ -113,12 +113,12 @@ abbrev pub ended : ℕ → ℕ → List Outer → Spot → Node → ℕ → List
 ended at left os spot.Own node from es = (h.Line os last.Other, span node from at es)
 ended at left os (spot.Behind o) node from es = (h.Line os (last_of o.head), closed left o (span node from at es))
 
--- what is written where its expression ends
+-- what is written when its expression ends
 abbrev pub valued : Node → Option (List Entry) → Option (Node × List Entry)
 valued node None = None
 valued node (Some es) = Some (node, es)
 
--- the simple statement, where it may end
+-- the simple statement, if it may end
 abbrev pub finished : ℕ → Purpose → Reading → List Entry → Option (Node × List Entry)
 finished at purpose.Showing r es = valued n.Show (ex.ended at r es)
 finished at purpose.Giving r es = if is_begun r then Some (n.Return false, es) else valued (n.Return true) (ex.ended at r es)
@@ -197,7 +197,7 @@ abbrev pub ends : ℕ → ℕ → List Outer → Spot → ℕ → Option (Node �
 ends at left os spot from None = None
 ends at left os spot from (Some (node, es)) = Some (ended at left os spot node from es)
 
--- a place is assigned to: a value is to come
+-- a target is assigned to: a value is to come
 abbrev pub assigns : ℕ → List Outer → Spot → Purpose → ℕ → Option (List Entry) → Step
 assigns left os spot next from None = None
 assigns left os spot next from (Some es) = Some (h.InSimple os spot next from (begun left), es)
@@ -318,7 +318,7 @@ on_newline os o _ es = None
 
 -- ---- one more token of a cell
 
--- where names of a function are read
+-- when names of a function are read
 abbrev pub function_moves : ℕ → ℕ → State → Names → Kind → List Entry → Step
 function_moves at left (h.InGlobal os spot from) names t es = on_global os spot from names t es
 function_moves at left (h.HasGlobal os spot from) names t es = on_global_name at left os spot from t es

@@ -41,11 +41,11 @@ abbrev pub written_names : Option Names → List Entry → List Entry
 written_names None es = mark n.NoNames es
 written_names (Some ms) es = post_names ms (mark n.NoNames es)
 
--- what stands before a simple statement, and before a head
+-- what is before a simple statement, and before a head
 abbrev pub before_simple : List Outer → Spot → List Kind → List Entry → List Entry
 before_simple os at rest es = written_spot at rest (written_outers os (spell_spot at rest) es)
 
--- what has been written where a head begins: a branch stands after those before it
+-- what has been written when a head begins: a branch is after those before it
 abbrev pub before_head : List Outer → Option Statements → List Kind → List Entry → List Entry
 before_head os before rest es = post_front before rest (written_outers os (spell_front before rest) es)
 

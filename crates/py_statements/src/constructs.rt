@@ -53,7 +53,7 @@ fn is_assigning(purpose: Purpose) -> bool
     }
 }
 
-/// `=` after `place = expression`.
+/// `=` after `target = expression`.
 fn chained(purpose: Purpose, reading: &Reading, token: &Kind) -> Option<Construct>
     ensures { result ≡ chained purpose reading.now token.now }
 {

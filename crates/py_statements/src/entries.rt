@@ -1,4 +1,4 @@
-//! What is written where a statement or its head begins and ends.
+//! What is written when a statement or its head begins and ends.
 ghost use Rattle.std.specs.Prelude.{◌≡◌, OnOk};
 ghost use Rattle.py_postfix.specs.Entries.{mark};
 ghost use Rattle.py_expressions.specs.Endings.{span};
@@ -9,7 +9,7 @@ use plain_data::Stack;
 use py_postfix::{Entry, Node};
 use std::alloc::AllocError;
 
-/// A part between these places.
+/// Writes the entry of a node between these positions.
 pub fn write_span(
     node: Node,
     from: usize,
@@ -21,7 +21,7 @@ pub fn write_span(
     entries.push(Entry { node, from, to })
 }
 
-/// An entry that is no part.
+/// Writes an entry that doesn't count as a node: both its ends are 0.
 pub fn write_mark(node: Node, entries: &mut Stack<Entry>) -> Result<(), AllocError>
     ensures { OnOk result (entries.new ≡ mark node entries.old) }
 {
@@ -32,7 +32,7 @@ pub fn write_mark(node: Node, entries: &mut Stack<Entry>) -> Result<(), AllocErr
     })
 }
 
-/// Where a statement stands in the innermost block.
+/// Where a statement of the innermost block is.
 pub fn around_of(outers: &Stack<Outer>) -> Around
     ensures { result ≡ around_of outers.now }
 {
@@ -46,6 +46,7 @@ pub fn around_of(outers: &Stack<Outer>) -> Around
     }
 }
 
+/// Where a simple statement at this spot is.
 pub fn spot_around(outers: &Stack<Outer>, spot: Spot) -> Around
     ensures { result ≡ spot_around outers.now spot }
 {
@@ -55,7 +56,7 @@ pub fn spot_around(outers: &Stack<Outer>, spot: Spot) -> Around
     }
 }
 
-/// Where the block of such a head stands.
+/// Where the block of such a head is.
 pub fn block_around(head: Head, around: Around) -> Around
     ensures { result ≡ block_around head around }
 {
@@ -88,6 +89,7 @@ fn head_node(head: Head) -> Node
     }
 }
 
+/// The node of a statement of one word.
 pub fn word_node(word: Word) -> Node
     ensures { result ≡ word_node word }
 {
@@ -98,7 +100,7 @@ pub fn word_node(word: Word) -> Node
     }
 }
 
-/// What stands before the next statement where a block of such a head ends.
+/// What is before the next statement when a block of such a head has ended.
 pub fn last_of(head: Head) -> Last
     ensures { result ≡ last_of head }
 {

@@ -45,7 +45,7 @@ pub fn on_def_name(from: usize, token: &Kind, entries: &mut Stack<Entry>) -> Res
     }
 }
 
-/// Where a parameter may come.
+/// When a parameter may come.
 pub fn on_params(
     alloc: Global,
     from: usize,

@@ -10,12 +10,12 @@ ghost use Rattle.py_statements.specs.Steps.{is_done};
 ghost use Rattle.py_statements.specs.Follows.{StepFollows, RunFollows};
 ghost use Rattle.py_statements.specs.Outside.{outside};
 
-/// One more token is read just where the forms go on with it, and what is held and written then is what they say.
+/// One more token is read exactly if the forms go on with it. What is held and written then is what they say.
 pub fn a_token_is_read_as_its_forms_are()
     ensures { StepFollows }
 {}
 
-/// Tokens are read from the first just where the forms are, and what is held and written then is what they say.
+/// Tokens are read from the first exactly if their forms are. What is held and written then is what they say.
 pub fn tokens_are_read_as_their_forms_are()
     ensures { RunFollows }
 {}

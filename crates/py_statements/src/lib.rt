@@ -1,7 +1,7 @@
 //! Reading a cell token by token, and writing its postfix form.
 //!
 //! What is open of a cell is held as what has still to be written: which blocks are open, what kind of statement is being
-//! read, and where they began. Places are counted from the end: how many tokens were left.
+//! read, and where they began. Positions are counted from the end: how many tokens were left.
 #![tactic(auto)]
 
 mod constructs;

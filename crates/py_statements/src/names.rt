@@ -7,13 +7,14 @@ use plain_data::{Text, TextMap};
 use py_token::{Kind, Symbol};
 use std::alloc::{AllocError, Global};
 
+/// Whether the name isn't among these.
 pub fn is_new(names: &TextMap<bool>, name: &Text) -> bool
     ensures { result ≡ is_new_in names.now name.now }
 {
     names.look(name).is_none()
 }
 
-/// Another function begins.
+/// Whether another function begins.
 pub fn begins_function(state: &State, token: &Kind) -> bool
     ensures { result ≡ begins_function state.now token.now }
 {
@@ -26,7 +27,7 @@ pub fn begins_function(state: &State, token: &Kind) -> bool
     }
 }
 
-/// One more token is heard.
+/// Adds one more token to the names, if it is a name.
 pub fn note(
     alloc: Global,
     mut names: TextMap<bool>,

@@ -20,7 +20,7 @@ use py_token::{Keyword, Kind, Symbol};
 use py_tree::Op;
 use std::alloc::Global;
 
-/// Where a simple statement stands, and where it begins.
+/// The blocks around a simple statement, its spot among them, and where it begins.
 #[derive(Drop)]
 pub struct Simple {
     pub outers: Stack<Outer>,
@@ -107,7 +107,7 @@ pub fn show(
     )
 }
 
-/// It stands where it may, or it is refused.
+/// A statement that isn't where it may be is refused.
 fn allow(stands: bool, state: State) -> Result<State, Stop>
     ensures { (es : List Entry) → Gives result es (if_allowed stands state es) }
 {
@@ -343,7 +343,7 @@ pub fn on_word(
     }
 }
 
-/// Where a name of a `global` is to come.
+/// When a name of a `global` is to come.
 pub fn on_global(
     alloc: Global,
     simple: Simple,

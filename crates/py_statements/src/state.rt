@@ -2,7 +2,7 @@ use plain_data::{Stack, TextMap};
 use py_expressions::Reading;
 use py_tree::Op;
 
-/// What a block stands after.
+/// What kind of head a block has.
 #[derive(Clone, Copy, Debug, PartialEq, Eq)]
 pub enum Head {
     If,
@@ -13,7 +13,7 @@ pub enum Head {
     Function,
 }
 
-/// Where a statement stands: at the top of the cell, in a function, in a loop of the same function or cell.
+/// Where a statement is: at the top of the cell, in a function, in a loop of the same function or cell.
 #[derive(Clone, Copy, Debug, PartialEq, Eq)]
 pub struct Around {
     pub top: bool,
@@ -21,7 +21,7 @@ pub struct Around {
     pub in_loop: bool,
 }
 
-/// A compound statement whose block is open: its head, where that begins, and where its block stands.
+/// A compound statement whose block is open: its head, where that begins, and where its block is.
 #[derive(Clone, Copy, Debug, PartialEq, Eq)]
 pub struct Outer {
     pub head: Head,
@@ -29,7 +29,7 @@ pub struct Outer {
     pub around: Around,
 }
 
-/// Where a simple statement stands: on a line of its own, or after the `:` of a head.
+/// Where a simple statement is: on a line of its own, or after the `:` of a head.
 #[derive(Clone, Copy, Debug, PartialEq, Eq)]
 pub enum Spot {
     Own,
@@ -148,7 +148,7 @@ pub enum State {
     Done,
 }
 
-/// What has been read of a cell, and which names stand in the function that is open. Where none is open, `names` tells
+/// What has been read of a cell, and which names are in the function that is open. If none is open, `names` tells
 /// nothing.
 #[derive(Drop)]
 pub struct Reader {

@@ -29,7 +29,7 @@ pub fn start(alloc: Global) -> Reader
     }
 }
 
-/// Where names of a function are read.
+/// When names of a function are read.
 fn function_moves(
     alloc: Global,
     state: State,
@@ -121,7 +121,7 @@ fn moves(
     }
 }
 
-/// One more token of a cell: what is written of it goes onto `entries`. After an error they tell nothing.
+/// One more token of a cell. What is written of it goes onto `entries`, which tell nothing after an error.
 pub fn step(
     alloc: Global,
     reader: Reader,
@@ -142,7 +142,7 @@ pub fn step(
     Ok(Reader { state, names })
 }
 
-/// The cell has been read to its end.
+/// Whether the cell has been read to its end.
 pub fn is_done(state: &State) -> bool
     ensures { result ≡ is_done state.now }
 {

@@ -1,4 +1,4 @@
--- The tokens and the blanks between them are all that stands in the text.
+-- The text is the tokens and the blanks between them, and nothing else.
 use Rattle.std.proofs.Common.{◌≡◌, inl, inr, ℕ, zero, suc, pred, ◌+◌, ◌-◌, ◌<◌, ◌≤◌, Bool, true, false, cond, eqb, ltb, not, List, [], ◌∷◌, ◌++◌, length, take, drop, Some, None, Result, Ok, Err, refl, sym, ap, ◌∙◌, subst, append_assoc, arith, length-append, length-take-le, take-append-drop}
 use Rattle.std.specs.List.{prefix_len}
 use Rattle.std.proofs.lemmas.List.{drop_at}
@@ -24,7 +24,7 @@ use Rattle.py_token.proofs.Ends.{followed_ok, read_ends}
 use Rattle.py_token.proofs.Reading.{quiet, turn_is, turn_ok, line_ok, placed_ok}
 use Rattle.py_token.proofs.Spelled.{lexeme_spells, front_passes}
 
--- a token at the front of some bytes: a gap before it, its spelling, and the rest
+-- a token at the front of some bytes: the gap before it, its spelling, and the rest
 record Tile (at : ℕ) (t : Token) (bytes : List ℕ) : Type 0 where
   gap : List ℕ
   spelling : List ℕ
@@ -39,7 +39,7 @@ abbrev Tiles : ℕ → List Token → List ℕ → Type 0
 Tiles at [] bytes = bytes ≡ []
 Tiles at (t ∷ ts) bytes = (tile : Tile at t bytes) × Tiles t.end ts tile.rest
 
--- ---- from the parts to the text
+-- ---- from the tiles to the text
 
 tile_stands : (code front : List ℕ) (at : ℕ) (t : Token) (bytes : List ℕ) (tile : Tile at t bytes) → code ≡ front ++ bytes → length front ≡ at → Stands code at t
 tile_stands code front at t bytes tile is long =
@@ -75,7 +75,7 @@ tiles_cover code front at (t ∷ ts) bytes tiles is long =
 
 -- ---- one turn
 
--- the tokens that follow aren't none
+-- there is a token among those that follow
 abbrev Some_last : List Token → Type 0
 Some_last ts = (front : List Token) × (last : Token) × (ts ≡ front ++ last ∷ [])
 
@@ -134,7 +134,7 @@ tiles_empties : (at : ℕ) (es ts : List Token) (bytes : List ℕ) → Empties a
 tiles_empties at [] ts bytes none tiles = tiles
 tiles_empties at (e ∷ es) ts bytes (one_more {kind} s more) tiles = tiles_empty at kind (es ++ ts) bytes s (tiles_empties at es ts bytes more tiles)
 
--- ---- what a line's first token begins and ends
+-- ---- what the first token of a line begins and ends
 
 IfGiven : ℕ → Result Depths TokenFault → Type 0
 IfGiven at (Ok d) = Empties at d.given
@@ -203,7 +203,7 @@ comment_more c rest at gap after is blank =
     subst (λ k. Blank ((k ∷ take (prefix_len in_comment rest) rest) ++ gap) after) (sym at)
     (comment (take (prefix_len in_comment rest) rest) (front_passes in_comment rest) (ap (λ b. not (next_is in_comment b)) (sym is) ∙ ap not (stops in_comment rest)) blank)
 
--- what a turn says of the bytes that it takes
+-- what a turn tells of the bytes that it takes
 abbrev Goes : ℕ → ℕ → List ℕ → Turn → Type 0
 Goes at c rest t = (ys : List Token) → Some_last ys → Tiles (at + t.width) ys (drop t.width (c ∷ rest)) → Tiles at (t.tokens ++ ys) (c ∷ rest)
 

@@ -1,4 +1,4 @@
--- The last token, and the place of a fault.
+-- The last token, and the byte that a fault names.
 use Rattle.std.proofs.Common.{◌&&◌, ◌≡◌, ℕ, zero, suc, pred, ◌+◌, ◌-◌, ◌<◌, Bool, true, false, cond, eqb, ltb, List, [], ◌∷◌, ◌++◌, length, drop, Option, Some, None, Result, Ok, Err, refl, sym, ap, ◌∙◌, subst, append_assoc, arith}
 use Rattle.std.specs.List.{prefix_len}
 use Rattle.std.specs.Char.{is_ascii_digit}
@@ -73,7 +73,7 @@ fault_same f g h = cc
 by_place : {A : Type 0} (f g : TokenFault) (n : ℕ) → ◌≡◌ {A = Result A TokenFault} (Err f) (Err g) → place f < n → place g < n
 by_place f g n h p = subst (λ k. place k < n) (fault_same f g h) p
 
--- a byte that passes stands there
+-- there is a byte that passes
 next_within : (p : ℕ → Bool) (n : ℕ) (bytes : List ℕ) → next_is p (drop n bytes) ≡ true → n < length bytes
 next_within p zero [] h = cc
 next_within p zero (c ∷ rest) h = omega arith
@@ -132,7 +132,7 @@ lexeme_fault at c rest f h =
     lexeme_fault_by (begins_name c) (is_ascii_digit c) (is_quote c) _ _ _ _ f _ h (name_fault at c rest f) (number_fault at c rest f) (text_fault at c rest f)
     (λ e. operator_fault at _ (c ∷ rest) f e (omega arith))
 
--- a tab that is remembered stands before that place
+-- a tab that is remembered is before that place
 abbrev TabBefore : ℕ → Spot → Type 0
 TabBefore at (Start from (Some tab)) = tab < at
 TabBefore at (Start from None) = Unit {0}

@@ -13,7 +13,7 @@ abbrev pub Ascii : List ℕ → Type 0
 Ascii [] = Unit {0}
 Ascii (c ∷ cs) = (c < 128) × Ascii cs
 
--- the escape that stands before those bytes is its own spelling, which is ASCII, and what is after it
+-- the escape before those bytes is its own spelling, which is ASCII, and what is after it
 pub record IsEscape (rest : List ℕ) (e : Escape) : Type 0 where
   pub front : List ℕ
   pub back : List ℕ

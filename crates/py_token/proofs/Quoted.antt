@@ -17,7 +17,7 @@ use Rattle.py_token.proofs.Escapes.{Ascii, piece_escaped, piece_plain, piece_quo
 use Rattle.std.proofs.lemmas.Str.{IsUtf8-append, IsUtf8-encode, IsUtf8-take, IsUtf8-drop, IsCharBoundary-before_ascii, IsCharBoundary-after_ascii}
 use Rattle.std.specs.Char.{IsScalar}
 
--- so many bytes more in front, which write nothing
+-- that many bytes more in front, which write nothing
 abbrev pub skipped : ℕ → Body → Body
 skipped n Unclosed = Unclosed
 skipped n (Closed value width) = Closed value (n + width)
@@ -39,7 +39,7 @@ body-skip quote zero bytes = sym (skipped-zero _)
 body-skip quote (suc n) [] = refl
 body-skip quote (suc n) (c ∷ rest) = ap (after []) (body-skip quote n rest) ∙ after_skipped n _
 
--- what has been read, with one more piece that writes those bytes and takes so many after its first
+-- what has been read, with one more piece that writes those bytes and takes `n` bytes after its first
 read_on-after : (written more : List ℕ) (bad : Option ℕ) (at n : ℕ) (b : Body) → read_on written bad at (after more (skipped n b)) ≡ read_on (written ++ more) bad (at + (1 + n)) b
 read_on-after written more bad at n Unclosed = refl
 read_on-after written more None at n (Closed value width) =
@@ -63,7 +63,7 @@ unfolding body
 body-at quote bytes at within = ap (body quote zero) (drop-cons bytes at 0 within) ∙ ap (λ rest. follow (piece quote (get_or bytes at 0) rest) (λ n. body quote n rest)) (ap (λ k. drop k bytes) (sym (add-one at)))
 
 module _ (quote : ℕ) (bytes written : List ℕ) (bad : Option ℕ) (at : ℕ) (within : at < length bytes) (before : read_on written bad at (body quote zero (drop at bytes)) ≡ body quote zero bytes) where
-  -- by what stands there
+  -- by what is there
   by_piece : (p : Piece) → p ≡ piece quote (get_or bytes at 0) (drop (at + 1) bytes) → read_on written bad at (follow p (λ n. body quote n (drop (at + 1) bytes))) ≡ body quote zero bytes
   by_piece p is = ap (λ q. read_on written bad at (follow q (λ n. body quote n (drop (at + 1) bytes)))) is ∙ sym (ap (read_on written bad at) (body-at quote bytes at within)) ∙ before
 
@@ -99,7 +99,7 @@ escape_within quote c rest e h =
     let is = (piece_escaped quote c rest e h).1 in
     omega (arith, is.width, ap length is.parts, length-append is.front is.back)
 
--- every place that is named lies within the bytes
+-- the byte or the width that is named is within the bytes, with one more in front
 within_after : (written : List ℕ) (b : Body) (n : ℕ) → IsWithin b n → IsWithin (after written b) (suc n)
 within_after written Unclosed n h = tt
 within_after written (Closed value width) n h = (omega arith, omega arith)
@@ -195,16 +195,16 @@ body_utf8 quote zero front (c ∷ rest) ascii h = by_follow quote c front rest (
 pub written_utf8 : (quote : ℕ) (bytes value : List ℕ) (width : ℕ) → quote < 128 → IsUtf8 bytes → Closed value width ≡ body quote zero bytes → IsUtf8 value
 written_utf8 quote bytes value width ascii text is = subst (λ b. IfClosed b IsUtf8) (sym is) (body_utf8 quote zero [] bytes ascii text)
 
--- what stands after an ASCII byte at the end of a text
+-- what is after an ASCII byte at the end of a text
 pub text_after : (c : ℕ) (rest : List ℕ) → c < 128 → EndsText (c ∷ rest) → IsUtf8 rest
 text_after c rest ascii ends = cut_rest ends.0 rest c ascii ends.1
 
--- a piece of what is left is one of the bytes
+-- the piece that is read of what is left is the one of the bytes
 pub same_piece : (p : Piece) (quote : ℕ) (bytes : List ℕ) (at : ℕ) → p ≡ piece quote (get_or bytes at 0) (take (length bytes - (at + 1)) (drop (at + 1) bytes))
     → p ≡ piece quote (get_or bytes at 0) (drop (at + 1) bytes)
 same_piece p quote bytes at is = is ∙ ap (piece quote (get_or bytes at 0)) (take_rest bytes (at + 1))
 
--- what stands after a quote at the end of a text
+-- what is after a quote at the end of a text
 pub after_quote : (bytes : List ℕ) → 1 ≤ length bytes → is_quote (get_or bytes 0 0) ≡ true → EndsText bytes → IsUtf8 (take (length bytes - 1) (drop 1 bytes))
 after_quote [] long quote ends = absurd (omega arith)
 after_quote (c ∷ rest) long quote ends = subst IsUtf8 (sym (take_rest (c ∷ rest) 1)) (text_after c rest (grind (arith, nat_tests)) ends)

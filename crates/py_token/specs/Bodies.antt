@@ -1,4 +1,4 @@
--- What is known of a text of which a part has been read.
+-- What is known of a text of which some bytes have been read.
 use Rattle.std.specs.Prelude.{ℕ, ◌+◌, ◌<◌, ◌≤◌, ◌++◌, List, Option, Some, None, Result, Ok, Err}
 use Rattle.std.specs.Str.{IsUtf8}
 use Rattle.py_token.specs.declared.faults.TokenFault.{TokenFault}
@@ -12,14 +12,14 @@ abbrev pub closed : List ℕ → Option ℕ → ℕ → Body
 closed written None width = Closed written width
 closed written (Some bad) width = Spoiled bad
 
--- those bytes are written and so many are read, among them the first bad character, before that
+-- those bytes are written, that many are read, and the first bad character among these, if there is one, comes before a later one
 abbrev pub read_on : List ℕ → Option ℕ → ℕ → Body → Body
 read_on written bad at Unclosed = Unclosed
 read_on written bad at (Closed value width) = closed (written ++ value) bad (at + width)
 read_on written None at (Spoiled n) = Spoiled (at + n)
 read_on written (Some bad) at (Spoiled n) = Spoiled bad
 
--- the places that are named lie within so many bytes
+-- the byte or the width that is named is within that many bytes
 abbrev pub IsWithin : Body → ℕ → Type 0
 IsWithin Unclosed n = Unit {0}
 IsWithin (Closed value width) n = (0 < width) × (width ≤ n)

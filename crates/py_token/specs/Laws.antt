@@ -21,7 +21,7 @@ pub data Blank : List ℕ → List ℕ → Type 0 where
   comment : (words : List ℕ) {gap rest : List ℕ} → IsTrue (list_all in_comment words) → IsTrue (not (next_is in_comment (gap ++ rest))) → Blank gap rest
       → Blank (35 ∷ words ++ gap) rest
 
--- the next token after a place: its span lies there within the text and spells it, and what is between is blank
+-- the next token from a place on: its span is in the text and spells it, and what is between is blank
 pub record Stands (code : List ℕ) (from : ℕ) (t : Token) : Type 0 where
   pub after : from ≤ t.start
   pub ordered : t.start ≤ t.end
@@ -29,7 +29,7 @@ pub record Stands (code : List ℕ) (from : ℕ) (t : Token) : Type 0 where
   pub blank : Blank (slice_range code from t.start) (drop t.start code)
   pub spelled : Spells t.kind (slice_range code t.start t.end)
 
--- the tokens are all that stands in the text from a place on
+-- from a place on, the text is these tokens and the blanks between them
 abbrev pub Cover : List ℕ → ℕ → List Token → Type 0
 Cover code from [] = from ≡ length code
 Cover code from (t ∷ ts) = Stands code from t × Cover code t.end ts

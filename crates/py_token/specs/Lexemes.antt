@@ -22,7 +22,7 @@ abbrev pub next_is : (ℕ → Bool) → List ℕ → Bool
 next_is p [] = false
 next_is p (c ∷ rest) = p c
 
--- a lexeme of that width, unless what stands directly after it passes the test, which is then a bad character
+-- a lexeme of that width, unless the byte directly after it passes the test: then it is a bad character
 abbrev pub unless_next : (ℕ → Bool) → ℕ → List ℕ → ℕ → Kind → Result Lexeme TokenFault
 unless_next bad at bytes width kind =
     if next_is bad (drop width bytes) then Err (BadChar (at + width)) else Ok (record { kind = kind; width = width })
@@ -48,7 +48,7 @@ name_at at bytes =
 abbrev pub belongs : ℕ → ℕ → Bool
 belongs first c = if nat_eq first 48 then nat_eq c 48 else is_ascii_digit c
 
--- how many bytes of digits, with single underscores between them, stand after such a first digit
+-- how many bytes of digits, with single underscores between them, are after such a first digit
 abbrev pub digits_after : ℕ → List ℕ → ℕ
 digits_after first [] = 0
 digits_after first (c ∷ []) = if belongs first c then 1 else 0
@@ -79,7 +79,7 @@ abbrev pub escaped : Option Escape → Piece
 escaped None = Bad
 escaped (Some e) = Escaped e
 
--- what stands at a place between the quotes, by its first byte and the bytes after it
+-- what is at a place between the quotes, by its first byte and the bytes after it
 unfoldable pub piece : ℕ → ℕ → List ℕ → Piece
 piece quote c rest =
     if nat_eq c quote then Quote
@@ -99,7 +99,7 @@ abbrev pub spoil : Body → Body
 spoil Unclosed = Unclosed
 spoil _ = Spoiled 0
 
--- a piece, and what follows it once so many more bytes are passed over
+-- a piece, and what follows it once the other bytes of the piece are passed over
 abbrev pub follow : Piece → (ℕ → Body) → Body
 follow Quote next = Closed [] 1
 follow LineEnd next = Unclosed
@@ -107,7 +107,7 @@ follow Bad next = spoil (next zero)
 follow (Plain c) next = after (c ∷ []) (next zero)
 follow (Escaped e) next = after (encode_utf8 e.character) (next e.width)
 
--- what stands after an opening quote; the number counts the bytes of an escape that are passed over
+-- what is after an opening quote; the number counts the bytes of an escape that are passed over
 unfoldable pub body : ℕ → ℕ → List ℕ → Body
 body quote skip [] = Unclosed
 body quote (suc n) (c ∷ rest) = after [] (body quote n rest)

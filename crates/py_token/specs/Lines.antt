@@ -20,7 +20,7 @@ token kind at width = record { kind = kind; start = at; end = at + width }
 
 -- ---- indentation
 
--- a block ends there
+-- a block ends at that place
 abbrev pub ends_block : ℕ → Result Depths TokenFault → Result Depths TokenFault
 ends_block at (Ok d) = Ok (record { given = token Dedent at 0 ∷ d.given; depths = d.depths })
 ends_block at (Err f) = Err f
@@ -41,7 +41,7 @@ unfoldable pub indented : ℕ → ℕ → List ℕ → Result Depths TokenFault
 indented at depth depths =
     if is_deeper depth depths then Ok (record { given = token Indent at 0 ∷ []; depths = depth ∷ depths }) else shallower at depth depths
 
--- the first token of a line stands there
+-- the first token of a line begins at that place
 unfoldable pub begun : ℕ → Spot → List ℕ → Result Depths TokenFault
 begun at Inside depths = Ok (record { given = []; depths = depths })
 begun at (Start from None) depths = indented at (at - from) depths
@@ -59,7 +59,7 @@ brackets_after (Symbol CloseBracket) n = n - 1
 brackets_after (Symbol CloseBrace) n = n - 1
 brackets_after _ n = n
 
--- a token, with what it begins and ends of blocks
+-- a token, after the blocks that begin or end there
 abbrev pub placed : ℕ → Line → Result Depths TokenFault → Result Lexeme TokenFault → Result Turn TokenFault
 placed at line (Err f) lexeme = Err f
 placed at line (Ok d) (Err f) = Err f
@@ -69,7 +69,7 @@ placed at line (Ok d) (Ok l) = Ok (record {
   line = record { spot = Inside; depths = d.depths; brackets = brackets_after l.kind line.brackets };
 })
 
--- so many bytes give no token
+-- that many bytes give no token
 abbrev pub passed : ℕ → Line → Result Turn TokenFault
 passed width line = Ok (record { tokens = []; width = width; line = line })
 
@@ -80,7 +80,7 @@ at_spot spot line = record { spot = spot; depths = line.depths; brackets = line.
 abbrev pub next_line : ℕ → Line → Line
 next_line at line = at_spot (Start (at + 1) None) line
 
--- a line's end: a Newline, unless the line holds no token or a bracket is open
+-- a line's end: a Newline, unless the line has no token or a bracket is open
 abbrev pub line_ended : ℕ → Line → Spot → Result Turn TokenFault
 line_ended at line (Start from tab) = passed 1 (next_line at line)
 line_ended at line Inside =

@@ -83,7 +83,7 @@ sign o.Colon = codes ":"
 sign o.Comma = codes ","
 sign o.Dot = codes "."
 
--- the longer spelling before its beginning
+-- each spelling before those that it begins with
 unfoldable pub operators : List operator.Symbol
 operators = o.FloorAssign ∷ o.PlusAssign ∷ o.MinusAssign ∷ o.TimesAssign ∷ o.ModAssign ∷ o.Equal ∷ o.NotEqual ∷ o.AtMost ∷ o.AtLeast ∷ o.Floor ∷ o.Plus
     ∷ o.Minus ∷ o.Times ∷ o.Mod ∷ o.Less ∷ o.More ∷ o.Assign ∷ o.OpenParenthesis ∷ o.CloseParenthesis ∷ o.OpenBracket ∷ o.CloseBracket ∷ o.OpenBrace
@@ -101,7 +101,7 @@ are_digits (d ∷ c ∷ rest) = is_ascii_digit d && (if nat_eq c 95 then are_dig
 abbrev pub decimal : List ℕ → ℕ
 decimal bytes = fold (λ n c. if nat_eq c 95 then n else n * 10 + (c - 48)) 0 bytes
 
--- no 0 stands before another digit, except in 0 itself
+-- no 0 is before another digit, except in 0 itself
 abbrev pub leads_well : List ℕ → Type 0
 leads_well [] = ⊥
 leads_well (d ∷ rest) = (d ≢ 48) ⊎ (decimal rest ≡ 0)
@@ -117,7 +117,7 @@ hexadecimal (h ∷ l ∷ rest) =
     if is_ascii_hexdigit h && is_ascii_hexdigit l then Some (record { character = digit_value h * 16 + digit_value l; width = 3 }) else None
 hexadecimal _ = None
 
--- the character that a backslash and the bytes after it stand for, and how many of these bytes it takes
+-- the character that a backslash and the bytes after it mean, and how many of these bytes it takes
 abbrev pub escape : List ℕ → Option Escape
 escape [] = None
 escape (c ∷ rest) =
@@ -128,11 +128,11 @@ escape (c ∷ rest) =
     else (if nat_eq c 120 then hexadecimal rest
     else None))))
 
--- a byte that stands for itself between such quotes
+-- a byte that means itself between such quotes
 abbrev pub is_plain : ℕ → ℕ → Bool
 is_plain quote c = not (((nat_eq c quote || nat_eq c 92) || nat_eq c 10) || nat_eq c 13)
 
--- what stands between the quotes, and the bytes that it writes
+-- what is between the quotes, and the bytes that it writes
 pub data Writes (quote : ℕ) : List ℕ → List ℕ → Type 0 where
   nothing : Writes quote [] []
   plain : {c : ℕ} {spelling value : List ℕ} → IsTrue (is_plain quote c) → Writes quote spelling value → Writes quote (c ∷ spelling) (c ∷ value)

@@ -74,7 +74,7 @@ fn indented(
     }
 }
 
-/// What the first token of a line, which stands at that place, begins and ends of blocks.
+/// What the first token of a line, which begins at that place, begins and ends of blocks.
 #[tactic(auto, unfolding(crate::specs::Lines::begun))]
 pub fn begun(alloc: Global, at: u32, spot: Spot, depths: Stack<u32>) -> Result<Depths, TokenError>
     requires { at ≤ 262144 }

@@ -2,16 +2,16 @@ use std::alloc::AllocError;
 use std::error::Error;
 use std::fmt;
 
-/// Why a text has no tokens: what offends first, and the place of it as a byte offset.
+/// Why a text has no tokens: what offends first, and its place, a byte offset.
 #[derive(Clone, Copy, Debug, PartialEq, Eq)]
 pub enum TokenFault {
-    /// A character that can't stand there.
+    /// A character that can't be there.
     BadChar(u32),
     /// The opening quote of a text that its line ends in.
     OpenText(u32),
     /// The first token of a line whose depth isn't open.
     BadIndent(u32),
-    /// The first tab in the indentation of a line that holds a token.
+    /// The first tab in the indentation of a line that has a token.
     Tab(u32),
     /// A number above 2^127 - 1.
     WideNumber(u32),

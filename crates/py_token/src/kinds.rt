@@ -17,7 +17,7 @@ pub enum Kind {
     Text(Text),
     Keyword(Keyword),
     Symbol(Symbol),
-    /// The end of a line that holds tokens.
+    /// The end of a line that has tokens.
     Newline,
     /// The line begins a deeper block.
     Indent,

@@ -13,7 +13,7 @@ use crate::words::{operator_of, sign_width};
 use py_names::begins_name;
 use std::alloc::Global;
 
-/// The operator at the front of the bytes, which stand at that place.
+/// The operator at the front of the bytes, which begin at that place.
 #[tactic(auto, unfolding(crate::specs::Lexemes::operator_at))]
 fn operator_at(at: u32, bytes: &[u8]) -> Result<Lexeme, TokenError>
     ensures { Gives result (operator_at at bytes.now) }
@@ -27,7 +27,7 @@ fn operator_at(at: u32, bytes: &[u8]) -> Result<Lexeme, TokenError>
     }
 }
 
-/// The lexeme at the front of the bytes, which stand at that place.
+/// The lexeme at the front of the bytes, which begin at that place.
 #[tactic(auto, unfolding(crate::specs::Lexemes::lexeme_at))]
 pub fn lexeme_at(alloc: Global, at: u32, bytes: &[u8]) -> Result<Lexeme, TokenError>
     requires text { EndsText bytes.now }

@@ -1,7 +1,7 @@
 use crate::kinds::{Kind, Token};
 use plain_data::{Items, Stack};
 
-/// Where reading stands in its line.
+/// How far a line has been read.
 #[derive(Clone, Copy)]
 pub enum Spot {
     /// Among the blanks at the line's start: the place where the line begins, and that of the first tab since.
@@ -10,7 +10,7 @@ pub enum Spot {
     Inside,
 }
 
-/// Where reading stands between two tokens.
+/// What is known between two tokens.
 #[derive(Drop)]
 pub struct Line {
     pub spot: Spot,
@@ -34,7 +34,7 @@ pub struct Lexeme {
     pub width: u32,
 }
 
-/// What is read next: the tokens that it gives, how many bytes it takes, and where reading then stands.
+/// What is read next: the tokens that it gives, how many bytes it takes, and what is known after it.
 #[derive(Drop)]
 pub struct Turn {
     pub tokens: Items<Token>,

@@ -22,7 +22,7 @@ pub fn is_quote(byte: u8) -> bool
     byte == b'\'' || byte == b'"'
 }
 
-/// Whether a quote stands first.
+/// Whether the first byte is a quote.
 pub fn quote_follows(bytes: &[u8]) -> bool
     ensures { result ≡ next_is is_quote bytes.now }
 {
@@ -65,7 +65,7 @@ fn kind_of(alloc: Global, name: &[u8]) -> Result<Kind, AllocError>
     }
 }
 
-/// The name or keyword at the front of the bytes, which stand at that place.
+/// The name or keyword at the front of the bytes, which begin at that place.
 #[tactic(auto, using(crate::proofs::Bytes::name_is_utf8), unfolding(crate::specs::Lexemes::name_at))]
 pub fn name_at(alloc: Global, at: u32, bytes: &[u8]) -> Result<Lexeme, TokenError>
     requires { at + length bytes.now ≤ 262144 }

@@ -72,7 +72,7 @@ fn follows_no_number(bytes: &[u8]) -> bool
 /// One past the greatest number.
 const LIMIT: u128 = 1 << 127;
 
-/// The number at the front of the bytes, which stand at that place.
+/// The number at the front of the bytes, which begin at that place.
 #[tactic(auto, unfolding(crate::specs::Lexemes::number_at))]
 pub fn number_at(at: u32, bytes: &[u8]) -> Result<Lexeme, TokenError>
     requires nonempty { 0 < length bytes.now }

@@ -34,18 +34,18 @@ fn start(alloc: Global) -> Result<Line, AllocError>
 /// The tokens of a text, or the first fault in it.
 ///
 /// A place is a byte offset. A CR directly before an LF belongs to the line's end; any other is a bad character, in a
-/// comment too. Indentation is the spaces at a line's start; a tab there is a fault, unless the line holds only spaces,
+/// comment too. Indentation is the spaces at a line's start; a tab there is a fault, unless the line has only spaces,
 /// tabs and a comment, or begins inside brackets. Spaces, tabs and comments between tokens are passed over, and a line
 /// with nothing else gives no token. The depths of the open blocks begin with 0; a deeper line gives an `Indent`, a
 /// shallower one a `Dedent` for each block that it ends, and its depth has to be open. Inside brackets, whatever their
-/// kind, line ends and indentation are passed over. At the end come a `Newline`, where the last line holds tokens and no
+/// kind, line ends and indentation are passed over. At the end come a `Newline`, if the last line has tokens and no
 /// bracket is open, the `Dedent`s and `End`.
 ///
 /// A name is a letter or `_`, then letters, digits and `_`, at most 255 bytes. A number is `0`s alone, or a digit 1 to 9
-/// and digits, with single `_` between digits, at most 2^127 - 1; no letter, digit, `_` or `.` may stand directly after
-/// it. A text stands between two quotes of one sort on one line, with the escapes `\\`, `\'`, `\"`, `\n`, `\r`, `\t` and
-/// `\x` with two hexadecimal digits. No quote may stand directly after a name or a text. Operators are read longest
-/// first. Any other character is a fault; those past ASCII may stand in texts and comments.
+/// and digits, with single `_` between digits, at most 2^127 - 1; no letter, digit, `_` or `.` may come directly after
+/// it. A text is between two quotes of one sort on one line, with the escapes `\\`, `\'`, `\"`, `\n`, `\r`, `\t` and
+/// `\x` with two hexadecimal digits. No quote may come directly after a name or a text. Operators are read longest
+/// first. Any other character is a fault; those past ASCII may be in texts and comments.
 ///
 /// The fault that is reported is the one with the least place; at one place a wrong depth comes before a bad token.
 pub fn tokens(alloc: Global, code: &str) -> Result<Items<Token>, TokenError>

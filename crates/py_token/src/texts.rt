@@ -14,7 +14,7 @@ use crate::pieces::{Body, Escape, Piece};
 use plain_data::Items;
 use std::alloc::{AllocError, Global};
 
-/// Whether an LF stands first.
+/// Whether the first byte is an LF.
 pub fn ends_line(bytes: &[u8]) -> bool
     ensures { result ≡ ends_line bytes.now }
 {
@@ -57,7 +57,7 @@ fn short_escape(character: u8) -> Option<Escape>
     })
 }
 
-/// The escape whose backslash stands before these bytes.
+/// The escape whose backslash is before these bytes.
 fn escape(bytes: &[u8]) -> Option<Escape>
     ensures { result ≡ escape bytes.now }
 {
@@ -71,7 +71,7 @@ fn escape(bytes: &[u8]) -> Option<Escape>
     }
 }
 
-/// What stands at a place after an opening quote: this byte, and these after it.
+/// What is at a place after an opening quote: this byte, and these after it.
 #[tactic(auto, unfolding(crate::specs::Lexemes::piece))]
 fn piece(quote: u8, byte: u8, rest: &[u8]) -> Piece
     ensures { result ≡ piece quote byte rest.now }
@@ -116,7 +116,7 @@ fn closed(written: Items<u8>, bad: Option<usize>, width: usize) -> Body
     }
 }
 
-/// What stands after an opening quote.
+/// What is after an opening quote.
 fn body(alloc: Global, quote: u8, bytes: &[u8]) -> Result<Body, AllocError>
     ensures value { IfOk result (λ found. found ≡ body quote zero bytes.now) }
     ensures within { IfOk result (λ found. IsWithin found (length bytes.now)) }
@@ -145,7 +145,7 @@ fn body(alloc: Global, quote: u8, bytes: &[u8]) -> Result<Body, AllocError>
     Ok(Body::Unclosed)
 }
 
-/// The text at the front of some bytes: its opening quote, which stands at that place, and the bytes after it.
+/// The text at the front of some bytes: its opening quote, which is at that place, and the bytes after it.
 #[tactic(auto, unfolding(crate::specs::Lexemes::text_at))]
 pub fn text_at(alloc: Global, at: u32, quote: u8, rest: &[u8]) -> Result<Lexeme, TokenError>
     requires ascii { quote < 128 }

@@ -14,7 +14,7 @@ use crate::texts::ends_line;
 use plain_data::Items;
 use std::alloc::{AllocError, Global};
 
-/// So many bytes give no token.
+/// That many bytes give no token.
 fn passed(alloc: Global, width: u32, line: Line) -> Result<Turn, TokenError>
     ensures { Gives result (passed width line) }
 {
@@ -122,7 +122,7 @@ fn brackets_after(kind: &Kind, brackets: u32) -> u32
     }
 }
 
-/// The token at the front of the bytes, with what it begins and ends of blocks.
+/// The token at the front of the bytes, after the blocks that it begins or ends.
 fn placed(alloc: Global, at: u32, line: Line, bytes: &[u8]) -> Result<Turn, TokenError>
     requires text { EndsText bytes.now }
     requires short { at + length bytes.now ≤ 262144 }
@@ -149,7 +149,7 @@ fn placed(alloc: Global, at: u32, line: Line, bytes: &[u8]) -> Result<Turn, Toke
     })
 }
 
-/// What is read at the front of the bytes, which stand at that place.
+/// What is read at the front of the bytes, which begin at that place.
 #[tactic(auto, unfolding(crate::specs::Lines::turn))]
 pub fn turn(alloc: Global, at: u32, line: Line, bytes: &[u8]) -> Result<Turn, TokenError>
     requires text { EndsText bytes.now }

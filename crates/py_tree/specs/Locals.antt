@@ -24,7 +24,7 @@ abbrev pub bound_at : Target → Names
 bound_at (Name name) = name ∷ []
 bound_at (Item value at) = []
 
--- by one statement, with the names of each inner statement in its place
+-- by one statement, with the names of each inner statement at its position
 abbrev pub bound_step : Stmt-F Names Names Names → Names
 bound_step (Stmt-F.Delete target) = bound_at target
 bound_step (Stmt-F.Assign target value) = bound_at target
@@ -81,7 +81,7 @@ globals_in_arms arms = joined (map global_by_arm arms)
 abbrev pub is_among : Names → List ℕ → Bool
 is_among names name = list_any (λ other. pointwise nat_eq other name) names
 
--- the names after those, each at its first place alone
+-- the names after those, each once, at its first position
 abbrev pub distinct_after : Names → Names → Names
 distinct_after seen [] = []
 distinct_after seen (name ∷ names) =

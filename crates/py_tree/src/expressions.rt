@@ -101,7 +101,7 @@ pub struct Pair {
     pub value: Expr,
 }
 
-/// An operator and what stands to its right.
+/// An operator and its right operand.
 #[cycle(expression)]
 #[derive(Drop)]
 pub struct Operand {

@@ -112,7 +112,7 @@ fn copy_locals(
     Ok(())
 }
 
-/// The names, each at its first place alone.
+/// The names, each once, at its first position.
 fn distinct(alloc: Global, names: &[Text]) -> Result<Items<Text>, AllocError>
     ensures { IfOk result (λ all. all ≡ distinct names.now) }
 {
@@ -126,7 +126,7 @@ fn distinct(alloc: Global, names: &[Text]) -> Result<Items<Text>, AllocError>
 }
 
 /// The locals of a function: its parameters, and then the names that its body assigns, augments, deletes or uses as the
-/// target of a `for` and doesn't declare global, in the order of their first places, each once.
+/// target of a `for` and doesn't declare global, in the order of their first positions, each once.
 #[tactic(auto, unfolding(crate::specs::Locals::locals))]
 pub fn locals_of(alloc: Global, def: &Def) -> Result<Items<Text>, AllocError>
     ensures { IfOk result (λ names. names ≡ locals_of def.now) }

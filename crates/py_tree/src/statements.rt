@@ -21,7 +21,7 @@ pub enum Stmt {
         target: Target,
         value: Expr,
     },
-    /// `place op= value`
+    /// `target op= value`
     Augment {
         target: Target,
         op: Op,
@@ -29,7 +29,7 @@ pub enum Stmt {
     },
     /// An expression by itself.
     Expression(Expr),
-    /// The `if` and each `elif`, and the block after `else`, which is empty where no `else` stands.
+    /// The `if` and each `elif`, and the block after `else`, which is empty if there is no `else`.
     If {
         arms: Items<Arm>,
         other: Items<Stmt>,

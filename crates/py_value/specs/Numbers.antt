@@ -21,7 +21,7 @@ without_end cs = reverse (without_front (reverse cs))
 abbrev pub are_digits : List ℕ → Bool
 are_digits cs = list_all is_ascii_digit cs && not (length cs == 0)
 
--- what digits stand for in decimal, after a number that stands already
+-- the number that digits spell in decimal, after the number of the digits before them
 unfoldable pub decimal_from : ℕ → List ℕ → ℕ
 decimal_from n [] = n
 decimal_from n (c ∷ cs) = decimal_from (n * 10 + (c - 48)) cs

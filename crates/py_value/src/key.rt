@@ -151,7 +151,7 @@ pub fn key_of(value: &Value) -> Result<Key, KeyFault>
     }
 }
 
-/// Whether two keys are the same in a dict: both None, equal numbers where True is 1 and False is 0, or equal texts.
+/// Whether two keys are the same in a dict: both None, equal numbers with True as 1 and False as 0, or equal texts.
 /// Takes no memory.
 pub fn same_key(a: &Key, b: &Key) -> bool
     ensures { result ≡ spec.same_key a.now b.now }

@@ -86,7 +86,7 @@ fn with_digit(number: u128, digit: u8) -> Option<u128>
     if number <= LIMIT { Some(number) } else { None }
 }
 
-/// What digits stand for, up to 2^127.
+/// The number that digits spell, up to 2^127.
 #[tactic(auto, unfolding(crate::specs::Numbers::decimal_from))]
 fn decimal(bytes: &[u8]) -> Option<u128>
     ensures { result ≡ spec.up_to_limit (spec.decimal_from 0 bytes.now) }

@@ -90,7 +90,7 @@ fn quoted(alloc: Global, text: &str) -> Result<String, AllocError>
 }
 
 /// The text that the key shows as (its `repr`): None, True, False, a decimal number, or a text between quotes. These are
-/// single, and double where the text holds a single quote and no double one. Backslashes and such quotes stand after a
+/// single, and double if the text holds a single quote and no double one. Backslashes and such quotes come after a
 /// backslash, line feeds, carriage returns and tabs show as \n, \r and \t, and other characters below 32 and 127 as \x
 /// and two hexadecimal digits.
 pub fn key_text(alloc: Global, key: &Key) -> Result<Text, AllocError>

@@ -1,7 +1,7 @@
 //! Reads the code on standard input as a cell, as often as the argument says, and prints how many statements its tree has at
 //! the top, or what the fault says.
 //!
-//! Where there is no argument, the code is read once.
+//! Without an argument the code is read once.
 #![tactic(auto)]
 
 use anyhow::{Result, anyhow};
@@ -20,7 +20,7 @@ fn times_wanted(rt: &(impl Env + AllocGlobal)) -> Result<u32> {
     }
 }
 
-/// What the code is read as: so many statements at the top, or what its fault says.
+/// What the code is read as: how many statements are at the top, or what its fault says.
 fn read(rt: &impl AllocGlobal, code: &str) -> Result<String> {
     let alloc = rt.alloc();
     match read_cell(alloc, code) {

@@ -1,4 +1,4 @@
--- Each function of a code is what its text alone is read as, and no function stands elsewhere than at the top.
+-- Each function of a code is what its text alone is read as, and a function is only at the top.
 use Rattle.std.proofs.Common.{◌≡◌, ℕ, ◌+◌, ◌≤◌, true, List, [], ◌∷◌, ◌++◌, length, Some, None, Ok, refl, sym, ap, ◌∙◌, subst, arith, length-append, IsUtf8}
 use Rattle.std.specs.List.{AllByRecursion}
 use Rattle.std.proofs.lemmas.List.{append-nil}

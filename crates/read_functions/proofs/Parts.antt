@@ -1,4 +1,4 @@
--- Parts of lists of tokens, and the last word among tokens.
+-- Pieces of lists of tokens, and the last word among tokens.
 use Rattle.std.proofs.Common.{◌≡◌, ℕ, zero, suc, ◌+◌, ◌-◌, true, false, not, List, [], ◌∷◌, ◌++◌, length, take, drop, Some, refl, sym, ap, ◌∙◌, subst, arith, append_assoc}
 use Rattle.std.specs.Prelude.{reverse, find, slice_range, if◌then◌else◌}
 use Rattle.std.specs.List.{AllByRecursion}
@@ -29,7 +29,7 @@ pub kinds_long : (ts : List Token) → length (kinds ts) ≡ length ts
 kinds_long [] = refl
 kinds_long (x ∷ ts) = ap suc (kinds_long ts)
 
--- ---- a part by its numbers
+-- ---- a piece by its bounds
 
 pub middle_part : {A : Type 0} (front mid back : List A) (i j : ℕ) → i ≡ length front → j ≡ i + length mid → slice_range (front ++ (mid ++ back)) i j ≡ mid
 middle_part front mid back i j begin end =

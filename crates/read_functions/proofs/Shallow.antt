@@ -1,4 +1,4 @@
--- A part is no deeper in a text of its own than before more tokens.
+-- A construct is no deeper in a text of its own than before more tokens.
 use Rattle.std.proofs.Common.{◌≡◌, ℕ, ◌+◌, ◌≤◌, false, List, ◌∷◌, length, ap, ◌∙◌, arith, length-append}
 use Rattle.std.specs.Prelude.{nat_lt, nat_le, ◌&&◌}
 use Rattle.std.proofs.lemmas.Bool.Decides.{nat_tests}
@@ -17,7 +17,7 @@ use Rattle.py_postfix.specs.Statements.{post_item, post_place, post_names, inner
 use Rattle.py_nesting.specs.Depth.{count_if, depth}
 
 module _ (k : ℕ) where
-  -- so many tokens more
+  -- k tokens more
   pub record Far (tokens others : List Kind) : Type 0 where
     pub more : length tokens ≡ length others + k
 

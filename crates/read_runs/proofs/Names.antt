@@ -1,4 +1,4 @@
--- Cells of codes bind only names that a program may bind, and look up only identifiers: such names stand in their trees.
+-- Cells of codes bind only names that a program may bind, and look up only identifiers: such names are in their trees.
 use Rattle.std.proofs.Common.{◌≡◌, ◌&&◌, ℕ, zero, suc, Bool, true, false, IsTrue, List, Ok, Err, refl, inl, inr}
 use Rattle.std.proofs.lemmas.List.Elements.{All-nil}
 use Rattle.py_names.specs.Names.{is_identifier, is_variable}
@@ -20,7 +20,7 @@ tree_named : (o : Judged) → ((body : List Stmt) → o ≡ Ok body → AllPass 
 tree_named (Ok body) h = h body refl
 tree_named (Err fault) h = All-nil (λ name. IsTrue (is_variable name))
 
--- the names that stand in what a code runs
+-- the names that are in what a code runs
 named : (code : List ℕ) → AllPass is_variable (names_in (statements (read code)))
 named code = tree_named (verdict code) (in_cell code)
 

@@ -70,7 +70,7 @@ module _ (R : ℕ → ℕ → Type 0) (one : (a b : ℕ) → R a b → a ≡ b) 
   held_equal None (Some w) m = absurd m
   held_equal (Some v) None m = absurd m
 
--- ---- lists that match place by place
+-- ---- lists that match index by index
 
 zip_length : (P : ℕ → ℕ → Type 0) (xs ys : List ℕ) → AllZip P xs ys → length xs ≡ length ys
 zip_length P [] [] z = refl
@@ -109,7 +109,7 @@ module _ (s t u w : State) (h : SameStates s t) (a : IsTidied s u) (b : IsTidied
   orders : AllZip P a.order b.order
   orders = in_one_order s t a.names P over_names a.order b.order (λ at c. (a.reached at).0 c) (λ at c. (reached_there at).0 c) a.in_order order_there
 
-  -- place by place
+  -- index by index
   abbrev Places : ℕ → ℕ → Type 0
   Places = Through (Turned (AtPlace a.order)) (Through P (AtPlace b.order))
 

@@ -28,7 +28,7 @@ use Rattle.run_graph.proofs.Reached.{reach_from_one}
 use Rattle.replay_laws.specs.Walks.{IsLoaded}
 use Rattle.replay_laws.specs.Copies.{higher, higher_pair, higher_object, put_name, put_names, with_objects, with_copy}
 
--- ---- places of two lists
+-- ---- indices of two lists
 
 module _ {A : Type 0} where
   nth_left : (xs ys : List A) (k : ℕ) → k < length xs → slice_get (xs ++ ys) k ≡ slice_get xs k

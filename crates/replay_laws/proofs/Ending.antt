@@ -69,7 +69,7 @@ part_alike s t h names part = record {
   linked = λ x y n. (λ m. linked_alike s t h x y ((part.linked x y n).0 m), λ l. (part.linked x y n).1 (linked_alike t s (same_turned Every s t h) x y l));
 }
 
--- the count and the meter play no part
+-- the count and the meter don't matter
 pub without_tallies : (s t : State) → Same Every s (with_tallies s t) → Same Every s t
 without_tallies s t h = record { by = h.by; same = record { pairs = h.same.pairs; names = h.same.names; objects = h.same.objects } }
 

@@ -1,4 +1,4 @@
--- What names reach in two states that are the same is reached in one order: place by place the addresses are paired.
+-- What names reach in two states that are the same is reached in one order: index by index the addresses are paired.
 use Rattle.std.proofs.Common.{◌≡◌, ℕ, ◌==◌, not, List, [], ◌∷◌, ◌++◌, Option, Some, None, refl, sym, ap, ◌∙◌, inl, inr, subst}
 use Rattle.std.specs.Prelude.{Contains, filter, slice_get}
 use Rattle.std.specs.List.{AllZip, flat_map}
@@ -92,7 +92,7 @@ module _ (s t : State) (names : List Name) (P : ℕ → ℕ → Type 0) (h : Sam
       zip_append P (flat_map (name_refs s) names) (flat_map (name_refs t) names) (flat_map (refs_at s) xs) (flat_map (refs_at t) ys)
       (names_zip names (λ x n. n)) (found_zip xs ys z)
 
-  -- ---- each once, where it stands first
+  -- ---- each once, where it comes first
 
   filter_zip : (m n : ℕ) → P m n → (xs ys : List ℕ) → Zip P xs ys → Zip P (filter (λ k. not (k == m)) xs) (filter (λ k. not (k == n)) ys)
   filter_zip m n p [] [] z = tt

@@ -76,7 +76,7 @@ keys_have t x = (
   λ v. Contains-from_any same_name x (finite.keys t.globals) (sym (finite.contains_key-keys t.globals x) ∙ ap is_some v.1),
 )
 
--- ---- each address in a list has a number there, which is its place
+-- ---- each address in a list has a number there, which is its index
 
 pub number_at : (ns : List ℕ) (at : ℕ) → Contains ns at → slice_get ns (number_in ns at) ≡ Some at
 number_at [] at c = absurd (none_in at c)
@@ -127,7 +127,7 @@ module _ (order : List ℕ) where
     one_moved : (n : ℕ) (o : Object) → slice_get t.heap n ≡ Some o → objects_of t Number n ≡ numbered_object Number o ∷ []
     one_moved n o e = ap (λ z. map (numbered_object Number) (option_to_list z)) e
 
-    -- in the list of the moved objects each has the place of its address
+    -- in the list of the moved objects each has the index of its address
     pub moved_at : (ns : List ℕ) → ((a : ℕ) → Contains ns a → a < length t.heap) → (k at : ℕ) (o : Object) → slice_get ns k ≡ Some at → slice_get t.heap at ≡ Some o
         → slice_get (flat_map (objects_of t Number) ns) k ≡ Some (numbered_object Number o)
     moved_at [] live k at o e h = absurd (none-some at e)
@@ -181,7 +181,7 @@ module _ (order : List ℕ) where
 
 -- ---- the state
 
--- u has the objects of t at these addresses, in this order, and t's names; each address is a place in the order
+-- u has the objects of t at these addresses, in this order, and t's names; each address is an index of the order
 pub record IsMoved (t : State) (order : List ℕ) (u : State) : Type 0 where
   pub names : (x : Name) → finite.get u.globals x ≡ option_map (numbered (number_in order)) (finite.get t.globals x)
   pub heap : u.heap ≡ flat_map (objects_of t (number_in order)) order

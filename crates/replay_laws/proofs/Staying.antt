@@ -1,5 +1,5 @@
--- What stands in a state stands in it still after a step that doesn't touch it, if no name that the step touches comes to
--- reach its objects.
+-- Names that are in a state as in another are so still after a step that doesn't touch them, if no name that the step touches
+-- comes to reach their objects.
 use Rattle.std.proofs.Common.{◌≡◌, ℕ, List, [], ◌∷◌, refl, sym, subst}
 use Rattle.std.specs.Prelude.{Contains, slice_get}
 use Rattle.std.specs.FinMap as finite
@@ -57,11 +57,11 @@ module _ (Touched : Name → Type 0) (t u : State) (closed : IsClosed t)
 abbrev NoName : Name → Type 0
 NoName x = ⊥
 
--- the meter plays no part
+-- the meter doesn't matter
 pub stands_with_meter : (names : List Name) (s t : State) (m : ℕ) → IsClosed s → IsClosed t → StandsIn s t names → StandsIn s (with_meter t m) names
 stands_with_meter names s t m c closed h =
     stands_still NoName t (with_meter t m) closed (λ z k. refl) (λ z k at r. refl) names (λ z n k. k) (λ y at k q r. k) s c h
 
--- a state that is the same as another in which the names stand
+-- what is in t as in s is in t as in a state that is the same as s
 pub stands_from : (names : List Name) (r s t : State) → Same (Contains names) r s → StandsIn s t names → StandsIn r t names
 stands_from names r s t k h = (same_through (Contains names) r s t k h.0, h.1)

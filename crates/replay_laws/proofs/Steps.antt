@@ -50,7 +50,7 @@ module _ (read : Reader) (r : Run) (g : Graph) (p : Plan) (run : IsRun r) (follo
     parts_after : AreTheParts r g (suc c)
     parts_after = the_parts r run g h (suc c) (omega (arith, l))
 
-    -- what held before and holds on stands after the cell where it stood before
+    -- a version that held before and holds on is in t as after the cell, if it is in t as before the cell
     still : (t : State) (v : ℕ) (x : Version) → HoldsAfter g (suc c) v x → HoldsAfter g c v x → StandsIn (r.state c) t x.names → StandsIn (r.state (suc c)) t x.names
     still t v x k old there = stands_from x.names (r.state (suc c)) (r.state c) t (same_at r run g h (suc c) c (omega (arith, l)) (omega (arith, l)) v x k old) there
 
@@ -135,7 +135,7 @@ module _ (read : Reader) (r : Run) (g : Graph) (p : Plan) (run : IsRun r) (follo
         from_written : (q : ℕ) (w : Version) → VersionAt g q w → w.writer ≡ suc c → (b : Name) (a : ℕ) → Contains w.names b → Reach End y.names a → ¬ Reaches End b a
         from_written q w wt e b a m r rb = apart_from w (again.wrote q w wt e) (λ z n. (q, w, wt, inr e, n)) b a m r rb
 
-        -- a version read that holds on stands; the names of one that doesn't are names of versions that the cell wrote
+        -- a version read that holds on is there; the names of one that doesn't are names of versions that the cell wrote
         from_touched : (b : Name) (a : ℕ) → Touched b → Reach End y.names a → ¬ Reaches End b a
         from_touched b a (q, w, wt, inr e, m) near rb = from_written q w wt e b a m near rb
         from_touched b a (q, w, wt, inl reads, m) near rb =

@@ -21,7 +21,7 @@ use Rattle.linked_parts.proofs.Names.{reaches_value}
 use Rattle.run_graph.proofs.Reached.{reach_from_one, reach_by_one}
 use Rattle.replay_laws.specs.Tidied.{AtPlace, IsTidied, AreObjectsOf}
 
--- ---- the pairs of a list with its places
+-- ---- the pairs of a list with its indices
 
 pub from_place : ℕ → List ℕ → Pairs
 from_place k [] = []

@@ -24,7 +24,7 @@ AreCopies g p last copy = (v : ℕ) (x : Version) → Contains p.copied v → Ve
 
 -- ---- a load
 
--- with each address so much higher
+-- with each address higher by this number
 abbrev pub higher : ℕ → Value → Value
 higher base (value.Ref at) = value.Ref (base + at)
 higher base value.Nothing = value.Nothing

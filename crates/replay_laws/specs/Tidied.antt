@@ -7,7 +7,7 @@ use Rattle.py_laws.specs.Same.{SameBy, Every}
 use Rattle.graph_model.specs.Faults.{TextBelow, Ascends}
 use Rattle.linked_parts.specs.Parts.{HasValue, Reaches}
 
--- the address has this place in the list
+-- the address has this index in the list
 abbrev pub AtPlace : List ℕ → ℕ → ℕ → Type 0
 AtPlace order at k = slice_get order k ≡ Some at
 
@@ -19,7 +19,7 @@ pub record IsTidied (t u : State) : Type 0 where
   pub order : List ℕ
   pub reached : IsListOf t names order
   pub in_order : order ≡ firsts (met t names order)
-  -- each object stands at its place, and there are no others
+  -- each object is at its index, and there are no others
   pub same : SameBy (AtPlace order) Every t u
   pub size : length u.heap ≡ length order
   pub count : u.count ≡ t.count

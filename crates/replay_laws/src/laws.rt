@@ -100,7 +100,7 @@ pub fn tidying_keeps_the_state()
     ensures equal { (s t u w : State) → SameStates s t → IsTidied s u → IsTidied t w → u ≡ w }
 {}
 
-/// In two states that are the same over some names, what these reach is reached in one order: place by place the addresses
+/// In two states that are the same over some names, what these reach is reached in one order: index by index the addresses
 /// are a pair of objects that match.
 pub fn same_states_are_reached_in_one_order()
     ensures { (names : List Name) (s t : State) (same : Same (Contains names) s t) (left right : List ℕ) → IsListOf s names left

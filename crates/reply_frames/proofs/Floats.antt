@@ -1,4 +1,4 @@
--- Lists in messages hold no floats, in whole and in part.
+-- Lists in messages have no floats, and neither do their pieces.
 use Rattle.std.proofs.Common.{◌≡◌, ℕ, zero, suc, Bool, false, List, [], ◌∷◌, ◌++◌, refl, sym, subst}
 use Rattle.std.specs.Prelude.{map, take, drop}
 use Rattle.std.proofs.lemmas.Bool.{or_parts, or_from}

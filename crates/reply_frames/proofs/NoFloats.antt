@@ -1,4 +1,4 @@
--- A message has no float where its content has none.
+-- A message has no float if its content has none.
 use Rattle.std.proofs.Common.{◌≡◌, ℕ, false, List, Option, Some, None, refl}
 use Rattle.serde_json.specs.Written.{has_float}
 use Rattle.session_core.specs.declared.request.Header.{Header}

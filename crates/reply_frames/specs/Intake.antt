@@ -77,13 +77,13 @@ opened node m host = record node {
   sessions = node.sessions ++ record { kernel = m.kernel; host = host; request = m.header; channel = m.channel; requests = [] } ∷ [];
 }
 
--- an opening: of a kernel that isn't known, on a host that is there, where less than 256 are known
+-- an opening makes a session if the kernel has none, the host is there, and less than 256 sessions are open
 abbrev pub opening : ℕ → Node → Message → ℕ → Option Taken → Node
 opening hosts node m host (Some known) = failed node kind.OpenedTwice (about m)
 opening hosts node m host None = cond (nat_le hosts host) (failed node (kind.UnknownHost host) (about m))
     (cond (nat_le most_sessions (length node.sessions)) (failed node kind.TooManySessions (about m)) (opened node m host))
 
--- the request goes to its session's end
+-- the request is put after the others of its session
 abbrev pub with_request : ℕ → Request → Taken → Taken
 with_request kernel r s = cond (s.kernel == kernel) (record s { requests = s.requests ++ r ∷ [] }) s
 
@@ -92,7 +92,7 @@ admitted node m what = record node {
   sessions = map (with_request m.kernel (record { header = m.header; channel = m.channel; frontend = 0; ask = what })) node.sessions;
 }
 
--- a request: of a kernel that is known, whose session had less than 65,536
+-- a request is admitted if its kernel has a session, and that had less than 65,536 requests
 abbrev pub asking : Node → Message → Ask → Option Taken → Node
 asking node m what None = failed node kind.UnknownKernel (about m)
 asking node m what (Some known) = cond (nat_le most_requests (length known.requests)) (failed node kind.TooManyRequests (about m)) (admitted node m what)
@@ -108,7 +108,7 @@ with_message hosts node (Err why) = unread node why
 
 -- ---- a stream
 
--- frames with these bodies more, on a node with so many hosts
+-- frames with these bodies more, on a node with this number of hosts
 abbrev pub with_frames : ℕ → Node → List (List ℕ) → Node
 with_frames hosts node [] = node
 with_frames hosts node (body ∷ more) = with_frames hosts (with_message hosts node (message_in body)) more
@@ -121,7 +121,7 @@ ended node place (byte ∷ rest) = failed node (kind.BadFrame place) None
 abbrev pub node_of : ℕ → List (List ℕ) → List ℕ → Node
 node_of hosts bodies rest = ended (with_frames hosts no_sessions bodies) (place_after 0 (length (flat_map frame bodies))) rest
 
--- what is taken in of these bytes: of the frames up to the first place where none stands, in order
+-- what is taken in of these bytes: of the frames up to the first place where no whole frame begins, in order
 pub record IsIntake (hosts : ℕ) (bytes : List ℕ) (node : Node) : Type 0 where
   pub bodies : List (List ℕ)
   pub rest : List ℕ

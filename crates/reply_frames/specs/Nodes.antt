@@ -44,7 +44,7 @@ detail_of kind.TooManySessions = []
 detail_of kind.TooManyRequests = []
 detail_of (kind.BadFrame at) = decimal at
 
--- where a message was read, its date, kernel and header are said again
+-- if a message was read, its date, kernel and header are said again
 abbrev pub date_of : Option About → List ℕ
 date_of None = []
 date_of (Some about) = about.header.date

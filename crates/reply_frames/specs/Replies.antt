@@ -150,7 +150,7 @@ node_name Sink = codes "t"
 unfoldable pub arc_said : FlowArc → Data
 arc_said arc = array (item (string (node_name arc.from)) (item (string (node_name arc.to)) (item (whole arc.flow) no_items)))
 
--- a list in parts of so many, the last of which may be shorter; there are no more of them than items
+-- a list in pieces of n items, the last of which may be shorter; there are no more pieces than the first number says
 unfoldable pub parts : ℕ → ℕ → List Data → List (List Data)
 parts zero n ds = []
 parts (suc more) n [] = []

@@ -11,6 +11,16 @@ use serde_json::{Value, json};
 use std::alloc::{AllocError, Global};
 use text_cuts::cut_at;
 
+/// The most bytes of a cell's code that are said.
+const MOST_CODE: usize = 262_144;
+
+/// The most bytes of a result's text that are said.
+const MOST_RESULT: usize = 65_536;
+
+/// The most bytes of an error's text that are said.
+const MOST_ERROR: usize = 4096;
+
+/// The content that tells a session's state.
 pub fn status_content(alloc: Global, state: &str) -> Result<Value, AllocError>
     ensures { IfOk result (λ v. view v ≡ json ((codes "execution_state", string state.now) ∷ [])) }
 {
@@ -23,13 +33,15 @@ fn input_members(alloc: Global, code: &str, count: u32) -> Result<Value, AllocEr
     json!(in alloc; {"code": code, "execution_count": u64::from(count)})
 }
 
+/// The content that tells a cell's code, within 262,144 bytes, and its count.
 pub fn input_content(alloc: Global, code: &str, count: u32) -> Result<Value, AllocError>
     ensures { IfOk result (λ v. view v ≡ (said.input code.now count).content) }
 {
-    let (code, _) = cut_at(code, 262_144);
+    let (code, _) = cut_at(code, MOST_CODE);
     input_members(alloc, code, count)
 }
 
+/// The content that tells a piece of printed text.
 pub fn stream_content(alloc: Global, piece: &str) -> Result<Value, AllocError>
     ensures { IfOk result (λ v. view v ≡ json ((codes "name", string (codes "stdout")) ∷ (codes "text", string piece.now) ∷ [])) }
 {
@@ -48,10 +60,10 @@ fn with_dots(alloc: Global, front: &str) -> Result<Text, AllocError>
 fn shortened(alloc: Global, text: &str) -> Result<Text, AllocError>
     ensures { IfOk result (λ short. short ≡ said.shortened text.now) }
 {
-    if text.len() <= 65_536 {
+    if text.len() <= MOST_RESULT {
         return Text::new(alloc, text);
     }
-    let (front, _) = cut_at(text, 65_536);
+    let (front, _) = cut_at(text, MOST_RESULT);
     with_dots(alloc, front)
 }
 
@@ -66,6 +78,7 @@ fn result_members(alloc: Global, count: u32, text: &str) -> Result<Value, AllocE
     })
 }
 
+/// The content that tells a cell's result, shortened if it has more than 65,536 bytes.
 pub fn result_content(alloc: Global, count: u32, text: &Text) -> Result<Value, AllocError>
     ensures { IfOk result (λ v. view v ≡ (said.result count text.now).content) }
 {
@@ -114,12 +127,12 @@ fn stopped_members(alloc: Global, name: &str, text: &str, line: &str) -> Result<
     json!(in alloc; {"ename": name, "evalue": text, "status": "error", "traceback": [line]})
 }
 
-/// The reply that a request other than a cell failed so.
+/// The content of the reply to a request other than a cell that failed so.
 #[tactic(auto, unfolding(crate::specs::Replies::failed_content))]
 pub fn failed_content(alloc: Global, failure: &Failure) -> Result<Value, AllocError>
     ensures { IfOk result (λ v. view v ≡ replies.failed_content failure.now) }
 {
-    let (text, _) = cut_at(failure.text.as_str(), 4096);
+    let (text, _) = cut_at(failure.text.as_str(), MOST_ERROR);
     let line = error_line(alloc, failure.name.as_str(), text)?;
     stopped_members(alloc, failure.name.as_str(), text, line.as_str())
 }
@@ -131,14 +144,16 @@ fn ok_members(alloc: Global, count: u32) -> Result<Value, AllocError>
     json!(in alloc; {"execution_count": u64::from(count), "status": "ok", "user_expressions": {}})
 }
 
+/// The content that tells an error, its text within 4,096 bytes.
 pub fn error_content(alloc: Global, failure: &Failure) -> Result<Value, AllocError>
     ensures { IfOk result (λ v. view v ≡ (said.error failure.now).content) }
 {
-    let (text, _) = cut_at(failure.text.as_str(), 4096);
+    let (text, _) = cut_at(failure.text.as_str(), MOST_ERROR);
     let line = error_line(alloc, failure.name.as_str(), text)?;
     error_members(alloc, failure.name.as_str(), text, line.as_str())
 }
 
+/// The content of the reply to a cell with this count: its error, its text within 4,096 bytes, or that it has none.
 pub fn reply_content(
     alloc: Global,
     count: u32,
@@ -149,7 +164,7 @@ pub fn reply_content(
     let Some(failure) = error else {
         return ok_members(alloc, count);
     };
-    let (text, _) = cut_at(failure.text.as_str(), 4096);
+    let (text, _) = cut_at(failure.text.as_str(), MOST_ERROR);
     let line = error_line(alloc, failure.name.as_str(), text)?;
     failed_members(alloc, count, failure.name.as_str(), text, line.as_str())
 }

@@ -12,6 +12,10 @@ use py_session::Failure;
 use std::alloc::{AllocError, Global};
 use text_cuts::cut_at;
 
+/// The most bytes of a piece of printed text.
+const MOST_PIECE: usize = 65_536;
+
+/// The state of the session: `busy` or `idle`.
 pub fn say_status(
     outbox: &mut Outbox,
     alloc: Global,
@@ -24,6 +28,7 @@ pub fn say_status(
     outbox.say(alloc, request, "iopub", "status", &content)
 }
 
+/// The name of a channel in a message.
 pub fn channel_name(channel: Channel) -> &'static str
     ensures { result.now ≡ said.channel_name channel }
 {
@@ -74,7 +79,7 @@ pub fn say_streams(
         if rest.is_empty() {
             break;
         }
-        let (piece, more) = cut_at(rest, 65_536);
+        let (piece, more) = cut_at(rest, MOST_PIECE);
         say_stream(outbox, alloc, request, piece)?;
         rest = more;
     }
@@ -110,6 +115,7 @@ pub fn say_result(
     }
 }
 
+/// The error of a cell, if it has one.
 pub fn say_error(
     outbox: &mut Outbox,
     alloc: Global,

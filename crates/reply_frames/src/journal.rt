@@ -178,7 +178,7 @@ fn say_failed(
     say_replied(outbox, alloc, request, reply_kind(&request.ask), &content)
 }
 
-/// The plan, the flow that shows that none costs less, and the reply.
+/// The plan, the flow that shows that no plan costs less, and the reply.
 #[tactic(auto, unfolding(crate::specs::Replies::adopted_said, crate::specs::Replies::moved_content), using(crate::proofs::Saying::say_both))]
 fn say_adopted(
     outbox: &mut Outbox,
@@ -299,7 +299,7 @@ fn say_middle(outbox: &mut Outbox, alloc: Global, entry: &Entry) -> Result<(), A
     }
 }
 
-/// All that an entry says: busy, its answer, idle; nothing where no request is answered.
+/// All that an entry says: busy, its answer, idle; nothing if it answers no request.
 #[tactic(auto, using(crate::proofs::Saying::say_both))]
 fn say_entry(outbox: &mut Outbox, alloc: Global, entry: &Entry) -> Result<(), AllocError>
     ensures { OnOk result (outbox.new ≡ spec.say_answer (spec.answer_of entry.now) outbox.old) }
@@ -312,8 +312,8 @@ fn say_entry(outbox: &mut Outbox, alloc: Global, entry: &Entry) -> Result<(), Al
     say_status(outbox, alloc, request, "idle")
 }
 
-/// The frames of an entry of this kernel's journal, with running numbers from the first on, and the next number. `Err` also
-/// where a body would have 2^32 bytes or more, or a number would pass 2^64 - 1.
+/// The frames of an entry of this kernel's journal, with running numbers from the first on, and the next number. Also
+/// `Err` if a body would have 2^32 bytes or more, or a number would pass 2^64 - 1.
 pub fn frames_of(
     alloc: Global,
     kernel: u128,

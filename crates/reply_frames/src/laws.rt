@@ -1,4 +1,4 @@
-//! Of every stream a node takes in one thing, however its bytes were cut. Each law is the contract of a function that does
+//! A node takes in the same of a stream, however its bytes were cut. Each law is the contract of a function that does
 //! nothing.
 
 ghost use Rattle.std.specs.Prelude.{◌≡◌, ◌<◌, ℕ, List, ◌++◌, ◌∷◌, []};
@@ -8,7 +8,7 @@ ghost use Rattle.reply_frames.specs.Intake.{Node, IsIntake, with_frames, with_me
 
 use jupyter_frames::laws::{a_stream_has_one_cutting, every_stream_has_a_cutting};
 
-/// However a stream was cut into pieces, one thing is taken in of it.
+/// However a stream was cut into pieces, the same is taken in of it.
 pub fn a_stream_has_one_intake()
     ensures { (hosts : ℕ) (bytes : List ℕ) (node other : Node) → IsIntake hosts bytes node → IsIntake hosts bytes other → node ≡ other }
 {
@@ -22,8 +22,8 @@ pub fn every_stream_has_an_intake()
     every_stream_has_a_cutting();
 }
 
-/// A frame may be taken in as soon as it is whole: what is taken in of frames and one more is that of the one, after the
-/// others.
+/// A frame may be taken in as soon as it is whole: to take in some frames and one more is to take in the frames, and then the
+/// one.
 #[tactic(auto, using(crate::proofs::Taking::frame_more))]
 pub fn frames_are_taken_in_as_they_come()
     ensures { (hosts : ℕ) (node : Node) (bodies : List (List ℕ)) (body : List ℕ) →

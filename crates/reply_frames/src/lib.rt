@@ -1,10 +1,11 @@
 //! The frames that answer a request.
 //!
 //! Each message is a JSON object with its members in ascending order and no white space, after its length. Members that
-//! hold a text of the session are cut between characters: a code at 262,144 bytes, a piece of printed text at 65,536, the
-//! text of an error at 4,096. `docs/PROTOCOL.md` lists the messages. (Jupyter messaging protocol 5.3.)
+//! hold a text of the session are cut between characters: a code at 262,144 bytes, a piece of printed text and a
+//! result at 65,536, the text of an error at 4,096. `docs/PROTOCOL.md` lists the messages. (Jupyter messaging protocol 5.3.)
 //!
-//! The contracts leave open when memory runs out, so that a body which always answers so meets them: the calls run in `frames_show`.
+//! The contracts leave open when memory runs out, so a body that always answers that it ran out meets them. Therefore
+//! `frames_show` runs the calls.
 #![tactic(auto)]
 
 mod content;

@@ -1,4 +1,4 @@
-//! Long lists in messages: the steps of a plan and the arcs of a flow, at most 4,096 in each.
+//! Long lists in messages: the steps of a plan and the arcs of a flow, at most 4,096 in each message.
 
 ghost use Rattle.std.specs.Prelude.{◌≡◌, ◌++◌, [], false, IfOk, OnOk, map, take, drop, decimal};
 ghost use Rattle.serde_json.specs.Data.{string, array, item, no_items};

@@ -49,6 +49,7 @@ pub fn header_value(
     })
 }
 
+/// The header of a request, with all its texts.
 pub fn request_header(alloc: Global, header: &Header) -> Result<Value, AllocError>
     ensures { IfOk result (λ v. view v ≡ spec.header_json header.now) }
 {

@@ -14,12 +14,12 @@ use plain_data::{Items, Text};
 use serde_json::{Value, json};
 use std::alloc::{AllocError, Global};
 
-/// What is wrong with what the node was sent, by the numbers 1 to 9.
+/// What is wrong with what the node was sent. Messages number these kinds from 1 to 9, in this order.
 #[derive(Debug, Drop)]
 pub enum NodeErrorKind {
     /// A frame's body is no JSON.
     NotJson,
-    /// A member of a message isn't there, or is of the wrong kind; `kernel` also where it is no UUID.
+    /// A member of a message isn't there, or is of the wrong kind. It is `kernel`, too, if that is no UUID.
     BadRecord(Text),
     /// No session was opened for the kernel.
     UnknownKernel,
@@ -33,7 +33,7 @@ pub enum NodeErrorKind {
     TooManySessions,
     /// The session had 65,536 requests.
     TooManyRequests,
-    /// At this place the stream goes on with no whole frame.
+    /// The stream goes on at this place, but no whole frame begins there.
     BadFrame(u64),
 }
 
@@ -44,7 +44,7 @@ pub struct About {
     pub header: Header,
 }
 
-/// An error of the node; about a message where one was read.
+/// An error of the node; about a message, if one was read.
 #[derive(Debug, Drop)]
 pub struct NodeError {
     pub kind: NodeErrorKind,
@@ -92,7 +92,7 @@ fn digits(alloc: Global, number: u64) -> Result<Text, AllocError>
     Ok(Text::from_string(format!(in alloc; "{number}")?))
 }
 
-/// What an error names: a member, a type, a host or a place; empty where it names nothing.
+/// What an error names: a member, a type, a host or a place; empty if it names nothing.
 fn detail_of(alloc: Global, kind: &NodeErrorKind) -> Result<Text, AllocError>
     ensures { IfOk result (λ text. text ≡ spec.detail_of kind.now) }
 {
@@ -207,7 +207,7 @@ fn message_of(alloc: Global, running: u64, error: &NodeError) -> Result<Value, A
     message_members(alloc, &content, &header, kernel.as_str(), &parent)
 }
 
-/// The frame of an error, under this running number of the node's. `Err` also where the body would have 2^32 bytes or more.
+/// The frame of an error, under this running number of the node's. Also `Err` if the body would have 2^32 bytes or more.
 pub fn node_error_frame(
     alloc: Global,
     running: u64,

@@ -20,7 +20,7 @@ pub struct Outbox {
     pub bytes: Items<u8>,
 }
 
-/// Adds a frame: the length of the body, as four bytes with the high byte first, and the body. `Err` also where the body
+/// Adds a frame: the length of the body, as four bytes with the high byte first, and the body. Also `Err` if the body
 /// has 2^32 bytes or more.
 #[tactic(auto, unfolding(crate::specs::Frames::frame))]
 pub fn push_frame(bytes: &mut Items<u8>, body: &str) -> Result<(), AllocError>
@@ -34,7 +34,7 @@ pub fn push_frame(bytes: &mut Items<u8>, body: &str) -> Result<(), AllocError>
     bytes.extend_from_slice(body.as_bytes())
 }
 
-/// One more, where it fits.
+/// One more, if it fits.
 fn next_number(running: u64) -> Result<u64, AllocError>
     ensures { IfOk result (λ next. next ≡ running + 1) }
 {
@@ -46,7 +46,7 @@ fn next_number(running: u64) -> Result<u64, AllocError>
 }
 
 impl Outbox {
-    /// Adds a message that answers the request. `Err` also where a number or a length would not fit.
+    /// Adds a message that answers the request. Also `Err` if a number or a length doesn't fit.
     #[tactic(auto, unfolding(crate::specs::Frames::framed))]
     pub fn say(
         &mut self,

@@ -20,6 +20,7 @@ use std::alloc::{AllocError, Global};
 /// The most names of a version in a reply.
 const MOST_NAMES: usize = 1000;
 
+/// The reply to an opening on this host.
 #[tactic(auto, unfolding(crate::specs::Replies::open_content))]
 pub fn host_content(alloc: Global, host: u32) -> Result<Value, AllocError>
     ensures { IfOk result (λ v. view v ≡ spec.open_content host) }
@@ -60,6 +61,7 @@ fn incomplete(alloc: Global, indent: &str) -> Result<Value, AllocError>
     json!(in alloc; {"indent": indent, "status": "incomplete"})
 }
 
+/// The reply that says whether a code is a whole cell. If it may go on, it has the spaces of its next line.
 #[tactic(auto, unfolding(crate::specs::Replies::completion_content))]
 pub fn completion_content(alloc: Global, completion: Completion) -> Result<Value, AllocError>
     ensures { IfOk result (λ v. view v ≡ spec.completion_content completion) }
@@ -74,6 +76,7 @@ pub fn completion_content(alloc: Global, completion: Completion) -> Result<Value
     }
 }
 
+/// The reply to a shutdown.
 #[tactic(auto, unfolding(crate::specs::Replies::shutdown_content))]
 pub fn shutdown_content(alloc: Global, restart: bool) -> Result<Value, AllocError>
     ensures { IfOk result (λ v. view v ≡ spec.shutdown_content restart) }
@@ -81,7 +84,7 @@ pub fn shutdown_content(alloc: Global, restart: bool) -> Result<Value, AllocErro
     json!(in alloc; {"restart": restart, "status": "ok"})
 }
 
-/// The reply to a request that a dead session answers.
+/// The reply of a session that died at the request, or was dead before.
 #[tactic(auto, unfolding(crate::specs::Replies::failed_reply))]
 pub fn failed_reply(
     alloc: Global,
@@ -97,6 +100,7 @@ pub fn failed_reply(
     }
 }
 
+/// The type of the reply to this ask.
 pub fn reply_kind(ask: &Ask) -> &'static str
     ensures { result.now ≡ spec.reply_kind ask.now }
 {
@@ -109,7 +113,7 @@ pub fn reply_kind(ask: &Ask) -> &'static str
     }
 }
 
-/// An error of this name and text; none without a name.
+/// An error with this name and text; none if the name is empty.
 pub fn failure_in(alloc: Global, name: &str, text: &str) -> Result<Option<Failure>, AllocError>
     ensures { IfOk result (λ failure. failure ≡ spec.failure_in name.now text.now) }
 {

@@ -3,6 +3,7 @@ ghost use Rattle.restore_command.specs.Told as spec;
 ghost use Rattle.restore_command.specs.Told.{IsToldOf};
 
 use crate::lines::{restore_line, state_lines};
+use nb_outside::status;
 use plan_command::Said;
 use restore_run::{RestoreFault, restore};
 use std::alloc::{AllocError, Global};
@@ -12,10 +13,10 @@ fn status_of(fault: &RestoreFault) -> u8
     ensures { result ≡ spec.status_of fault.now }
 {
     match fault {
-        RestoreFault::OutOfMemory => 5,
-        RestoreFault::Checkpoint(_) => 7,
-        RestoreFault::DrewAgain(_) => 8,
-        RestoreFault::Unlike(_) | RestoreFault::Loose(_) => 9,
+        RestoreFault::OutOfMemory => status::OUT_OF_MEMORY,
+        RestoreFault::Checkpoint(_) => status::NO_CHECKPOINT,
+        RestoreFault::DrewAgain(_) => status::DREW_AGAIN,
+        RestoreFault::Unlike(_) | RestoreFault::Loose(_) => status::UNLIKE,
     }
 }
 
@@ -27,7 +28,10 @@ pub fn restored(alloc: Global, bytes: &[u8]) -> Result<Said, AllocError>
     match restore(alloc, bytes, 0) {
         Ok(restored) => {
             let text = state_lines(alloc, &restored.kernel.state)?;
-            Ok(Said { status: 0, text })
+            Ok(Said {
+                status: status::DONE,
+                text,
+            })
         }
         Err(RestoreFault::OutOfMemory) => Err(AllocError),
         Err(fault) => {

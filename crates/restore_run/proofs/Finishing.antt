@@ -1,4 +1,4 @@
--- What a checkpoint is restored to, or the fault, from where its walk ends.
+-- What a checkpoint is restored to, or the fault, from the state in which its walk ends.
 use Rattle.std.proofs.Common.{◌≢◌, ℕ, List, length, Result, Ok, Err, refl, sym, ap, ◌∙◌, subst}
 use Rattle.std.specs.Prelude.{IfOk, IfErr}
 use Rattle.py_heap.specs.declared.state.State.{State}

@@ -90,7 +90,7 @@ ends_if : {A : Type 0} (P : A → ℕ → Type 0) (s : Spot) (b : Bool) (x y : A
 ends_if P s true x y p q = p
 ends_if P s false x y p q = q
 
--- ---- so many of a kind
+-- ---- n items of one kind
 
 module _ {A : Type 0} (R : A → ℕ → Type 0) (up : (a : A) (m n : ℕ) → m ≤ n → R a m → R a n) (step : List A → Read A) (each : (before : List A) → Refers R (step before)) where
   abbrev AreAll : ℕ → List A → ℕ → Type 0

@@ -8,8 +8,8 @@ use Rattle.py_value.specs.declared.value.Builtin.{Builtin}
 use Rattle.py_value.specs.declared.value.Value.{Value}
 use Rattle.py_heap.specs.declared.heap.Object.{Object}
 use Rattle.py_heap.specs.declared.state.State.{State}
-use Rattle.py_machine.specs.declared.frame.Slot.{Slot}
-use Rattle.py_machine.specs.declared.frame.Slot.TheVariants.{Empty, Held}
+use Rattle.py_machine.specs.declared.frame.FrameSlot.{FrameSlot}
+use Rattle.py_machine.specs.declared.frame.FrameSlot.TheVariants.{Empty, Held}
 use Rattle.py_machine.specs.declared.machine.Machine.{Machine}
 use Rattle.py_machine.specs.Errors.{step_limit_error, memory_error}
 use Rattle.py_machine.specs.Builtins.{builtin_named}
@@ -48,7 +48,7 @@ found_none : (name : Name) (o : Option Value) (m n : Machine) → n.drawn ≡ m.
 found_none name (Some held) m n e = record { same = e }
 found_none name None m n e = built_in_none name (builtin_named name) m n e
 
-looked_none : (name : Name) (o : Option Slot) (m : Machine) → TookNone m (looked name o m)
+looked_none : (name : Name) (o : Option FrameSlot) (m : Machine) → TookNone m (looked name o m)
 looked_none name (Some (Held held)) m = record { same = refl }
 looked_none name (Some Empty) m = record { same = refl }
 looked_none name None m = found_none name (finite.get m.state.globals name) m _ refl
@@ -61,7 +61,7 @@ met_none : (name : Name) (o : Option Value) (m n : Machine) → n.drawn ≡ m.dr
 met_none name (Some held) m n e = record { same = e }
 met_none name None m n e = record { same = e }
 
-sought_none : (name : Name) (o : Option Slot) (m : Machine) → TookNone m (sought name o m)
+sought_none : (name : Name) (o : Option FrameSlot) (m : Machine) → TookNone m (sought name o m)
 sought_none name (Some (Held held)) m = record { same = refl }
 sought_none name (Some Empty) m = record { same = refl }
 sought_none name None m = met_none name (finite.get m.state.globals name) m _ refl
@@ -74,11 +74,11 @@ replaced_same : (at : ℕ) (o : Option Object) (m : Machine) → (runs.replaced 
 replaced_same at None m = refl
 replaced_same at (Some new) m = refl
 
-bound_same : (name : Name) (held : Value) (o : Option Slot) (m : Machine) → (runs.bound name held o m).drawn ≡ m.drawn
+bound_same : (name : Name) (held : Value) (o : Option FrameSlot) (m : Machine) → (runs.bound name held o m).drawn ≡ m.drawn
 bound_same name held (Some old) m = refl
 bound_same name held None m = refl
 
-unbound_same : (name : Name) (o : Option Slot) (m : Machine) → (runs.unbound name o m).drawn ≡ m.drawn
+unbound_same : (name : Name) (o : Option FrameSlot) (m : Machine) → (runs.unbound name o m).drawn ≡ m.drawn
 unbound_same name (Some old) m = refl
 unbound_same name None m = refl
 

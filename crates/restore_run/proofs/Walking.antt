@@ -216,7 +216,7 @@ module _ (k : Checkpoint) (sound : IsSound k) where
       let x = copied_version v (in_by cs w.0 v w.2) in
       (x.0, x.1, others w.0 v x.0 w.1 (w.2, x.1)))))
 
-  -- the place moves on over a version that cell c wrote
+  -- the index moves on over a version that cell c wrote
   pub between_more : (b c n : ℕ) (v : ℕ) (x : Version) → c ≡ b + 1 → CopiedAt k n v x → x.writer ≡ c
       → ((i u : ℕ) (y : Version) → i < n → CopiedAt k i u y → y.writer ≤ c) → (i u : ℕ) (y : Version) → i < n + 1 → CopiedAt k i u y → y.writer ≤ c
   between_more b c n v x e at writes before i u y l bt = elim (cases_lt i n) [
@@ -224,7 +224,7 @@ module _ (k : Checkpoint) (sound : IsSound k) where
     | inr m ↦ let low = in_order i n u v y x (omega (arith, l)) bt at in omega (arith, low, writes)
   ]
 
-  -- where the next isn't of cell c, no later one is
+  -- if the next isn't of cell c, no later one is
   pub between_end : (b c n : ℕ) → c ≡ b + 1 → n ≤ length cs → ((i u : ℕ) (y : Version) → i < n → CopiedAt k i u y → y.writer ≤ c) → ((i u : ℕ) (y : Version) → n ≤ i → CopiedAt k i u y → b < y.writer)
       → (OnCopiedAt k n (λ v x. x.writer ≢ c) ⊎ (length cs ≤ n)) → IsBetween k c n
   between_end b c n e within before after ends = record {
@@ -243,7 +243,7 @@ module _ (k : Checkpoint) (sound : IsSound k) where
     ];
   }
 
-  -- over the copied versions of cell c, from the place where those of cell b end
+  -- over the copied versions of cell c, from the index at which those of cell b end
   module _ (b c from : ℕ) (e : c ≡ b + 1) (start : IsBetween k b from) where
     pub before_begin : (i v : ℕ) (x : Version) → i < from → CopiedAt k i v x → x.writer ≤ c
     before_begin i v x l at = let low = start.before i v x l at in omega (arith, low, e)
@@ -265,7 +265,7 @@ module _ (k : Checkpoint) (sound : IsSound k) where
     ];
   }
 
-  -- ---- the version that is copied as the one with a place
+  -- ---- the copied version at an index
 
   module _ (ns : List ℕ) (vs : List Version) (ps : List PartValue) (is_copied : ns ≡ cs) (are_versions : vs ≡ g.versions) (are_parts : ps ≡ k.parts) (n : ℕ) (l : n < length cs) where
     copied_here : slice_get cs n ≡ Some (get_or ns n 0)

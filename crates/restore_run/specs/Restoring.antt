@@ -51,7 +51,8 @@ copies k v = state_of (part_for k.plan.copied k.parts v)
 abbrev pub IsWalked : Checkpoint → ℕ → State → Type 0
 IsWalked k c t = Walked read (copies k) k.graph k.plan c t
 
--- s is where the walk ends, with the checkpoint's count and meter, with the objects that names reach alone, numbered anew
+-- s is the state in which the walk ends, with the checkpoint's count and meter, and only with the objects that names reach,
+-- numbered anew
 pub record IsRestoredFrom (k : Checkpoint) (s : State) : Type 0 where
   pub last : State
   pub walked : IsWalked k (length k.graph.cells) last

@@ -10,7 +10,7 @@ use py_reader::{ReadError, read_cell};
 use py_tree::Stmt;
 use std::alloc::{AllocError, Global};
 
-/// How a cell ended that was run again.
+/// How a cell that was run again ended.
 #[derive(Clone, Copy, Debug, PartialEq, Eq)]
 pub(crate) enum Ran {
     /// Without a draw: its state stays.

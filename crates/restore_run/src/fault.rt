@@ -4,8 +4,8 @@ use std::alloc::AllocError;
 use std::error::Error;
 use std::fmt;
 
-/// Why bytes aren't restored: the first of these that holds. On bytes that were written of a session, under a feasible plan of its
-/// history, memory alone can run out.
+/// Why bytes aren't restored: the first of these that holds. For bytes that were written of a session, under a feasible plan of
+/// its history, `OutOfMemory` is the only one.
 #[derive(Debug, Drop)]
 pub enum RestoreFault {
     OutOfMemory,

@@ -1,5 +1,5 @@
-//! A checkpoint restored: the walk over its cells and copies, and its end, or the first reason why its bytes are none that a session
-//! was written as.
+//! A checkpoint restored: the walk over its cells and copies, and its end, or the first reason why no session is written as these
+//! bytes.
 //!
 //! docs/REPLAY.md tells the walk, docs/CHECKPOINTS.md the bytes. (Li et al., ElasticNotebook, PVLDB 17(2).)
 #![tactic(auto)]

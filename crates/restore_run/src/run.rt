@@ -16,7 +16,7 @@ use py_kernel::Kernel;
 use state_judge::{Disagreement, judge};
 use std::alloc::{AllocError, Global};
 
-/// The state where a walk ended, with the session's count and meter, and with the objects that names reach alone.
+/// The state in which a walk ended, with the session's count and meter, and only with the objects that names reach.
 fn finished(alloc: Global, mut last: State, count: u32, meter: u32) -> Result<State, AllocError>
     requires closed { IsClosed last }
     requires meter { meter ≤ 16777216 }
@@ -43,9 +43,10 @@ fn restored(alloc: Global, state: State, host: u32, graph: Graph) -> Result<Rest
         Err(Disagreement::Loose(name)) => return Err(RestoreFault::Loose(name)),
     }
     let objects = state.len();
+    let history = History::of(alloc, graph, parts)?;
     Ok(Restored {
         kernel: Kernel { state, host },
-        history: History { graph, parts },
+        history,
         objects,
     })
 }

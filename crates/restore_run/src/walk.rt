@@ -74,7 +74,7 @@ fn give(
     Ok(())
 }
 
-/// Gives back the version that is copied as the one with that place, if the cell with that number wrote it. Says whether it did.
+/// Gives back the copied version at index `next`, if the cell with that number wrote it. Says whether that cell did.
 fn give_next(
     alloc: Global,
     state: &mut State,
@@ -98,8 +98,8 @@ fn give_next(
     Ok(true)
 }
 
-/// Gives back the copied versions that the cell with that number wrote, one after the other. Those before the place `from` are of
-/// earlier cells. Says where those of later cells begin.
+/// Gives back the copied versions that the cell with that number wrote, one after the other. Those before index `from` are of
+/// earlier cells. Says at which index those of later cells begin.
 fn give_back(
     alloc: Global,
     state: &mut State,

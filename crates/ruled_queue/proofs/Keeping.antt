@@ -91,7 +91,7 @@ module _ {T : Type 0} (number : T → ℕ) where
   grow_keeps x n l (e ∷ es) h = ⊎_elim (λ (t : (e.0 ≡ n) × (e.1 ≡ l)). inl (t.0, ap₂ (λ k m. k ++ of number m (x ∷ [])) t.1 t.0))
       (λ (t : Keeps n l es). inr (grow_keeps x n l es t)) h
 
-  -- where no number has an item, there is none
+  -- if no number has an item, there is none
   none_of_all : (xs : List T) → ((n : ℕ) → of number n xs ≡ []) → xs ≡ []
   none_of_all [] h = refl
   none_of_all (x ∷ xs) h = absurd (cons_is_not_nil x (of number (number x) xs) (sym (of_own x xs) ∙ h (number x)))

@@ -68,7 +68,7 @@ module _ {T : Type 0} (number : T → ℕ) where
   abbrev pub grown : View T → T → View T
   grown v x = knows v.pops v.popped (map (grow x) v.lists) v.given
 
-  -- what one pass knows is so
+  -- what one pass knows is true
   pub record Fits (reader : ℕ) (popped : List T) (given : ℕ) (all : List T) (seat : ℕ → ℕ) (pass : ℕ) (v : View T) : Type 0 where
     pub pops : v.pops ≡ true → (pass ≡ reader) × (v.popped ≡ popped)
     pub keeps : (n : ℕ) (l : List T) → Keeps n l v.lists → (seat n ≡ pass) × (l ≡ of n all) × (n < given)
@@ -88,7 +88,7 @@ module _ {T : Type 0} (number : T → ℕ) where
       pub fit : Each IsFit (popped ++ items)
       pub opening : OnlyFirstOpens opens (popped ++ items)
 
-    -- The item is fit, and opens only where it is the first. It is the next of its own number's list, as far as the pass keeps
+    -- The item is fit, and opens only if it is the first. It is the next of its own number's list, as far as the pass keeps
     -- that, and its number was given.
     pub record Took (v : View T) (x : T) (w : View T) : Type 0 where
       pub now : w ≡ took v x
@@ -97,7 +97,7 @@ module _ {T : Type 0} (number : T → ℕ) where
       pub fit : IsFit x
       pub opening : v.popped ≢ [] → opens x ≡ false
 
-    -- a pass may push the item: it keeps the item's number, and the item opens only where nothing was pushed yet
+    -- a pass may push the item: it keeps the item's number, and the item opens only if nothing was pushed yet
     pub record MayPush (v : View T) (x : T) : Type 0 where
       pub keeps : (l : List T) × Keeps (number x) l v.lists
       pub fit : IsFit x

@@ -3,7 +3,7 @@ ghost use Rattle.crossbeam_queue.specs.SegTies.{IsSegPassOf};
 ghost use Rattle.ruled_queue.specs.Rule.{first_view, producer_part, consumer_part, gave_number, next_number, joined, impossible, grown, Took, MayPush, Waits};
 
 use crate::rule::{
-    Consumers, Never, NextNumber, Numbering, Numbers, Popped, Pushed, Roles, Ruled, View,
+    Consumers, Never, NextNumber, Numbering, PassNumbers, Popped, Pushed, Roles, Ruled, View,
 };
 use crossbeam_queue::{RuledSegQueue, SegPass};
 use std::alloc::{AllocError, Global};
@@ -12,7 +12,7 @@ use std::sync::Wait;
 /// A queue under the rule.
 pub type Queue<T, N> = RuledSegQueue<T, View<T>, Ruled<N>>;
 
-/// The place of a thread at a queue.
+/// A thread's pass on a queue under the rule.
 pub type Seat<T> = SegPass<T, View<T>>;
 
 /// An empty queue. The seat has number 0 and is the consumer's.
@@ -37,7 +37,7 @@ pub fn push<T: Drop, N: Numbering<T>, R: Wait>(
     queue.push_as::<Pushed<N>, R>(rt, seat, item)
 }
 
-/// Pops the front. None where the queue was found empty at a step of this call.
+/// Pops the front. None if the queue was found empty at a step of this call.
 pub fn pop<T: Drop, N: Numbering<T>, R: Wait>(
     rt: &R,
     queue: &Queue<T, N>,
@@ -87,7 +87,7 @@ pub fn pop_and_drop<T: Drop, N: Numbering<T>, R: Wait>(
     }
 }
 
-/// Splits off the consumer's part.
+/// Splits off a seat that is the consumer's. The old one keeps the numbers and no longer pops.
 pub fn split_consumer<T, N: Numbering<T>>(queue: &Queue<T, N>, seat: &mut Seat<T>) -> Seat<T>
     requires queue { IsSegPassOf queue.now seat.old }
     requires consumer { seat.old.me.view.client.pops ≡ true }
@@ -116,7 +116,7 @@ pub fn join<T, N: Numbering<T>>(queue: &Queue<T, N>, seat: &mut Seat<T>, other: 
     ensures queue { IsSegPassOf queue.now seat.new }
     ensures view { seat.new.me.view.client ≡ joined seat.old.me.view.client other.me.view.client }
 {
-    queue.absorb::<Numbers>(seat, other);
+    queue.absorb::<PassNumbers>(seat, other);
 }
 
 /// A queue has one consumer: two seats that pop are never both of one queue.

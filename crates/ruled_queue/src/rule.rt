@@ -2,14 +2,14 @@ use crossbeam_queue::protocol::{Join, Lesson, Outcome, Protocol, Split};
 use std::collections::LinkedList;
 use std::marker::PhantomData;
 
-/// How the items of a queue are numbered, and which may stand in it.
+/// How the items of a queue are numbered, and which may be in it.
 pub trait Numbering<T> {
     ghost use Rattle.std.specs.Prelude.{ℕ, Bool};
 
     // The number under which an item is pushed.
     ghost number: { T → ℕ };
 
-    // It may stand in the queue.
+    // It may be in the queue.
     ghost is_fit: { T → Type 0 };
 
     // It may only come first.
@@ -24,7 +24,7 @@ pub struct View<T> {
     pub popped: LinkedList<T>,
     /// Its numbers, each with what was pushed under it.
     pub lists: LinkedList<(u32, LinkedList<T>)>,
-    /// How many numbers were given, where it has number 0.
+    /// How many numbers were given, if it has number 0.
     pub given: u32,
 }
 
@@ -70,7 +70,7 @@ impl<T, N: Numbering<T>> Lesson<T, View<T>> for Popped<N> {
     ghost fact = { Waits N.number };
 }
 
-/// The consumer's part is split off.
+/// The consumer's role is split off: one pass pops, and the other keeps the numbers.
 pub struct Roles;
 
 impl<T> Split<View<T>> for Roles {
@@ -93,9 +93,9 @@ impl<T> Split<View<T>> for NextNumber {
 }
 
 /// A pass takes in the numbers of another.
-pub struct Numbers;
+pub struct PassNumbers;
 
-impl<T> Join<View<T>> for Numbers {
+impl<T> Join<View<T>> for PassNumbers {
     ghost use Rattle.ruled_queue.specs.Rule.{joined, spent_view};
 
     ghost both = { joined };
@@ -114,7 +114,7 @@ impl<T> Join<View<T>> for Consumers {
     ghost spent = { spent_view };
 }
 
-/// What can't come.
+/// What never happens.
 pub struct Never;
 
 impl<T> Outcome<T, View<T>> for Never {

@@ -1,4 +1,5 @@
--- The history of the cells `x = 1`, `del x`, `y = 7` and `print(x)`, `x = 4`: a name that is deleted, read while it is gone, and bound again.
+-- The history of the cells `x = 1`, `del x`, `y = 7` and `print(x)`, `x = 4`: a name that is deleted, read while it is gone,
+-- and bound again.
 use Rattle.std.proofs.Common.{◌≡◌, ℕ, zero, suc, ◌-◌, ◌<◌, ◌≤◌, true, false, List, [], ◌∷◌, length, refl, sym, ap, ◌∙◌, ◌⊎◌, inl, inr, subst, pos, arith}
 use Rattle.std.specs.Prelude.{Contains}
 use Rattle.std.specs.FinMap as finite

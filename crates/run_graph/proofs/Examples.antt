@@ -50,7 +50,7 @@ insert_value s a v z h = elim (name_cases z a) [ inl e ↦ inl e | inr other ↦
 pub empty_value : (z : Name) → ¬ HasValue empty z
 empty_value z h = none-some h.0 (sym (finite.get-empty (slice_cmp nat_cmp) z) ∙ h.1)
 
--- ---- where no two names meet, each name with a value is a part
+-- ---- if no two names meet, each name with a value is a part
 
 module _ (s : State) (meet : (a b : Name) (at : ℕ) → Reaches s a at → Reaches s b at → a ≡ b) where
   pub linked_same : (a b : Name) → Linked s a b → a ≡ b

@@ -329,7 +329,7 @@ module _ (r : Run) (c : ℕ) (g k : Graph) (next : IsNext r c g k) (good : IsGra
       ]
       new_one n (inl (inr (inr w))) = w.0 (next.left x (in_of_get next.news n.0 x n.2)).1
 
-  -- versions of one name stand in the order of their writers
+  -- versions of one name are in the order of their writers
   writers_before : (n u v : ℕ) (x y : Version) → v ≡ suc (n + u) → VersionAt g u x → VersionAt g v y → x.writer ≤ y.writer
   writers_before zero u v x y e at bt = elim (cases_lt y.writer x.writer) [
     | inr l ↦ l
@@ -378,7 +378,7 @@ module _ (r : Run) (c : ℕ) (g k : Graph) (next : IsNext r c g k) (good : IsGra
     | inr l ↦ absurd (good.writers v (y, at, inl (inr (inr (some, inl l)))))
   ]
 
-  -- a version by what replaced one stands after it
+  -- a version by the cell that replaced one comes after it
   behind : (v w : ℕ) (y z : Version) → VersionAt g v y → VersionAt g w z → y.replaced ≢ 0 → z.writer ≡ y.replaced → v < w
   behind v w y z at bt some e =
       let less = later_replaced v y at some in

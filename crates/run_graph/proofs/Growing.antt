@@ -200,7 +200,7 @@ module _ (r : Run) (c : ℕ) (g k : Graph) (next : IsNext r c g k) where
     first_run : (n : ℕ) → IsRun (first_cells r n)
     first_run n = record { begins = run.begins; closed = run.closed; values = run.values; objects = run.objects }
 
-    -- no version has a name exactly where no cell bound it
+    -- no version has a name exactly if no cell bound it
     unwritten_missed : (name : Name) → IsUnwritten r g c name → IsMissed r c name
     unwritten_missed name w = (
       w.0,

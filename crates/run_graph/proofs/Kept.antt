@@ -1,4 +1,4 @@
--- Parts: apart from each other, alike where they meet, and kept by a cell.
+-- Parts: apart from each other, alike if they meet, and kept by a cell.
 use Rattle.std.proofs.Common.{◌≡◌, ℕ, suc, List, sym, ◌∙◌, inl, inr}
 use Rattle.std.specs.Prelude.{Contains, slice_get}
 use Rattle.std.specs.FinMap as finite

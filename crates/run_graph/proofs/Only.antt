@@ -58,7 +58,7 @@ module _ {X : Type 0} (R : X → X → Type 0) (goes_on : (x y z : X) → R x y 
       let from_y : (z : X) → Contains (y ∷ ys) z → Contains (y ∷ xs) z = λ z c. subst (λ w. Contains (w ∷ xs) z) e (from z c) in
       ap (λ w. w ∷ xs) e ∙ ap (λ zs. y ∷ zs) (same_list xs ys (tail x xs a) (tail y ys b) (rest x xs ys a to_x) (rest y ys xs b from_y))
 
--- ---- lists with the same elements at each place
+-- ---- lists with the same elements at each index
 
 same_by_get : {X : Type 0} (xs ys : List X) → ((i : ℕ) (x : X) → slice_get xs i ≡ Some x → slice_get ys i ≡ Some x) → ((i : ℕ) (x : X) → slice_get ys i ≡ Some x → slice_get xs i ≡ Some x) → xs ≡ ys
 same_by_get [] [] to from = refl

@@ -36,7 +36,7 @@ has_value s x = value_cases (finite.get s.globals x)
 pub not_both : (s : State) (x : Name) → HasValue s x → ¬ HasNone s x
 not_both s x v none = none-some v.0 (sym none ∙ v.1)
 
--- ---- in another state, where the names have the same values and what both reach is the same
+-- ---- in another state, in which the names have the same values and what both reach is the same
 
 module _ (s t : State) (names : List Name) (values : (x : Name) → Contains names x → finite.get t.globals x ≡ finite.get s.globals x)
     (same : (at : ℕ) → Reach s names at → Reach t names at → slice_get t.heap at ≡ slice_get s.heap at) where

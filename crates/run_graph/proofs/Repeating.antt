@@ -1,4 +1,4 @@
--- A cell repeats where the versions that it read stand, by the frame law over their names and the names missed.
+-- A cell repeats in a state with the versions that it read, by the frame law over their names and the names missed.
 use Rattle.std.proofs.Common.{◌≡◌, ℕ, zero, suc, ◌-◌, ◌<◌, ◌≤◌, true, false, List, [], ◌∷◌, ◌++◌, length, Option, Some, None, refl, sym, ap, ◌∙◌, ◌⊎◌, inl, inr, subst, arith}
 use Rattle.std.specs.Prelude.{Contains, slice_get}
 use Rattle.std.specs.List.{flat_map}
@@ -174,7 +174,7 @@ module _ (r : Run) (g : Graph) (run : IsRun r) (h : IsHistory r g) (c : ℕ) (l 
     | inr out ↦ elim (is_bound r c z) [ inl b ↦ inl (inr b) | inr free ↦ inr (λ w. elim w [ inl n ↦ out n | inr b ↦ free b ]) ]
   ]
 
-  -- where the versions read are apart and the names missed have no value, a name outside reaches nothing that is needed
+  -- if the versions read are apart and the names missed have no value, a name outside reaches nothing that is needed
   outside : (S : State) → ((v : ℕ) (y : Version) → Contains x.reads v → HoldsAfter g c v y → Apart S y.names) → ((z : Name) → Contains x.missing z → HasNone S z)
       → (z : Name) → ¬ Inside z → (at : ℕ) → Reaches S z at → ¬ Reach S needed at
   outside S aparts none z out at q n =

@@ -49,7 +49,7 @@ weighed_alike r c x y names handle size w = (
   size ∙ (w.1 ∙ ap (λ ns. r.size c ns) (sym names)),
 )
 
--- the same version after another cell, where its names are the same
+-- the same version after another cell, if its names are the same
 pub weighed_later : (r : Run) (c d : ℕ) (x : Version) → Same (Contains x.names) (r.state c) (r.state d) → r.size c x.names ≡ r.size d x.names → IsWeighed r c x → IsWeighed r d x
 weighed_later r c d x same size w =
     let h = handles_alike x.names (r.state c) (r.state d) same in

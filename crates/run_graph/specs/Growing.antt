@@ -17,7 +17,8 @@ first_cells r n = record r { cells = n }
 abbrev pub Meets : List Version → Version → Type 0
 Meets news x = (y : Version) × (name : Name) × Contains news y × Contains x.names name × Contains y.names name
 
--- y is x as the cell of number w leaves it, which wrote these versions: replaced by it where x stood and has a name of theirs
+-- y is x as the cell of number w leaves it, which wrote these versions: replaced by it if x was active and has a name of
+-- theirs
 pub record IsAged (w : ℕ) (news : List Version) (x y : Version) : Type 0 where
   pub names : y.names ≡ x.names
   pub writer : y.writer ≡ x.writer

@@ -47,7 +47,7 @@ Changes r c at = IsIn (r.marks (suc c)).changed at
 
 -- ---- what a cell writes
 
--- the part stands as it was: none of its names was bound or deleted, no object of it was changed, and it was a part before
+-- the part is as it was: none of its names was bound or deleted, no object of it was changed, and it was a part before
 pub record IsKept (r : Run) (c : ℕ) (names : List Name) : Type 0 where
   pub names_stay : (x : Name) → Contains names x → ¬ Binds r c x
   pub objects_stay : (at : ℕ) → Reach (r.state (suc c)) names at → ¬ Changes r c at
@@ -110,7 +110,7 @@ IsMissed r c name = Looks r c name × ((e : ℕ) → e < c → ¬ Binds r e name
 abbrev pub IsUnwritten : Run → Graph → ℕ → Name → Type 0
 IsUnwritten r g c name = Looks r c name × ((v : ℕ) (y : Version) → VersionAt g v y → ¬ Contains y.names name)
 
--- the record of the cell after cell c, where these names are the missed ones
+-- the record of the cell after cell c, with these names as the missed ones
 pub record IsRecordWith (Missed : Name → Type 0) (r : Run) (g : Graph) (c : ℕ) (x : CellRecord) : Type 0 where
   pub code : x.code ≡ r.code (suc c)
   pub meter : x.meter ≡ (r.state c).meter

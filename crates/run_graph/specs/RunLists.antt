@@ -16,7 +16,7 @@ pub record Entry : Type 0 where
   pub draws : List Drawn
   pub counted : Bool
 
--- what stands after the last
+-- the entry after the last one
 abbrev pub blank : Entry
 blank = record { code = []; draws = []; counted = false }
 

@@ -86,7 +86,7 @@ pub record AreTheParts (r : Run) (g : Graph) (c : ℕ) : Type 0 where
 abbrev pub StandsAsWritten : Run → Graph → ℕ → Type 0
 StandsAsWritten r g c = (v : ℕ) (x : Version) → HoldsAfter g c v x → Same (Contains x.names) (r.state x.writer) (r.state c)
 
--- ---- the third clause: a cell repeats where what it read stands
+-- ---- the third clause: a cell repeats in a state with what it read
 
 -- these names are in t as in s, and apart from all others
 abbrev pub StandsIn : State → State → List Name → Type 0

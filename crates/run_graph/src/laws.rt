@@ -30,10 +30,10 @@ pub fn versions_stand_as_written()
     ensures { (r : Run) (g : Graph) → IsRun r → IsHistory r g → (c : ℕ) → c ≤ r.cells → StandsAsWritten r g c }
 {}
 
-/// A cell that didn't draw repeats in each state with its recorded meter in which the versions that it read stand apart from
-/// all else, and the names that it missed have no value. Its recorded code, run there without draws, doesn't ask for any. It
-/// gives the same text, result or error, and steps; every version that it wrote, and every one that it read and that holds
-/// after it, is then the same as in the run, and apart. Nothing else is changed.
+/// A cell that didn't draw repeats in each state with its recorded meter, if the versions that it read are there as they were
+/// in the run, apart from all else, and the names that it missed have no value. Its recorded code, run there without draws,
+/// doesn't ask for any. It gives the same text, result or error, and steps. Every version that it wrote, and every one that it
+/// read and that holds after it, is then the same as in the run, and apart. Nothing else is changed.
 pub fn a_cell_repeats_from_its_reads()
     ensures { (read : Reader) (r : Run) (g : Graph) → IsRun r → Follows read r → IsHistory r g → (c : ℕ) → c < r.cells
         → RepeatsFromItsReads read r g c }
@@ -45,8 +45,8 @@ pub fn a_cell_has_its_reads()
         → HasItsReads r g c x (r.state c) }
 {}
 
-/// The history of every run list is sound: after each cell what holds is the parts, what holds stands as it was written, and
-/// each cell that didn't draw repeats from what it read. This is so whatever trees the codes have.
+/// The history of every run list is sound: after each cell what holds is the parts, what holds is as it was written, and each
+/// cell that didn't draw repeats from what it read. This is so whatever trees the codes have.
 pub fn histories_are_sound()
     ensures { (read : Reader) (size : List Name → State → ℕ) (entries : List Entry) (g : Graph) → IsRunList read entries
         → IsHistory (run_of read size entries) g → IsSound read (run_of read size entries) g }
@@ -57,15 +57,16 @@ pub fn a_code_without_a_tree_does_nothing()
     ensures { (read : Reader) (code : List ℕ) (s : State) (draws : List Drawn) → read code ≡ None → (done_by read code s draws).1 ≡ start s }
 {}
 
-/// A list of cells, each run in the state that the one before it left, is a run; and where each takes just its draws, they
-/// do what their codes say.
+/// A list of cells, each run in the state that the one before it left, is a run; and if each takes just its draws, they do
+/// what their codes say.
 pub fn a_run_list_is_a_run()
     ensures run { (read : Reader) (size : List Name → State → ℕ) (entries : List Entry) → IsRun (run_of read size entries) }
     ensures follows { (read : Reader) (size : List Name → State → ℕ) (entries : List Entry) → IsRunList read entries
         → Follows read (run_of read size entries) }
 {}
 
-/// The history of a run, and so of every run list, has no fault, if cells bind only names that a program may bind, and look up only identifiers.
+/// The history of a run, and so of every run list, has no fault, if cells bind only names that a program may bind, and look
+/// up only identifiers.
 pub fn a_history_passes_the_check()
     ensures run { (r : Run) (g : Graph) → IsRun r → HasNames r → IsHistory r g → r.cells < 2 ^ 32 → length g.versions < 2 ^ 32
         → IsGraph g }
@@ -79,7 +80,7 @@ pub fn a_run_has_one_history()
     ensures { (r : Run) (g k : Graph) → IsHistory r g → IsHistory r k → g ≡ k }
 {}
 
-/// A run of no cells has a graph with nothing in it. Where a graph is the history of the first cells, what the next cell
+/// A run of no cells has a graph with nothing in it. If a graph is the history of the first cells, what the next cell
 /// makes of it is the history with that cell.
 pub fn histories_grow()
     ensures begins { (r : Run) → IsHistory (first_cells r 0) (record { cells = []; versions = [] }) }
@@ -87,7 +88,8 @@ pub fn histories_grow()
 {}
 
 /// A graph without a fault, whose active versions are the parts of the state, stays one with the next cell; it need not be
-/// the history of a run. The second is so where closed states that are the same tell one length of a part's text.
+/// the history of a run. Its active versions stay the parts if closed states that are the same tell one length of a
+/// part's text.
 pub fn a_graph_that_fits_grows_to_one()
     ensures checks { (r : Run) (c : ℕ) (g k : Graph) → IsNext r c g k → IsGraph g → length g.cells ≡ c → Fits r c g → IsStep r c
         → c + 1 < 2 ^ 32 → length k.versions < 2 ^ 32 → IsGraph k }
@@ -113,8 +115,8 @@ pub fn marks_tell_what_a_cell_leaves()
         → IsAfter s (outcome body s draws).1.marks (end_state body s draws) }
 {}
 
-/// The histories of two small runs: `x = [1]`, `y = x` and `y = 5`, where a part joins and splits; and `x = 1`, `del x`,
-/// `y = 7` with `print(x)`, and `x = 4`, where a deleted name is looked up and bound again.
+/// The histories of two small runs. In `x = [1]`, `y = x` and `y = 5` a part joins and splits. In `x = 1`, `del x`, `y = 7`
+/// with `print(x)`, and `x = 4` a deleted name is looked up and bound again.
 pub fn two_small_histories()
     ensures joined { IsHistory joined_run joined_graph }
     ensures deleted { IsHistory deleted_run deleted_graph }

@@ -1,8 +1,8 @@
 //! The history graph of a run of cells, and that it tells the truth.
 //!
 //! After each cell, which variables are linked by the objects that they share, and what each cell read, missed and wrote of
-//! these parts. A recorded cell, run again where the versions that it read stand, gives the same versions again. Definitions
-//! and laws alone: each law is the contract of a function that does nothing. docs/HISTORY.md tells it in words.
+//! these parts. A recorded cell, run again in a state with the versions that it read, gives the same versions again.
+//! Definitions and laws alone: each law is the contract of a function that does nothing. docs/HISTORY.md tells it in words.
 #![tactic(auto)]
 
 mod laws;

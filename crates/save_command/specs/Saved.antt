@@ -47,8 +47,8 @@ IsSaveStatus status = IsTrue (is_save_status status)
 
 -- ---- after the sessions were served
 
--- what was written of sessions with these journals: at 0 and 6 what is said of the first, at 4 the first bytes of its pack, at 5
--- nothing
+-- what was written of sessions with these journals: at 0 and 6 what is said of the first, at 4 the first bytes of its pack, at
+-- 5 nothing
 abbrev pub WritesFirst : Weights → List (List Entry) → ℕ → Option (List ℕ) → Option (List ℕ) → Type 0
 WritesFirst w journals status sink_old sink_new =
     (((status ≡ 0) ⊎ (status ≡ 6)) × (bytes : List ℕ) × SavesFirst w journals status bytes × Adds sink_old sink_new bytes)

@@ -5,7 +5,7 @@ ghost use Rattle.save_command.specs.Saved.{WritesFirst, SavesTold, IsSaveStatus}
 
 use crate::pack::{SaveFault, first_packed};
 use graph_model::Weights;
-use nb_outside::{Feeds, Sink, Source};
+use nb_outside::{Feeds, Sink, Source, status};
 use node_run::{RunEnd, run_sessions, status_of, write_all};
 use notebook_engine::Notebook;
 use session_core::Alone;
@@ -23,19 +23,19 @@ fn save_first<K: Sink>(
 {
     match first_packed(alloc, runs, weights) {
         Ok(packed) => match write_all(sink, packed.bytes.as_slice()) {
-            Ok(()) => 0,
-            Err(_) => 4,
+            Ok(()) => status::DONE,
+            Err(_) => status::SINK_FAULT,
         },
-        Err(SaveFault::OutOfMemory) => 5,
-        Err(SaveFault::CantBeSaved) => 6,
+        Err(SaveFault::OutOfMemory) => status::OUT_OF_MEMORY,
+        Err(SaveFault::CantBeSaved) => status::NO_PLAN,
     }
 }
 
-/// Serves the source as one host does, and then writes, in place of frames, the checkpoint of the session that was opened first,
-/// under a least-cost plan for these weights. Gives the status:
+/// Serves the source as one host does, and then writes, in place of frames, the checkpoint of the session that was opened
+/// first, under a least-cost plan for these weights. Gives the status:
 ///
 /// - 0: the input was read to its end, and the checkpoint was written.
-/// - 2: a length that no frame has stands in the input, or it ends within a frame. Nothing is written.
+/// - 2: the input has a length that no frame has, or ends within a frame. Nothing is written.
 /// - 3: the source met a fault. Nothing is written.
 /// - 4: the sink met a fault. What is out is a prefix of the checkpoint.
 /// - 5: memory ran out, now or at the death of the first session. Nothing is written.
@@ -56,7 +56,7 @@ pub fn save<S: Source, K: Sink, D: Feeds>(
     ensures reads { result ≡ 10 → HasRisenBy 4294967295 (S.reads source.old) (S.reads source.new) }
 {
     let Ok(ran) = run_sessions::<Notebook, S, D>(alloc, 1, source, feeds) else {
-        return 5;
+        return status::OUT_OF_MEMORY;
     };
     match ran.end {
         RunEnd::Whole => save_first(alloc, sink, ran.runs.as_slice(), weights),

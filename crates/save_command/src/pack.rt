@@ -56,7 +56,7 @@ fn died_of_memory(entries: &[Entry]) -> bool
     false
 }
 
-/// Why a session with these entries has no checkpoint, where it is dead.
+/// Why a session with these entries has no checkpoint, if it is dead.
 fn fault_of_death(entries: &[Entry]) -> SaveFault
     ensures { result ≡ SaveFault.CantBeSaved → ¬ DiedOfMemory entries.now }
 {
@@ -67,7 +67,7 @@ fn fault_of_death(entries: &[Entry]) -> SaveFault
     }
 }
 
-/// Why a session has no checkpoint, where it is alive and isn't packed for this reason.
+/// Why a session has no checkpoint, if it is alive and isn't packed for this reason.
 fn fault_of_pack(fault: &PackFault) -> SaveFault
     ensures { result ≡ SaveFault.CantBeSaved → fault.now ≢ pack_fault.OutOfMemory }
 {

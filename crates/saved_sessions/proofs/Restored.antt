@@ -34,9 +34,10 @@ use Rattle.replay_laws.specs.Walks.{Walked}
 use Rattle.replay_laws.specs.Restored.{with_tallies, HasVersions}
 use Rattle.replay_laws.specs.Sizing.{size_of}
 use Rattle.replay_laws.specs.Sessions.{StandsFor}
-use Rattle.replay_laws.specs.Tidied.{IsTidied}
+use Rattle.replay_laws.specs.Tidied.{IsTidied, AreObjectsOf}
 use Rattle.replay_laws.proofs.GoingOn.{moved, tidied_so, never_asks_so, versions_so, sizes_so}
 use Rattle.replay_laws.proofs.Sizing.{tells_alike}
+use Rattle.replay_laws.proofs.Tidying.{tidied_size}
 use Rattle.state_judge.specs.Agreeing.{IsUnlike, IsLoose}
 use Rattle.restore_run.specs.declared.restored.Restored.{Restored}
 use Rattle.restore_run.specs.declared.fault.RestoreFault.{RestoreFault}
@@ -112,10 +113,20 @@ module _ (entries : List Entry) (g : Graph) (s : State) (p : Plan) (stands : Sta
   last_cell : length g.cells ≡ length entries
   last_cell = stands.history.cells
 
-  at_end : (last u : State) → Walked read (copies K) g p (length g.cells) last → IsTidied (with_tallies s last) u → StandsFor read size_of entries g u
-  at_end last u walked tidied =
+  -- the state at the end of the walk, with the count and the meter of the session
+  walked_so : (last : State) → Walked read (copies K) g p (length g.cells) last → StandsFor read size_of entries g (with_tallies s last)
+  walked_so last walked =
       let end : Walked read (copies K) g p (length entries) last = subst (λ (n : ℕ). Walked read (copies K) g p n last) last_cell walked in
-      tidied_so read size_of entries g (with_tallies s last) (moved read size_of entries g s stands p (copies K) plan feasible (are_copies s g p stands.closed) last end) u tidied
+      moved read size_of entries g s stands p (copies K) plan feasible (are_copies s g p stands.closed) last end
+
+  at_end : (last u : State) → Walked read (copies K) g p (length g.cells) last → IsTidied (with_tallies s last) u → StandsFor read size_of entries g u
+  at_end last u walked tidied = tidied_so read size_of entries g (with_tallies s last) (walked_so last walked) u tidied
+
+  -- the tidied state has as many objects as names reach at the end
+  objects_at_end : (last u : State) → Walked read (copies K) g p (length g.cells) last → IsTidied (with_tallies s last) u
+      → (order : List ℕ) → AreObjectsOf (state_after read entries (length entries)) order → length u.heap ≡ length order
+  objects_at_end last u walked tidied order are =
+      tidied_size (state_after read entries (length entries)) (with_tallies s last) u (walked_so last walked).same.names tidied order are
 
   restored_from : (u : State) → IsRestoredFrom K u → StandsFor read size_of entries g u
   restored_from u h = at_end h.last u h.walked h.tidied
@@ -130,6 +141,11 @@ module _ (entries : List Entry) (g : Graph) (s : State) (p : Plan) (stands : Sta
       let e : h.checkpoint ≡ K = the_checkpoint h.checkpoint h.are in
       let so = restored_from r.kernel.state (subst (λ (k : Checkpoint). IsRestoredFrom k r.kernel.state) e h.state) in
       (same_so r.kernel.state so, so, h.graph ∙ ap (λ (k : Checkpoint). k.graph) e)
+
+  pub objects_so : (on : ℕ) (r : Restored) → IsRestoredOn Text on r → (order : List ℕ) → AreObjectsOf (state_after read entries (length entries)) order → r.objects ≡ length order
+  objects_so on r h order are =
+      let from : IsRestoredFrom K r.kernel.state = subst (λ (k : Checkpoint). IsRestoredFrom k r.kernel.state) (the_checkpoint h.checkpoint h.are) h.state in
+      h.objects ∙ objects_at_end from.last r.kernel.state from.walked from.tidied order are
 
   -- ---- no fault
 

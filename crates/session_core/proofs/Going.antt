@@ -127,7 +127,7 @@ module _ (meaning : Meaning) (hosts : ℕ) where
   gone_held old new request again to certified Holds (inr (holds, is)) =
       subst Holds (sym (ap (λ es. (progress_of es).owner) is ∙ ap (λ p. p.owner) (progress_more (away old request to) (Resumed (progress_of old).owner again)) ∙ ap (λ p. p.owner) (away_progress old request to))) holds
 
--- an entry that leaves owner and served leaves who stands for them
+-- an entry that changes neither the owner nor what was served: what stands for them still does
 pub stays : (Stands : List Served → Type 0) (host : ℕ) (old new : List Entry) (e : Entry) → new ≡ old ++ e ∷ []
     → (after (progress_of old) e).served ≡ (progress_of old).served → (after (progress_of old) e).owner ≡ (progress_of old).owner
     → Stands (progress_of old).served × (host ≡ (progress_of old).owner) → Stands (progress_of new).served × (host ≡ (progress_of new).owner)

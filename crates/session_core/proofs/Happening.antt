@@ -212,7 +212,7 @@ module _ (meaning : Meaning) (hosts : ℕ) where
 
   -- ---- all events
 
-  -- one list behind two others
+  -- one list after two others
   joined_lists : (test : Request → Bool) (all : List Request) (r : Request) (rs : List Request) → (all ++ filter test (r ∷ [])) ++ filter test rs ≡ all ++ filter test (r ∷ rs)
   joined_lists test all r rs = append_assoc all (filter test (r ∷ [])) (filter test rs) ∙ ap (λ z. all ++ z) (sym (filter-append test (r ∷ []) rs))
 

@@ -18,7 +18,7 @@ use Rattle.session_core.specs.declared.engine.PackFault.{PackFault}
 use Rattle.session_core.specs.declared.engine.PackFault.TheVariants as pack
 use Rattle.session_core.specs.Meanings.{Served, Meaning, more}
 
--- what a call of run took from its feed: where it answers, the draws that it says
+-- what a call of run took from its feed: if it answers, the draws that it says
 abbrev pub HasDrawn : Result Done RunFault → Seen → Seen → Type 0
 HasDrawn (Ok done) old new = Fed old done.draws new
 HasDrawn (Err run.OutOfMemory) old new = (draws : List Drawn) × Fed old draws new

@@ -29,7 +29,7 @@ pub data Phase : Type 0 where
   arriving : Request → ℕ → Phase
 
 pub record Progress : Type 0 where
-  -- the host that owns the session, or did so last
+  -- the host that owns the session, or owned it last
   pub owner : ℕ
   pub phase : Phase
   -- what was served so far, restarts included
@@ -155,7 +155,7 @@ module _ (meaning : Meaning) (hosts : ℕ) where
 
 -- ---- which requests a journal answers
 
--- a resumed request is answered here where it wasn't sealed before
+-- a resumed request is answered here if it wasn't sealed before
 abbrev pub if_settled : Phase → Request → List Request
 if_settled settled request = request ∷ []
 if_settled (sealed asked to) request = []

@@ -35,7 +35,7 @@ joined w r = cond (is_control r) (record w { control = w.control ++ r ∷ [] }) 
 abbrev pub IsTaken : Waiting → Waiting → Request → Type 0
 IsTaken old new r = ((old.main ≡ r ∷ new.main) × (new.control ≡ old.control)) ⊎ ((old.control ≡ r ∷ new.control) × (new.main ≡ old.main))
 
--- what happens at once
+-- what happens in one step
 pub data Event : Type 0 where
   -- a request is admitted
   admit : Request → Event
@@ -56,7 +56,7 @@ pub data Event : Type 0 where
 abbrev pub opened_session : ℕ → Header → Channel → Session
 opened_session host request channel = record { waiting = record { main = []; control = [] }; journal = Opened host request channel ∷ []; seat = in_cell }
 
--- the entry is a Sealed, and here is what it says
+-- the entry is a Sealed, and this holds of its request and its host
 abbrev pub IsSealed : (Request → ℕ → Type 0) → Entry → Type 0
 IsSealed P (Opened host request channel) = ⊥
 IsSealed P (Ran host request draws reply) = ⊥

@@ -50,8 +50,8 @@ HasGone meaning old new to request again certified Holds =
 abbrev pub GoesOn : List Entry → List Entry → Type 0
 GoesOn old new = (more : List Entry) × (new ≡ old ++ more)
 
--- A request ended: the journal goes on, a legal one stays legal, it answers this request and no other, and the session is
--- settled, with the same served and no more dead than before.
+-- A request ended: the journal goes on, a legal one stays legal, and what was added answers this request and no other. The
+-- session is settled, what was served is as before, and so is whether the session is dead.
 pub record HasEnded (meaning : Meaning) (hosts : ℕ) (old new : List Entry) (request : Request) : Type 0 where
   pub goes_on : GoesOn old new
   pub legal : IsLegal meaning hosts old → IsLegal meaning hosts new

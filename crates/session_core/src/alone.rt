@@ -37,7 +37,7 @@ impl<E: Engine> Model for Alone<E> {
 }
 
 impl<E: Engine + Drop> Alone<E> {
-    /// A session that is opened on this host, of so many, with an engine that has served nothing.
+    /// A session that is opened on this one of `hosts` hosts, with an engine that has served nothing.
     pub fn opened(
         alloc: Global,
         engine: E,
@@ -74,7 +74,7 @@ impl<E: Engine + Drop> Alone<E> {
         self.journal.entries()
     }
 
-    /// What the session is packed as under these weights, or why it isn't; `None` where it is dead.
+    /// What the session is packed as under these weights, or why it isn't; `None` if it is dead.
     pub fn pack(&self, alloc: Global, weights: &Weights) -> Option<Result<Packed, PackFault>>
         ensures { MatchOption result ((progress_of self.now.entries).dead ≡ true)
             (λ packed. ((progress_of self.now.entries).dead ≡ false) × Packs E.meaning (progress_of self.now.entries).served weights.now packed) }
@@ -85,7 +85,7 @@ impl<E: Engine + Drop> Alone<E> {
         Some(self.engine.pack(alloc, weights))
     }
 
-    /// Makes room for so many more entries.
+    /// Makes room for `more` further entries. After an error there may be room for fewer; the entries are as before.
     pub fn reserve(&mut self, more: u32) -> Result<(), AllocError>
         ensures same { (self.new.entries ≡ self.old.entries) × (self.new.hosts ≡ self.old.hosts) }
         ensures spare { IfOk result (λ _. more ≤ self.new.spare) }

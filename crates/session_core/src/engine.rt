@@ -10,7 +10,7 @@ use std::alloc::{AllocError, Global};
 use std::error::Error;
 use std::fmt;
 
-/// Why an engine gave no reply. It is only dropped then.
+/// Why an engine gave no reply. The engine may only be dropped then.
 #[derive(Debug, Drop)]
 pub enum RunFault {
     OutOfMemory,
@@ -132,12 +132,12 @@ pub trait Engine: Sized {
         ensures stands { IfOk result (λ made. (served : List Served) (plan : Plan) → IsPacked meaning served plan bytes.now
             → stands_for made.0 served × meaning.HasObjects served made.1) };
 
-    // It stands for run lists alone, and is usable then.
+    // It stands for run lists alone. If it stands for one, it is usable.
     ghost runs: { (e : Self) (served : List Served) → stands_for e served → meaning.IsRun served };
 
     ghost used: { (e : Self) (served : List Served) → stands_for e served → is_usable e };
 
-    // A run list has one graph, which is a history graph, and no ask that would pass a number goes on with it.
+    // A run list has one graph, which is a history graph. With one more ask that would pass a number, it is no run list.
     ghost one_graph: { (served : List Served) (g h : Graph) → meaning.IsGraph served g → meaning.IsGraph served h → g ≡ h };
 
     ghost graphs: { (served : List Served) (g : Graph) → meaning.IsGraph served g → IsGraph g };

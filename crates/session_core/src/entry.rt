@@ -77,7 +77,7 @@ pub enum Entry {
     Moved {
         to: u32,
     },
-    /// It goes on at another host, by this plan; so many objects came over.
+    /// It goes on at another host, by this plan. `objects` is the number of objects that came over.
     Adopted {
         from: u32,
         to: u32,

@@ -11,7 +11,7 @@ use std::marker::Model;
 #[derive(Debug, Drop)]
 pub struct Journal {
     entries: Vec<Entry>,
-    /// The host that owns the session, or did so last.
+    /// The host that owns the session, or owned it last.
     host: u32,
     /// Whether the session is packed or on its way.
     away: bool,
@@ -53,7 +53,7 @@ impl Journal {
         })
     }
 
-    /// Makes room for so many more entries. After an error there may be less.
+    /// Makes room for `more` further entries. After an error there may be room for fewer; the entries are as before.
     pub fn reserve(&mut self, more: u32) -> Result<(), AllocError>
         ensures entries { self.new.entries ≡ self.old.entries }
         ensures spare { IfOk result (λ _. more ≤ self.new.spare) }
@@ -61,7 +61,7 @@ impl Journal {
         self.entries.reserve(more as usize)
     }
 
-    /// Puts an entry at the end, where there is room. Takes no memory.
+    /// Puts an entry at the end. There has to be room for it. Takes no memory.
     pub fn push(&mut self, entry: Entry)
         requires { 1 ≤ self.old.spare }
         ensures entries { self.new.entries ≡ self.old.entries ++ entry ∷ [] }
@@ -87,7 +87,7 @@ impl Journal {
     }
 }
 
-/// The owner after an entry, or the last one.
+/// The host that owns the session after an entry, or owned it last.
 fn host_after(host: u32, entry: &Entry) -> u32
     ensures { (p : Progress) → p.owner ≡ host → result ≡ (after p entry.now).owner }
 {

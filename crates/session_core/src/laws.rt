@@ -24,16 +24,16 @@ ghost use Rattle.session_core.specs.Answering.{Has};
 use crate::engine::Engine;
 use plan_model::laws::no_plan_undercuts;
 
-/// A legal journal with an entry more that may come is legal.
+/// A legal journal with one more entry, which may come there, is legal.
 #[tactic(auto, using(crate::proofs::Progressing::legal_more))]
 pub fn a_legal_journal_goes_on<E: Engine>()
     ensures { (hosts : ℕ) (entries : List Entry) (entry : Entry) → IsLegal E.meaning hosts entries
         → MayCome E.meaning hosts (progress_of entries) entry → IsLegal E.meaning hosts (entries ++ entry ∷ []) }
 {}
 
-/// However requests, cells and moves interleave: after every list of events the journal is legal, what was admitted is what
-/// the journal answers and then what waits, on both lists, at most one host has the Resident, and it is where the journal
-/// says.
+/// However requests, cells and moves interleave, after every list of events the journal is legal. On each of the two lists,
+/// what was admitted is what the journal answers, and then what waits. At most one host has the Resident, and the Resident is
+/// where the journal says.
 #[tactic(auto, using(crate::proofs::Happening::opened_goes_on, crate::proofs::Happening::one_has))]
 pub fn each_session_is_one_legal_history<E: Engine>()
     ensures legal { (hosts host : ℕ) (request : Header) (channel : Channel) (events : List Event) (s : Session) → host < hosts
@@ -47,7 +47,7 @@ pub fn each_session_is_one_legal_history<E: Engine>()
         → Happen E.meaning hosts (opened_session host request channel) events s → IsSeated s.seat (progress_of s.journal) }
 {}
 
-/// The k-th cell is the k-th admitted request, where a cell is any request of the main list. So it is with the requests of
+/// The k-th cell is the k-th admitted request. A cell here is any request of the main list. The same holds of the requests of
 /// the control list.
 #[tactic(auto, using(crate::proofs::Once::answered_in_order))]
 pub fn the_kth_cell_is_the_kth_admitted_request<E: Engine>()
@@ -86,7 +86,7 @@ pub fn a_completed_move_is_by_a_plan_that_none_undercuts<E: Engine>()
     no_plan_undercuts();
 }
 
-/// A refusal to plan names a part that can be neither copied nor computed again.
+/// A refusal to plan names a version that can be neither copied nor computed again.
 pub fn a_refusal_to_plan_names_a_stuck_part<E: Engine>()
     ensures { (hosts : ℕ) (journal before : List Entry) (host : ℕ) (request : Request) (version cell : ℕ) (names : List (List ℕ))
         → IsLegal E.meaning hosts journal → Has journal before (Refused host request (Stuck version cell names))

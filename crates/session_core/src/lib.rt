@@ -1,11 +1,12 @@
 //! A session: what is asked of it, what it answers, its journal, and which journals are legal histories.
 //!
 //! An engine is known by its definitions alone (`Engine`). Under these, `specs/Legal` says which journals are legal, and
-//! `specs/Machine` what may happen to a session at once: a request is admitted, a cell ends, the session is packed, moved
+//! `specs/Machine` what may happen to a session in one step: a request is admitted, a cell ends, the session is packed, moved
 //! or adopted. `laws` has what holds after every list of such events. docs/JOURNAL.md tells it in words.
 //!
-//! The contracts leave open when memory runs out, so that a body which always answers so meets them: the calls run in `session_show`,
-//! and `Alone::pack` in the tests of the program. They leave open the words in which a fault is shown, too.
+//! The contracts leave open when memory runs out. A body that always answers so would meet them, so the calls are also run: in
+//! `session_show`, and `Alone::pack` in the tests of the program. The contracts also leave open the words in which a fault is
+//! shown.
 #![tactic(auto)]
 
 mod alone;

@@ -8,7 +8,7 @@ use std::alloc::{AllocError, Global};
 #[derive(Clone, Copy, Debug, PartialEq, Eq)]
 pub enum Completion {
     Complete,
-    /// It may be gone on with; the next line is indented by so many spaces.
+    /// More lines may complete it. This is the number of spaces by which the next one is indented.
     Incomplete(u32),
     Invalid,
 }
@@ -25,7 +25,7 @@ pub enum Reply {
         printed: Text,
         /// The text of its last expression's value, if that is one and isn't None.
         shown: Option<Text>,
-        /// The name of the error that ended it; empty where none did.
+        /// The name of the error that ended it; empty if none did.
         ename: Text,
         /// The text of that error.
         evalue: Text,

@@ -133,7 +133,7 @@ impl Request {
         })
     }
 
-    /// Whether it waits with those for control: a move that came on control. Every other request waits in the main list.
+    /// Whether it waits in the control list: it is a move that came on control. Every other request waits in the main list.
     pub fn is_control(&self) -> bool
         ensures { result ≡ is_control self.now }
     {

@@ -1,4 +1,4 @@
-//! The steps of a session on one thread: each puts the entry at the journal's end that may come there.
+//! The steps of a session on one thread. Each puts at the journal's end entries that may come there.
 
 ghost use Rattle.std.specs.Prelude.{◌≡◌, ℕ, ◌+◌, ◌≤◌, ◌<◌, true, false, [], ◌∷◌, ◌++◌, Some, IfSome, IfNone, MatchOption, Ok, Err};
 ghost use Rattle.graph_model.specs.declared.plan.Weights.{Weights};
@@ -84,7 +84,7 @@ fn died_by(fault: RunFault) -> DiedCause
     }
 }
 
-/// Answers a request that is no move on a session that is dead, whose count this is.
+/// Answers a request that is no move on a dead session. `count` is the count of what the session served.
 pub fn answer_dead<E: Engine>(_engine: &E, journal: &mut Journal, count: u32, request: Request)
     requires spare { 1 ≤ journal.old.spare }
     requires work { IsWork request.ask }
@@ -131,7 +131,7 @@ fn reason_before_planning(journal: &Journal, hosts: u32, dead: bool, to: u64) ->
     None
 }
 
-/// Puts the entry that it doesn't move, and why.
+/// Puts the entry that says that the session doesn't move, and why.
 fn refuse(journal: &mut Journal, request: Request, reason: MoveRefusal)
     requires spare { 1 ≤ journal.old.spare }
     requires settled { (progress_of journal.old.entries).phase ≡ settled }
@@ -145,7 +145,7 @@ fn refuse(journal: &mut Journal, request: Request, reason: MoveRefusal)
     });
 }
 
-/// Puts the entry that it stays for want of memory.
+/// Puts the entry that says that the session stays for want of memory.
 fn resume(journal: &mut Journal, host: u32, request: Request)
     requires { 1 ≤ journal.old.spare }
     ensures { journal.new.entries ≡ journal.old.entries ++ Entry.Resumed host request ∷ [] }

@@ -1,5 +1,5 @@
 -- A session that was just opened, and one that is finished.
-use Rattle.std.proofs.Common.{◌≡◌, ◌<◌, ℕ, true, false, true≢false, List, [], ◌∷◌, refl, sym, subst}
+use Rattle.std.proofs.Common.{◌≡◌, ◌<◌, ℕ, false, true≢false, List, [], ◌∷◌, refl, sym, subst}
 use Rattle.nb_outside.specs.Feeds.{Seen, HasAll}
 use Rattle.nb_outside.proofs.Feeding.{fed_none}
 use Rattle.session_core.specs.declared.request.Header.{Header}

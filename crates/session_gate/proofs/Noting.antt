@@ -36,7 +36,7 @@ answered_more es e ends owed none h asks =
     let same : asked (es ++ e ∷ []) ++ [] ≡ asked es ++ owed = append-nil (asked (es ++ e ∷ [])) ∙ asked_more es e ∙ ap (λ rs. asked es ++ rs) asks in
     (h.0 ∙ ap₂ (λ (o : List MainItem) (rs : List Request). o ++ as_main rs) (sym (opening_more es e none)) (sym same), h.1 ∙ ap as_control (sym same))
 
--- an entry that leaves the phase
+-- an entry that doesn't change the phase
 pub settled_more : (es fs : List Entry) (e : Entry) → fs ≡ es ++ e ∷ [] → (progress_of es).phase ≡ settled → (after (progress_of es) e).phase ≡ (progress_of es).phase → (progress_of fs).phase ≡ settled
 settled_more es fs e is phase same = ap (λ l. (progress_of l).phase) is ∙ ap (λ p. p.phase) (progress_more es e) ∙ same ∙ phase
 

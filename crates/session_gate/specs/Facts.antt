@@ -59,7 +59,7 @@ module _ {E F : Type 0} where
   abbrev pub OwesNone : Holds E F → Type 0
   OwesNone h = IsAnswered h.entries h.ends []
 
-  -- and one more was popped
+  -- every request that was popped is answered but this one, the last that was popped of its queue
   abbrev pub Owes : Holds E F → Request → Type 0
   Owes h r = IsAnswered h.entries h.ends (r ∷ [])
 

@@ -1,4 +1,4 @@
--- Where a session's owner stands, and what the calls of a slot do.
+-- Where a session's owner is, and what the calls of a slot do.
 use Rattle.std.specs.Prelude.{◌≡◌, ◌≢◌, ◌==◌, [], ◌∷◌, MatchOption, ℕ, cond, Bool, false, List, ⊤, Option, Result, None, Ok, Err}
 use Rattle.session_core.specs.declared.request.Header.{Header}
 use Rattle.session_core.specs.declared.request.Channel.{Channel}
@@ -9,8 +9,8 @@ use Rattle.session_queues.specs.declared.shared.SharedQueues.{SharedQueues}
 use Rattle.session_queues.specs.Passes.{Producer, IsPassOf}
 use Rattle.session_queues.specs.Ends.{opened_ends, nothing_pushed, gathered}
 use Rattle.session_gate.specs.Facts.{Holds, Away, IsIn, IsSettled, OwesNone, IsBare, owner_of, HasNoted}
-use Rattle.session_gate.specs.declared.slot.State.{State}
-use Rattle.session_gate.specs.declared.slot.State.TheVariants.{Unopened, In, Out, Sealed}
+use Rattle.session_gate.specs.declared.slot.Custody.{Custody}
+use Rattle.session_gate.specs.declared.slot.Custody.TheVariants.{Unopened, In, Out, Sealed}
 use Rattle.session_gate.specs.declared.slot.Take.{Take}
 use Rattle.session_gate.specs.declared.slot.Take.TheVariants as take
 
@@ -23,35 +23,35 @@ module _ {E F : Type 0} where
   abbrev pub IsSealedUp : ℕ → List SharedQueues → Away E F → Type 0
   IsSealedUp hosts queues p = IsIn hosts queues p.held × ((progress_of p.held.entries).phase ≡ sealed p.again p.to) × OwesNone p.held × IsBare p.held
 
-  abbrev pub Stands : ℕ → List SharedQueues → State E F → Type 0
+  abbrev pub Stands : ℕ → List SharedQueues → Custody E F → Type 0
   Stands hosts queues Unopened = ⊤
   Stands hosts queues (In h) = IsAtRest hosts queues h
   Stands hosts queues Out = ⊤
   Stands hosts queues (Sealed p) = IsSealedUp hosts queues p
 
-  -- the session of this number stands there, sealed or not
-  abbrev pub is_of : State E F → ℕ → Bool
+  -- the session of this number is there, sealed or not
+  abbrev pub is_of : Custody E F → ℕ → Bool
   is_of Unopened number = false
   is_of (In h) number = h.number == number
   is_of Out number = false
   is_of (Sealed p) number = p.held.number == number
 
-  -- of the queues of who stands there this holds
-  abbrev pub HasQueues : (SharedQueues → Type 0) → State E F → Type 0
+  -- this holds of the queues of whoever is there
+  abbrev pub HasQueues : (SharedQueues → Type 0) → Custody E F → Type 0
   HasQueues P Unopened = ⊤
   HasQueues P (In h) = P h.ends.queues
   HasQueues P Out = ⊤
   HasQueues P (Sealed p) = P p.held.ends.queues
 
-  -- an owner of whom this holds stands there
-  abbrev pub StandsIn : (Holds E F → Type 0) → State E F → Type 0
+  -- an owner is there, and this holds of it
+  abbrev pub StandsIn : (Holds E F → Type 0) → Custody E F → Type 0
   StandsIn P Unopened = ⊥
   StandsIn P (In h) = P h
   StandsIn P Out = ⊥
   StandsIn P (Sealed p) = ⊥
 
-  -- if an owner stands there, the pass is of its session
-  abbrev pub IsPassHere : State E F → Producer → Type 0
+  -- if an owner is there, the pass is of its session
+  abbrev pub IsPassHere : Custody E F → Producer → Type 0
   IsPassHere Unopened pass = ⊤
   IsPassHere (In h) pass = IsPassOf h.ends.queues pass
   IsPassHere Out pass = ⊤
@@ -61,27 +61,27 @@ module _ {E F : Type 0} where
   abbrev pub IsCollected : ℕ → List SharedQueues → Away E F → Type 0
   IsCollected hosts queues p = IsIn hosts queues p.held × ((progress_of p.held.entries).phase ≡ arriving p.again p.to) × OwesNone p.held × IsBare p.held
 
-  -- what stands at the end: it is at rest, of the session with these queues and this number, and has the lists of this pass
+  -- the owner at the end: it is at rest, of the session with these queues and this number, and has the lists of this pass
   abbrev pub IsFinished : ℕ → SharedQueues → ℕ → Producer → Holds E F → Type 0
   IsFinished hosts queues number pass h = IsSettled h × OwesNone h × (h.ends.queues ≡ queues) × (h.number ≡ number) × (h.hosts ≡ hosts)
       × (h.ends.main.lists ≡ pass.main.lists) × (h.ends.main.given ≡ pass.main.given)
       × (h.ends.control.lists ≡ pass.control.lists) × (h.ends.control.given ≡ pass.control.given)
 
-  -- nobody stands there
-  abbrev pub IsFree : State E F → Type 0
+  -- nobody is there
+  abbrev pub IsFree : Custody E F → Type 0
   IsFree Unopened = ⊤
   IsFree (In h) = ⊥
   IsFree Out = ⊤
   IsFree (Sealed p) = ⊥
 
   -- what a host that takes the session gets, and what is left
-  abbrev pub took : State E F → ℕ → Take E F × State E F
+  abbrev pub took : Custody E F → ℕ → Take E F × Custody E F
   took Unopened host = (take.Unopened, Unopened)
   took (In h) host = cond (owner_of h == host) (take.Taken h, Out) (take.Elsewhere (owner_of h), In h)
   took Out host = (take.Out, Out)
   took (Sealed p) host = (take.Sealed p.to, Sealed p)
 
-  -- of a lease that was taken this holds
+  -- if a lease was taken, this holds of it
   abbrev pub OnTaken : (Holds E F → Type 0) → Take E F → Type 0
   OnTaken P (take.Taken h) = P h
   OnTaken P (take.Elsewhere owner) = ⊤
@@ -90,7 +90,7 @@ module _ {E F : Type 0} where
   OnTaken P (take.Sealed to) = ⊤
 
   -- what a host that collects the session gets, and what is left
-  abbrev pub Collects : State E F → ℕ → Option (Away E F) → State E F → Type 0
+  abbrev pub Collects : Custody E F → ℕ → Option (Away E F) → Custody E F → Type 0
   Collects Unopened host r s = (r ≡ None) × (s ≡ Unopened)
   Collects (In h) host r s = (r ≡ None) × (s ≡ In h)
   Collects Out host r s = (r ≡ None) × (s ≡ Out)
@@ -98,7 +98,7 @@ module _ {E F : Type 0} where
       (λ q. (p.to ≡ host) × (s ≡ Out) × HasNoted p.held q.held (Moved host) × (q ≡ record p { held = q.held }))
 
   -- what a caller that holds a pass gets at the end, and what it gets back
-  abbrev pub Finishes : State E F → Producer → Result (Holds E F) (State E F × Producer) → Type 0
+  abbrev pub Finishes : Custody E F → Producer → Result (Holds E F) (Custody E F × Producer) → Type 0
   Finishes (In h) pass r = r ≡ Ok (record h { ends = gathered h.ends pass })
   Finishes Unopened pass r = r ≡ Err (Unopened, pass)
   Finishes Out pass r = r ≡ Err (Out, pass)

@@ -8,15 +8,15 @@ use Rattle.session_gate.specs.declared.served.ServedAs.{ServedAs}
 use Rattle.session_gate.specs.declared.served.ServedAs.TheVariants as how
 use Rattle.session_gate.specs.Drawing.{draws_by, loses}
 
--- the entry leaves what was served and whether the session is dead, and nothing was drawn for it
+-- the entry changes neither what was served nor whether the session is dead, and nothing was drawn for it
 abbrev pub IsStill : Progress → Entry → Type 0
 IsStill p e = ((after p e).served ≡ p.served) × ((after p e).dead ≡ p.dead) × (draws_by e ≡ []) × (loses e ≡ false)
 
--- and it leaves the owner
+-- the same, and the owner is as before
 abbrev pub IsQuiet : Progress → Entry → Type 0
 IsQuiet p e = ((after p e).served ≡ p.served) × ((after p e).dead ≡ p.dead) × ((after p e).owner ≡ p.owner) × (draws_by e ≡ []) × (loses e ≡ false)
 
--- the owner's answer to a request that is no move; it is Dead exactly where the session is dead
+-- the owner's answer to a request that is no move; it is Dead if the session was dead, and only then
 abbrev pub IsServed : ServedAs → ℕ → Request → Bool → Entry → Type 0
 IsServed served owner r dead (Opened host request channel) = ⊥
 IsServed served owner r dead (Ran host request draws reply) = (served ≡ how.Ran) × (dead ≡ false) × (host ≡ owner) × (request ≡ r)

@@ -18,7 +18,7 @@ use std::alloc::{AllocError, Global};
 use std::marker::Model;
 use std::sync::{Arc, Mutex, Wait};
 
-/// A session that all threads share: its slot behind a lock, and a share of its queues.
+/// A session that all threads share: its slot, which a lock guards, and a share of its queues.
 pub struct SessionCell<E: Engine, F: Feed, N: Name> {
     shared: Arc<SharedQueues, Global>,
     number: u32,
@@ -77,7 +77,7 @@ impl<E: Engine + Drop, F: Feed, N: Name> SessionCell<E, F, N> {
         pass.admit(rt, &self.shared, request)
     }
 
-    /// Takes the next entry for the reader. None where none was there at a step of this call. Takes no memory.
+    /// Takes the next entry for the reader. None if none was there at a step of this call. Takes no memory.
     pub fn read<R: Wait>(&self, rt: &R, reader: &mut Reader) -> Option<Entry>
         requires { reader.old.out_queue ≡ self.now.0.out }
         ensures { MatchOption result (reader.new ≡ reader.old) (λ entry. reader.new ≡ record reader.old { entries = reader.old.entries ++ entry ∷ [] }) }
@@ -85,7 +85,8 @@ impl<E: Engine + Drop, F: Feed, N: Name> SessionCell<E, F, N> {
         reader.read(rt, &self.shared)
     }
 
-    /// One hold in which the session is opened: the first pass and the one reader. The queues come back for want of memory alone.
+    /// Opens the session in one hold of the lock, and gives the first pass and the one reader. The queues come back for want of
+    /// memory alone.
     pub fn open<R: Wait>(
         &self,
         rt: &R,
@@ -109,9 +110,7 @@ impl<E: Engine + Drop, F: Feed, N: Name> SessionCell<E, F, N> {
         let mut queues = queues;
         let mut guard = self.slot.lock(rt);
         let slot = &mut *guard;
-        if let Some(ends) = slot.clear(self.number) {
-            queues.meets(rt, ends);
-        }
+        slot.make_way_for(rt, &mut queues, self.number);
         slot.open(
             rt,
             alloc,
@@ -126,7 +125,8 @@ impl<E: Engine + Drop, F: Feed, N: Name> SessionCell<E, F, N> {
         )
     }
 
-    /// One hold in which the session is taken for this host. A lease that it gives is this cell's, and its host owns the session.
+    /// Takes the session for this host in one hold of the lock. A lease that it gives is this cell's, and this host owns the
+    /// session.
     pub fn take<R: Wait>(&self, rt: &R, host: u32) -> Take<E, F>
         ensures { OnTaken (λ lease. (owner_of lease ≡ host) × (lease.ends.queues ≡ self.now.0) × (lease.number ≡ self.now.1) × (lease.hosts ≡ N.hosts) × OwesNone lease × IsBare lease) result }
     {
@@ -145,7 +145,7 @@ impl<E: Engine + Drop, F: Feed, N: Name> SessionCell<E, F, N> {
         }
     }
 
-    /// One hold in which a lease is put back. No owner of its session stands there.
+    /// Puts a lease back in one hold of the lock. No owner of its session is there.
     pub fn give<R: Wait>(&self, rt: &R, lease: Lease<E, F>)
         requires { (lease.ends.queues ≡ self.now.0) × (lease.number ≡ self.now.1) × (lease.hosts ≡ N.hosts) × OwesNone lease × IsBare lease }
     {
@@ -157,7 +157,7 @@ impl<E: Engine + Drop, F: Feed, N: Name> SessionCell<E, F, N> {
         slot.give(lease);
     }
 
-    /// One hold in which a sealed session is put there. No owner of it stands there.
+    /// Puts a sealed session there in one hold of the lock. No owner of it is there.
     pub fn seal<R: Wait>(&self, rt: &R, parcel: Parcel<E, F>)
         requires here { (parcel.held.ends.queues ≡ self.now.0) × (parcel.held.number ≡ self.now.1) × (parcel.held.hosts ≡ N.hosts) }
         requires sealed { (progress_of parcel.held.entries).phase ≡ sealed parcel.again parcel.to }
@@ -171,8 +171,8 @@ impl<E: Engine + Drop, F: Feed, N: Name> SessionCell<E, F, N> {
         slot.seal(parcel);
     }
 
-    /// One hold in which a sealed session is given to this host. A parcel that it gives is this cell's, is for this host, and came
-    /// there.
+    /// Gives a session that is sealed for this host, in one hold of the lock. The parcel is this cell's, is for this host, and
+    /// came there.
     pub fn collect<R: Wait>(&self, rt: &R, host: u32) -> Option<Parcel<E, F>>
         ensures { IfSome result (λ parcel. (parcel.to ≡ host) × ((progress_of parcel.held.entries).phase ≡ arriving parcel.again parcel.to)
             × (parcel.held.ends.queues ≡ self.now.0) × (parcel.held.number ≡ self.now.1) × (parcel.held.hosts ≡ N.hosts) × OwesNone parcel.held × IsBare parcel.held) }
@@ -185,21 +185,16 @@ impl<E: Engine + Drop, F: Feed, N: Name> SessionCell<E, F, N> {
         slot.collect(host)
     }
 
-    /// One hold in which the lease of a session that was collected, and then adopted or resumed, is put back. No owner of it stands
-    /// there.
+    /// Puts back the lease of a session that was collected, and then adopted or resumed, in one hold of the lock. No owner of it
+    /// is there.
     pub fn settle<R: Wait>(&self, rt: &R, lease: Lease<E, F>)
         requires { (lease.ends.queues ≡ self.now.0) × (lease.number ≡ self.now.1) × (lease.hosts ≡ N.hosts) × OwesNone lease × IsBare lease }
     {
-        let _ = &self.number;
-        let mut lease = lease;
-        let mut guard = self.slot.lock(rt);
-        let slot = &mut *guard;
-        lease.make_way(rt, slot);
-        slot.settle(lease);
+        self.give(rt, lease);
     }
 
     /// The owner at the end, with what the pass holds joined into its own: whole if the pass holds all passes. Cell and pass come
-    /// back if no owner stands there, or it is sealed.
+    /// back if no owner is there, or it is sealed.
     pub fn finish(self, pass: Pass) -> Result<Resident<E, F>, (SessionCell<E, F, N>, Pass)>
         requires { IsPassOf self.0 pass }
         ensures finished { MatchResult result (IsFinished N.hosts self.0 self.1 pass) (λ back. (back.0 ≡ self) × (back.1 ≡ pass)) }
@@ -241,7 +236,7 @@ impl<E: Engine + Drop, F: Feed, N: Name> SessionCell<E, F, N> {
         lease
     }
 
-    /// Lets the cell go, with whoever stands there.
+    /// Lets the cell go, with whoever is there.
     pub fn discard(self) {
         let SessionCell {
             shared: _,

@@ -10,9 +10,9 @@ ghost use Rattle.session_queues.specs.Items.{number_of, frontend_of};
 ghost use Rattle.session_queues.specs.Ends.{Held, FoundNothing};
 ghost use Rattle.session_gate.specs.Answered.{opening_of, as_main, as_control, IsAnswered};
 
-/// Where nothing is owed and both queues were found empty, what a pass admitted and the owner took in by a join stands in the
-/// journal: each number's list is the journal's part of that number, in order. On main the opening is the first of number 0. Of a
-/// number that wasn't given, where the owner holds number 0, nothing stands there.
+/// If nothing is owed and both queues were found empty, the journal has what a pass admitted and the owner took in by a join:
+/// each number's list is what the journal has of that number, in order. On main the opening is the first of number 0. If the
+/// owner holds number 0, the journal has nothing of a number that wasn't given.
 #[tactic(auto, using(crate::proofs::Gathered::main_all, crate::proofs::Gathered::control_all, crate::proofs::Gathered::main_none, crate::proofs::Gathered::control_none))]
 pub fn each_list_is_its_part_of_the_journal()
     ensures main { (entries : List Entry) (ends : Held) (n : ℕ) (l : List MainItem) → IsAnswered entries ends [] → FoundNothing ends → Keeps n l ends.main.lists

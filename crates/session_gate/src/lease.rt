@@ -98,7 +98,7 @@ impl<E: Engine, F: Feed> Lease<E, F> {
         self.resident.pack(alloc, weights)
     }
 
-    /// Makes room for so many more entries.
+    /// Makes room for `more` further entries. After an error there may be room for fewer; the entries are as before.
     pub fn reserve(&mut self, more: u32) -> Result<(), AllocError>
         ensures same { (self.new.engine ≡ self.old.engine) × (self.new.feed ≡ self.old.feed) × (self.new.entries ≡ self.old.entries) × HasSame self.old self.new }
         ensures spare { IfOk result (λ _. more ≤ self.new.spare) }
@@ -106,7 +106,7 @@ impl<E: Engine, F: Feed> Lease<E, F> {
         self.resident.reserve(more)
     }
 
-    /// The control queue's front, or else the main queue's, which the lease then owes. None where each of the two was found empty
+    /// The control queue's front, or else the main queue's, which the lease then owes. None if each of the two was found empty
     /// at a step of this call. Takes no memory.
     pub fn pop<R: Wait>(&mut self, rt: &R) -> Option<Request>
         requires owes { OwesNone self.old }
@@ -130,7 +130,7 @@ impl<E: Engine, F: Feed> Lease<E, F> {
         self.resident.serve(alloc, request)
     }
 
-    /// Pushes a request on its queue, where the lease is whole. It comes back for want of memory alone.
+    /// Pushes a request on its queue. The lease has to be whole. The request comes back for want of memory alone.
     pub fn admit<R: Wait>(&mut self, rt: &R, request: Request) -> Result<(), Request>
         requires whole { IsWhole self.old }
         requires given { request.frontend < self.old.ends.main.given }
@@ -142,7 +142,7 @@ impl<E: Engine, F: Feed> Lease<E, F> {
     }
 
     /// Pushes on out, in order, a copy of each entry of the journal that was not pushed yet; nothing once the reader is closed.
-    /// After an error some more of them were pushed.
+    /// After an error perhaps some more of them, in order, were pushed.
     pub fn publish<R: Wait>(&mut self, rt: &R, alloc: Global) -> Result<(), AllocError>
         ensures same { self.new ≡ record self.old { out = self.new.out } }
         ensures all { IfOk result (λ _. self.new.out ≡ record self.old.out { pushed = all_of self.old.out.pushed self.old.entries }) }
@@ -151,7 +151,8 @@ impl<E: Engine, F: Feed> Lease<E, F> {
         self.resident.publish(rt, alloc)
     }
 
-    /// Closes the reader: how many entries it took, which are the journal's first. What is still queued for it is dropped.
+    /// Closes the reader, and says how many entries it took. These are the journal's first. What is still queued for
+    /// it is dropped.
     pub fn close_reader<R: Wait>(&mut self, rt: &R, reader: Reader) -> u32
         requires { reader.out_queue ≡ self.old.ends.queues.out }
         ensures closed { self.new ≡ record self.old { out = record self.old.out { pushed = None } } }
@@ -249,17 +250,16 @@ impl<E: Engine, F: Feed> Lease<E, F> {
 }
 
 impl<E: Engine + Drop, F: Feed> Lease<E, F> {
-    /// Makes sure that nobody stands in a slot, before the lease is put there. An owner of its session never does; one of another
-    /// session, which in no run does, would be let go.
+    /// Makes sure that a slot is free, before the lease is put there. An owner of the lease's session is never in it. If one of
+    /// another session is, which it is in no run, it stays there, and the call doesn't return.
     pub fn make_way<N: Name, R: Wait>(&mut self, rt: &R, slot: &mut Slot<E, F, N>)
         requires { IsIn N.hosts N.queues self.old }
         ensures free { IsFree slot.new }
+        ensures kept { slot.new ≡ slot.old }
         ensures same { self.new ≡ self.old }
         ensures before { is_of slot.old self.old.number ≡ false }
     {
-        if let Some(ends) = slot.clear(self.number()) {
-            self.resident.meets(rt, ends);
-        }
+        slot.make_way(rt, &mut self.resident);
     }
 
     /// Takes in what a producer's pass holds.

@@ -2,7 +2,13 @@
 //!
 //! A `Resident` owns a session's engine, feed, journal and ends of the queues. A `Lease` is a Resident out with its owner, and a
 //! `Parcel` one that is sealed for another host. None of them can be copied or let go unnoticed. A `Slot` is where a Resident or
-//! a Parcel stands, and a `SessionCell` is a slot behind a lock. docs/THREADS.md tells it in words.
+//! a Parcel is kept, and a `SessionCell` is a slot that a lock guards. docs/THREADS.md tells it in words.
+//!
+//! What the contracts leave open: before a lock is taken nothing is known of what it guards but its type, so no clause of a
+//! cell's call can name who is there. Whom the call finds is said where it is lent the slot: `make_way` and `make_way_for` say
+//! that no owner of the session is there (`before`), and that who is there stays (`kept`). What lets go who is in a slot is
+//! private to the slot's file. A cell's call that takes the session out and ends it by a call that says so (`discard`,
+//! `into_journal`) would be proved.
 #![tactic(auto)]
 
 mod cell;
@@ -19,4 +25,4 @@ pub use lease::Lease;
 pub use parcel::Parcel;
 pub use resident::Resident;
 pub use served::ServedAs;
-pub use slot::{Name, Slot, State, Take};
+pub use slot::{Custody, Name, Slot, Take};

@@ -13,7 +13,7 @@ use std::alloc::Global;
 use std::sync::Wait;
 
 impl<E: Engine + Drop, F: Feed> Resident<E, F> {
-    /// Opens a session: its owner, the first pass and the one reader. The queues come back for want of memory alone.
+    /// Opens a session, and gives its owner, the first pass and the one reader. The queues come back for want of memory alone.
     pub fn open<R: Wait>(
         rt: &R,
         alloc: Global,

@@ -51,7 +51,7 @@ impl<E: Engine, F: Feed> Parcel<E, F> {
         self.to
     }
 
-    /// The parcel came to its host.
+    /// Notes that the parcel came to its host.
     pub fn arrive(self) -> Parcel<E, F>
         requires { (progress_of self.held.entries).phase ≡ sealed self.again self.to }
         ensures noted { HasNoted self.held result.held (Entry.Moved self.to) }
@@ -146,16 +146,15 @@ impl<E: Engine, F: Feed> Parcel<E, F> {
 }
 
 impl<E: Engine + Drop, F: Feed> Parcel<E, F> {
-    /// Makes sure that nobody stands in a slot, before the parcel is put there. An owner of its session never does; one of another
-    /// session, which in no run does, would be let go.
+    /// Makes sure that a slot is free, before the parcel is put there. An owner of the parcel's session is never in it. If one of
+    /// another session is, which it is in no run, it stays there, and the call doesn't return.
     pub fn make_way<N: Name, R: Wait>(&mut self, rt: &R, slot: &mut Slot<E, F, N>)
         requires { IsIn N.hosts N.queues self.old.held }
         ensures free { IsFree slot.new }
+        ensures kept { slot.new ≡ slot.old }
         ensures same { self.new ≡ self.old }
         ensures before { is_of slot.old self.old.held.number ≡ false }
     {
-        if let Some(ends) = slot.clear(self.resident.number()) {
-            self.resident.meets(rt, ends);
-        }
+        slot.make_way(rt, &mut self.resident);
     }
 }

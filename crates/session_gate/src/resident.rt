@@ -19,8 +19,8 @@ use std::alloc::{AllocError, Global};
 use std::marker::Model;
 use std::sync::Wait;
 
-/// The one owner of a session: its engine, its feed, its journal and its ends of the queues. It can't be copied, and nothing
-/// lets it go.
+/// The one owner of a session: its engine, its feed, its journal and its ends of the queues. It can't be copied or let
+/// go unnoticed.
 pub struct Resident<E: Engine, F: Feed> {
     pub(crate) engine: E,
     pub(crate) feed: F,
@@ -90,7 +90,7 @@ impl<E: Engine, F: Feed> Resident<E, F> {
         self.engine.pack(alloc, weights)
     }
 
-    /// Makes room for so many more entries.
+    /// Makes room for `more` further entries.
     pub(crate) fn reserve(&mut self, more: u32) -> Result<(), AllocError>
         ensures same { (self.new.engine ≡ self.old.engine) × (self.new.feed ≡ self.old.feed) × (self.new.entries ≡ self.old.entries) × HasSame self.old self.new }
         ensures spare { IfOk result (λ _. more ≤ self.new.spare) }
@@ -108,8 +108,8 @@ impl<E: Engine, F: Feed> Resident<E, F> {
         self.ends.pop(rt)
     }
 
-    /// Puts an entry at the journal's end that may come there and leaves what was served, whether the session is dead, and the
-    /// owner.
+    /// Puts an entry at the journal's end that may come there. It changes neither what was served, nor whether the session is
+    /// dead, nor the owner.
     pub(crate) fn note(&mut self, entry: Entry)
         requires spare { 1 ≤ self.old.spare }
         requires may { MayCome E.meaning self.old.hosts (progress_of self.old.entries) entry }
@@ -191,7 +191,7 @@ impl<E: Engine, F: Feed> Resident<E, F> {
     }
 
     /// Pushes on out, in order, a copy of each entry that was not pushed yet; nothing once the reader is closed. After an error
-    /// some more of them were pushed.
+    /// perhaps some more of them, in order, were pushed.
     pub(crate) fn publish<R: Wait>(&mut self, rt: &R, alloc: Global) -> Result<(), AllocError>
         ensures same { self.new ≡ record self.old { out = self.new.out } }
         ensures all { IfOk result (λ _. self.new.out ≡ record self.old.out { pushed = all_of self.old.out.pushed self.old.entries }) }
@@ -201,7 +201,7 @@ impl<E: Engine, F: Feed> Resident<E, F> {
             .publish_all(rt, alloc, self.ends.shared(), self.journal.entries())
     }
 
-    /// Closes the reader: how many entries it took, which are the journal's first.
+    /// Closes the reader, and says how many entries it took. These are the journal's first.
     pub(crate) fn close_reader<R: Wait>(&mut self, rt: &R, reader: Reader) -> u32
         requires { reader.out_queue ≡ self.old.ends.queues.out }
         ensures closed { self.new ≡ record self.old { out = record self.old.out { pushed = None } } }
@@ -227,7 +227,7 @@ impl<E: Engine, F: Feed> Resident<E, F> {
         self.ends.join(pass);
     }
 
-    /// Pushes a request on its queue.
+    /// Pushes a request on its queue. All passes have to be joined before. The request comes back for want of memory alone.
     pub(crate) fn admit<R: Wait>(&mut self, rt: &R, request: Request) -> Result<(), Request>
         requires whole { IsWhole self.old }
         requires given { request.frontend < self.old.ends.main.given }

@@ -4,7 +4,7 @@ ghost use Rattle.session_queues.specs.declared.items.MainItem.{MainItem};
 ghost use Rattle.session_queues.specs.Ends.{first_pass, nothing_on};
 ghost use Rattle.session_gate.specs.Facts.{OwesNone, IsBare, IsIn, IsSettled, owner_of};
 ghost use Rattle.session_gate.specs.Places.{took, is_of, HasQueues, OnTaken, Stands, StandsIn, Collects, Finishes, IsFree, IsAtRest, IsSealedUp, IsCollected, IsPassHere, IsNew};
-ghost use Rattle.session_gate.specs.declared.slot.State.TheVariants.{Unopened, In, Out, Sealed};
+ghost use Rattle.session_gate.specs.declared.slot.Custody.TheVariants.{Unopened, In, Out, Sealed};
 
 use crate::lease::Lease;
 use crate::parcel::Parcel;
@@ -14,8 +14,8 @@ use session_core::{Channel, Engine, Header};
 use session_queues::{Ends, Pass, Queues, Reader};
 use std::alloc::Global;
 use std::marker::{Brand, Model, PhantomData};
-use std::mem;
 use std::sync::Wait;
+use std::{mem, thread};
 
 /// The sessions of one run, which are known before its locks are made: the number of hosts, and the queues of each session.
 pub trait Name {
@@ -47,8 +47,8 @@ pub enum Take<E: Engine, F: Feed> {
     Sealed(u32),
 }
 
-/// What stands in a slot.
-pub enum State<E: Engine, F: Feed> {
+/// What is in a slot.
+pub enum Custody<E: Engine, F: Feed> {
     Unopened,
     In(Resident<E, F>),
     /// The owner is out.
@@ -56,16 +56,16 @@ pub enum State<E: Engine, F: Feed> {
     Sealed(Parcel<E, F>),
 }
 
-/// Where the owner of a session stands while nobody works: what a session's lock holds.
+/// Where the owner of a session is kept while nobody works: what a session's lock guards.
 pub struct Slot<E: Engine, F: Feed, N: Name> {
-    state: State<E, F>,
+    state: Custody<E, F>,
     name: PhantomData<N>,
 }
 
 impl<E: Engine, F: Feed, N: Name> Model for Slot<E, F, N> {
-    ghost use Rattle.session_gate.specs.declared.slot.State.{State};
+    ghost use Rattle.session_gate.specs.declared.slot.Custody.{Custody};
 
-    ghost Value = { State E F };
+    ghost Value = { Custody E F };
 
     ghost use Rattle.session_gate.specs.Places.{Stands};
 
@@ -79,11 +79,11 @@ impl<E: Engine, F: Feed, N: Name> Slot<E, F, N> {
     pub fn new() -> Slot<E, F, N>
         ensures { result ≡ Unopened }
     {
-        Slot::of(State::Unopened)
+        Slot::of(Custody::Unopened)
     }
 
-    /// A slot in which this stands.
-    fn of(state: State<E, F>) -> Slot<E, F, N>
+    /// A slot with this in it.
+    fn of(state: Custody<E, F>) -> Slot<E, F, N>
         requires { Stands N.hosts N.queues state }
         ensures { result ≡ state }
     {
@@ -93,54 +93,54 @@ impl<E: Engine, F: Feed, N: Name> Slot<E, F, N> {
         }
     }
 
-    /// Takes the session for this host, where it stands there and the host owns it. Takes no memory.
+    /// Takes the session for this host, if it is there and the host owns it. Takes no memory.
     pub fn take(&mut self, host: u32) -> Take<E, F>
         ensures answer { (result, self.new) ≡ took self.old host }
         ensures ours { OnTaken (λ lease. IsAtRest N.hosts N.queues lease × (owner_of lease ≡ host)) result }
     {
-        match mem::replace(&mut self.state, State::Out) {
-            State::In(resident) => {
+        match mem::replace(&mut self.state, Custody::Out) {
+            Custody::In(resident) => {
                 let owner = resident.owner();
                 if owner == host {
                     Take::Taken(Lease { resident })
                 } else {
-                    put(&mut self.state, State::In(resident));
+                    put(&mut self.state, Custody::In(resident));
                     Take::Elsewhere(owner)
                 }
             }
-            State::Unopened => {
-                put(&mut self.state, State::Unopened);
+            Custody::Unopened => {
+                put(&mut self.state, Custody::Unopened);
                 Take::Unopened
             }
-            State::Out => Take::Out,
-            State::Sealed(parcel) => {
+            Custody::Out => Take::Out,
+            Custody::Sealed(parcel) => {
                 let to = parcel.to;
-                put(&mut self.state, State::Sealed(parcel));
+                put(&mut self.state, Custody::Sealed(parcel));
                 Take::Sealed(to)
             }
         }
     }
 
-    /// Puts a lease that owes nothing where nobody stands. Takes no memory.
+    /// Puts a lease that owes nothing in a free slot. Takes no memory.
     pub fn give(&mut self, lease: Lease<E, F>)
         requires free { IsFree self.old }
         requires ours { IsIn N.hosts N.queues lease × OwesNone lease × IsBare lease }
         ensures { self.new ≡ In lease }
     {
         let Lease { resident } = lease;
-        put(&mut self.state, State::In(resident));
+        put(&mut self.state, Custody::In(resident));
     }
 
-    /// Puts a sealed session where nobody stands. Takes no memory.
+    /// Puts a sealed session in a free slot. Takes no memory.
     pub fn seal(&mut self, parcel: Parcel<E, F>)
         requires free { IsFree self.old }
         requires ours { IsSealedUp N.hosts N.queues parcel }
         ensures { self.new ≡ Sealed parcel }
     {
-        put(&mut self.state, State::Sealed(parcel));
+        put(&mut self.state, Custody::Sealed(parcel));
     }
 
-    /// Puts the lease of a session that was collected, and then adopted or resumed, where nobody stands. Takes no memory.
+    /// Puts the lease of a session that was collected, and then adopted or resumed, in a free slot. Takes no memory.
     pub fn settle(&mut self, lease: Lease<E, F>)
         requires free { IsFree self.old }
         requires ours { IsIn N.hosts N.queues lease × OwesNone lease × IsBare lease }
@@ -149,25 +149,25 @@ impl<E: Engine, F: Feed, N: Name> Slot<E, F, N> {
         self.give(lease);
     }
 
-    /// Whether the owner of the session of this number stands here, sealed or not.
+    /// Whether the owner of the session of this number is here, sealed or not.
     pub fn is_of(&self, number: u32) -> bool
         ensures { result ≡ is_of self.now number }
     {
         match &self.state {
-            State::Unopened | State::Out => false,
-            State::In(resident) => resident.number() == number,
-            State::Sealed(parcel) => parcel.resident.number() == number,
+            Custody::Unopened | Custody::Out => false,
+            Custody::In(resident) => resident.number() == number,
+            Custody::Sealed(parcel) => parcel.resident.number() == number,
         }
     }
 
-    /// Who stands here under this number has the queues that the name lists there.
+    /// Whoever is here under this number has the queues that the name lists under it.
     pub(crate) fn has_queues(&self, number: u32)
         ensures { is_of self.now number ≡ true → HasQueues (λ queues. slice_get N.queues number ≡ Some queues) self.now }
     {
         let _ = &self.state;
     }
 
-    /// The owner, with what the pass holds joined into its own; or slot and pass as they were, if no owner stands here or it is
+    /// The owner, with what the pass holds joined into its own; or slot and pass as they were, if no owner is here or it is
     /// sealed. Takes no memory.
     pub fn finish(self, pass: Pass) -> Result<Resident<E, F>, (Slot<E, F, N>, Pass)>
         requires { IsPassHere self pass }
@@ -176,14 +176,14 @@ impl<E: Engine, F: Feed, N: Name> Slot<E, F, N> {
     {
         let Slot { state, name: _ } = self;
         match state {
-            State::In(resident) => {
+            Custody::In(resident) => {
                 let mut resident = resident;
                 resident.join(pass);
                 Ok(resident)
             }
-            State::Unopened => Err((Slot::of(State::Unopened), pass)),
-            State::Out => Err((Slot::of(State::Out), pass)),
-            State::Sealed(parcel) => Err((Slot::of(State::Sealed(parcel)), pass)),
+            Custody::Unopened => Err((Slot::of(Custody::Unopened), pass)),
+            Custody::Out => Err((Slot::of(Custody::Out), pass)),
+            Custody::Sealed(parcel) => Err((Slot::of(Custody::Sealed(parcel)), pass)),
         }
     }
 
@@ -192,42 +192,43 @@ impl<E: Engine, F: Feed, N: Name> Slot<E, F, N> {
         ensures collects { Collects self.old host result self.new }
         ensures ours { IfSome result (λ parcel. IsCollected N.hosts N.queues parcel) }
     {
-        match mem::replace(&mut self.state, State::Out) {
-            State::Sealed(parcel) => {
+        match mem::replace(&mut self.state, Custody::Out) {
+            Custody::Sealed(parcel) => {
                 if parcel.to == host {
                     Some(parcel.arrive())
                 } else {
-                    put(&mut self.state, State::Sealed(parcel));
+                    put(&mut self.state, Custody::Sealed(parcel));
                     None
                 }
             }
-            State::In(resident) => {
-                put(&mut self.state, State::In(resident));
+            Custody::In(resident) => {
+                put(&mut self.state, Custody::In(resident));
                 None
             }
-            State::Unopened => {
-                put(&mut self.state, State::Unopened);
+            Custody::Unopened => {
+                put(&mut self.state, Custody::Unopened);
                 None
             }
-            State::Out => None,
+            Custody::Out => None,
         }
     }
 }
 
-/// Puts something where nobody stands.
-fn put<E: Engine, F: Feed>(place: &mut State<E, F>, state: State<E, F>)
+/// Puts something in a free slot.
+fn put<E: Engine, F: Feed>(place: &mut Custody<E, F>, state: Custody<E, F>)
     requires { IsFree place.old }
     ensures { place.new ≡ state }
 {
     match mem::replace(place, state) {
-        State::Unopened | State::Out => (),
-        State::In(_other) => unreachable!(),
-        State::Sealed(_other) => unreachable!(),
+        Custody::Unopened | Custody::Out => (),
+        Custody::In(_other) => unreachable!(),
+        Custody::Sealed(_other) => unreachable!(),
     }
 }
 
 impl<E: Engine + Drop, F: Feed, N: Name> Slot<E, F, N> {
-    /// Opens a session where nobody stands: the first pass and the one reader. The queues come back for want of memory alone.
+    /// Opens a session in a free slot, and gives the first pass and the one reader. The queues come back for want of memory
+    /// alone.
     pub fn open<R: Wait>(
         &mut self,
         rt: &R,
@@ -254,40 +255,102 @@ impl<E: Engine + Drop, F: Feed, N: Name> Slot<E, F, N> {
             rt, alloc, queues, number, hosts, engine, feed, host, request, channel,
         ) {
             Ok((resident, pass, reader)) => {
-                put(&mut self.state, State::In(resident));
+                put(&mut self.state, Custody::In(resident));
                 Ok((pass, reader))
             }
             Err(queues) => Err(queues),
         }
     }
 
-    /// Lets whoever stands here go, and gives the ends of the queues that it had, if it was an owner of the session of this
-    /// number.
-    pub(crate) fn clear(&mut self, number: u32) -> Option<Ends>
+    /// Makes sure that nobody is here, before this owner, or a parcel with it, is put here. An owner of its session never is. If
+    /// one of another session is, which it is in no run, it stays, and the call doesn't return.
+    pub(crate) fn make_way<R: Wait>(&mut self, rt: &R, resident: &mut Resident<E, F>)
+        requires { IsIn N.hosts N.queues resident.old }
         ensures free { IsFree self.new }
-        ensures ends { MatchOption result (is_of self.old number ≡ false) (λ ends. slice_get N.queues number ≡ Some ends.queues) }
+        ensures kept { self.new ≡ self.old }
+        ensures same { resident.new ≡ resident.old }
+        ensures before { is_of self.old resident.old.number ≡ false }
     {
-        match mem::replace(&mut self.state, State::Out) {
-            State::Unopened | State::Out => None,
-            State::In(resident) => own_ends(resident, number),
-            State::Sealed(parcel) => own_ends(resident_of(parcel), number),
+        if let Some(ends) = self.oust(resident.number()) {
+            resident.meets(rt, ends);
+        }
+        self.wait_unless_free(rt);
+    }
+
+    /// The same before the session of these queues is opened here.
+    pub fn make_way_for<R: Wait>(&mut self, rt: &R, queues: &mut Queues, number: u32)
+        requires { slice_get N.queues number ≡ Some queues.old }
+        ensures free { IsFree self.new }
+        ensures kept { self.new ≡ self.old }
+        ensures same { queues.new ≡ queues.old }
+        ensures before { is_of self.old number ≡ false }
+    {
+        if let Some(ends) = self.oust(number) {
+            queues.meets(rt, ends);
+        }
+        self.wait_unless_free(rt);
+    }
+
+    /// Nobody is here once it returns: if somebody is, it doesn't.
+    fn wait_unless_free<R: Wait>(&self, rt: &R)
+        ensures { IsFree self.now }
+    {
+        match &self.state {
+            Custody::Unopened | Custody::Out => (),
+            Custody::In(_) | Custody::Sealed(_) => wait_forever(rt),
         }
     }
 
-    /// Lets the slot go, with whoever stands there.
+    /// The ends of the queues of the owner of the session of this number, which is let go. None if it isn't here, and then
+    /// nothing has changed.
+    fn oust(&mut self, number: u32) -> Option<Ends>
+        ensures { MatchOption result ((is_of self.old number ≡ false) × (self.new ≡ self.old)) (λ ends. slice_get N.queues number ≡ Some ends.queues) }
+    {
+        if !self.is_of(number) {
+            return None;
+        }
+        match self.clear(number) {
+            Some(ends) => Some(ends),
+            None => unreachable!(),
+        }
+    }
+
+    /// Lets whoever is here go. If it was an owner of the session of this number, its ends of the queues come back.
+    fn clear(&mut self, number: u32) -> Option<Ends>
+        ensures free { IsFree self.new }
+        ensures ends { MatchOption result (is_of self.old number ≡ false) (λ ends. slice_get N.queues number ≡ Some ends.queues) }
+    {
+        match mem::replace(&mut self.state, Custody::Out) {
+            Custody::Unopened | Custody::Out => None,
+            Custody::In(resident) => own_ends(resident, number),
+            Custody::Sealed(parcel) => own_ends(resident_of(parcel), number),
+        }
+    }
+
+    /// Lets the slot go, with whoever is there.
     pub fn discard(self) {
         let mut slot = self;
         let _ = slot.clear(0);
         let Slot { state, name: _ } = slot;
         match state {
-            State::Unopened | State::Out => (),
-            State::In(_other) => unreachable!(),
-            State::Sealed(_other) => unreachable!(),
+            Custody::Unopened | Custody::Out => (),
+            Custody::In(_other) => unreachable!(),
+            Custody::Sealed(_other) => unreachable!(),
         }
     }
 }
 
-/// Lets a Resident go, but for its ends of the queues, if it is of the session of this number.
+/// Never returns.
+fn wait_forever<R: Wait>(rt: &R)
+    ensures { ⊥ }
+{
+    for _ in rt.forever() {
+        thread::yield_now();
+    }
+    unreachable!()
+}
+
+/// Lets a Resident go. If it is of the session of this number, its ends of the queues come back.
 fn own_ends<E: Engine + Drop, F: Feed>(resident: Resident<E, F>, number: u32) -> Option<Ends>
     ensures { MatchOption result ((resident.number == number) ≡ false) (λ ends. (resident.number ≡ number) × (ends ≡ resident.ends)) }
 {
@@ -301,7 +364,7 @@ fn if_own(ends: Ends, own: u32, number: u32) -> Option<Ends>
     if own == number { Some(ends) } else { None }
 }
 
-/// The ends of the queues. The rest is let go.
+/// The ends of the queues of a Resident. The rest is let go.
 fn ends_of<E: Engine + Drop, F: Feed>(resident: Resident<E, F>) -> Ends
     ensures { result ≡ resident.ends }
 {
@@ -319,7 +382,7 @@ fn ends_of<E: Engine + Drop, F: Feed>(resident: Resident<E, F>) -> Ends
     ends
 }
 
-/// Who was sealed. The pack is let go.
+/// The Resident that was sealed. The pack is let go.
 fn resident_of<E: Engine + Drop, F: Feed>(parcel: Parcel<E, F>) -> Resident<E, F>
     ensures { result ≡ parcel.held }
 {

@@ -80,7 +80,7 @@ first_taken closed reader v joins n open_ r h is first =
 
 -- ---- publishing what wasn't pushed yet
 
--- what was pushed before, and so many of those that were left
+-- what was pushed before, and the first `index` of those that were left
 pub record IsUnderWay (old new : Outgoing) (entries left : List Entry) (index : ℕ) : Type 0 where
   pub pushed : List Entry
   pub was : old.pushed ≡ Some pushed

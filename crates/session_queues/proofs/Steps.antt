@@ -15,7 +15,7 @@ use Rattle.session_queues.specs.declared.shared.SharedQueues.{SharedQueues}
 use Rattle.session_queues.specs.Ends.{Held, opened_ends, first_pass, nothing_on, nothing_pushed}
 
 module _ {T : Type 0} where
-  -- a producer's view, under this number, which gave so many
+  -- a producer's view: it keeps this number, and counts `given` numbers as given
   abbrev pub Produces : ℕ → ℕ → View T → Type 0
   Produces n given v = (v.pops ≡ false) × ((l : List T) × Keeps n l v.lists) × (v.given ≡ given)
 
@@ -32,7 +32,7 @@ module _ {T : Type 0} (number : T → ℕ) where
   admits P (Ok u) x n given old new h is = subst (Produces n given) (sym is) (grown_produces x n given old h)
   admits P (Err y) x n given old new h is = subst (Produces n given) (sym is.1) h
 
--- what is counted right below 2^32 is so after a join
+-- a count that is right below 2^32 is so after a join
 pub counts_join : (a b m n : ℕ) → Counts a m → Counts b n → Counts ((a + b) % 4294967296) (m + n)
 counts_join a b m n (inl h) (inl k) = ⊎_elim (λ (lt : a + b < 4294967296). inl (omega arith)) (λ (le : 4294967296 ≤ a + b). inr (omega arith)) (cases_lt (a + b) 4294967296)
 counts_join a b m n (inl h) (inr k) = inr (omega arith)

@@ -45,7 +45,7 @@ publishes pushed = knows false [] ((0, pushed) ∷ []) 1
 abbrev pub takes : List Entry → View Entry
 takes entries = knows true entries [] 0
 
--- once the reader's part was taken back
+-- once the reader's seat was taken back
 abbrev pub drains : List Entry → List Entry → View Entry
 drains popped pushed = knows true popped ((0, pushed) ∷ []) 1
 

@@ -1,4 +1,4 @@
--- What stands in the three queues of a session, and under which number.
+-- What is in the three queues of a session, and under which number.
 use Rattle.std.specs.Prelude.{◌≡◌, ℕ, Bool, true, false, ⊤}
 use Rattle.session_core.specs.declared.request.Request.{Request}
 use Rattle.session_core.specs.declared.entry.Entry.{Entry}
@@ -15,7 +15,7 @@ abbrev pub is_opening : MainItem → Bool
 is_opening (Opening host request channel) = true
 is_opening (Asked request) = false
 
--- no request of the control list stands in the main queue
+-- no request of the control list is in the main queue
 abbrev pub IsForMain : MainItem → Type 0
 IsForMain (Opening host request channel) = ⊤
 IsForMain (Asked request) = is_control request ≡ false
@@ -26,11 +26,11 @@ frontend_of r = r.frontend
 abbrev pub IsForControl : Request → Type 0
 IsForControl r = is_control r ≡ true
 
--- no request of the control list only comes first
+-- no request of the control list has to come first
 abbrev pub opens_control : Request → Bool
 opens_control r = false
 
--- all entries have one number, and each may stand anywhere
+-- all entries have one number, and each may be anywhere
 abbrev pub number_of_entry : Entry → ℕ
 number_of_entry e = 0
 

@@ -47,6 +47,6 @@ module _ {T : Type 0} where
 abbrev pub HoldsAll : Producer → Type 0
 HoldsAll p = KeepsAll p.main × KeepsAll p.control
 
--- how many numbers a pass gave, as it counts them: right below 2^32
+-- how many numbers were given, as a pass counts them: the count is right as long as it is below 2^32
 abbrev pub Counts : ℕ → ℕ → Type 0
 Counts count given = (count ≡ given) ⊎ (2 ^ 32 ≤ given)

@@ -42,7 +42,7 @@ impl Ends {
         &self.shared
     }
 
-    /// Pops the front of the control queue, or else of the main queue. None where each of the two was found empty at a step of
+    /// Pops the front of the control queue, or else of the main queue. None if each of the two was found empty at a step of
     /// this call. Takes no memory.
     pub fn pop<R: Wait>(&mut self, rt: &R) -> Option<Request>
         requires { self.old.main.popped ≢ [] }
@@ -58,7 +58,8 @@ impl Ends {
         }
     }
 
-    /// Pushes a request on the queue that it belongs to, where all passes were joined. It comes back for want of memory alone.
+    /// Pushes a request on the queue that it belongs to. All passes have to be joined before. The request comes back for want of
+    /// memory alone.
     pub fn admit<R: Wait>(&mut self, rt: &R, request: Request) -> Result<(), Request>
         requires whole { KeepsAll self.old.main × KeepsAll self.old.control }
         requires given { request.frontend < self.old.main.given }

@@ -1,7 +1,8 @@
 //! The three queues of a session: main, control and out; and the passes on them.
 //!
 //! Producers push requests on main or control with a `Pass`. The owner of the session has the other `Ends`, with which
-//! it pops requests, and an `Outlet` of entries on out, which the one `Reader` takes. `specs/Passes` and `specs/Ends` say what each of them knows.
+//! it pops requests, and an `Outlet`, with which it pushes entries on out. The one `Reader` takes these. `specs/Passes` and
+//! `specs/Ends` say what each of them knows.
 #![tactic(auto)]
 
 mod ends;

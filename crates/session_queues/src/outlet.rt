@@ -43,7 +43,7 @@ impl Outlet {
         if self.closed { None } else { Some(self.count) }
     }
 
-    /// Pushes a copy of an entry, while the reader isn't closed. Want of memory comes also after 2^32 - 1 entries.
+    /// Pushes a copy of an entry, while the reader isn't closed. After 2^32 - 1 entries it also fails as for want of memory.
     fn publish<R: Wait>(
         &mut self,
         rt: &R,
@@ -64,7 +64,7 @@ impl Outlet {
     }
 
     /// Pushes, in order, a copy of each of these entries that was not pushed yet; nothing once the reader is closed. What was
-    /// pushed before are the first of them. After an error some more of them were pushed.
+    /// pushed before are the first of them. After an error perhaps some more of them, in order, were pushed.
     pub fn publish_all<R: Wait>(
         &mut self,
         rt: &R,
@@ -87,7 +87,8 @@ impl Outlet {
         Ok(())
     }
 
-    /// Closes the reader: how many entries it took, which are the first of those that were pushed. What is still queued is dropped.
+    /// Closes the reader, and says how many entries it took. These are the first of those that were pushed. What is still
+    /// queued is dropped.
     pub fn close<R: Wait>(&mut self, rt: &R, shared: &SharedQueues, reader: Reader) -> u32
         requires queue { self.old.out_queue ≡ shared.now.out }
         requires reader { reader.out_queue ≡ shared.now.out }
@@ -125,7 +126,7 @@ fn push_copy<R: Wait>(
     ruled_queue::push_or_drop(rt, queue, seat, copy)
 }
 
-/// Puts the reader's part in the place of the producer's, which it takes in.
+/// Replaces the producer's seat by the reader's, which takes in the producer's numbers.
 fn take_back(queue: &Queue<Entry, OutNumbers>, seat: &mut Seat<Entry>, reader: Seat<Entry>)
     requires queue { IsSegPassOf queue.now seat.old × IsSegPassOf queue.now reader }
     requires producer { seat.old.me.view.client.pops ≡ false }

@@ -20,7 +20,7 @@ pub struct Pass {
     pub(crate) main: Seat<MainItem>,
     pub(crate) control: Seat<Request>,
     pub(crate) number: u32,
-    /// How many numbers it gave, right below 2^32.
+    /// How many numbers were given, if it has number 0. The count is right as long as it is below 2^32.
     pub(crate) given: u32,
 }
 

@@ -125,7 +125,7 @@ impl Queues {
     }
 }
 
-/// Pops the opening, and parts the owner, the first producer and the reader.
+/// Pops the opening, and separates the owner, the first producer and the reader.
 fn part<R: Wait>(
     rt: &R,
     shared: Arc<SharedQueues, Global>,

@@ -10,7 +10,7 @@ use std::sync::Wait;
 #[derive(Drop)]
 pub struct Reader {
     pub(crate) out: Seat<Entry>,
-    /// How many entries it took, right below 2^32.
+    /// How many entries it took. The count is right as long as it is below 2^32.
     pub(crate) taken: u32,
 }
 
@@ -28,7 +28,7 @@ impl Model for Reader {
 }
 
 impl Reader {
-    /// Takes the next entry. None where none was there at a step of this call. Takes no memory.
+    /// Takes the next entry. None if none was there at a step of this call. Takes no memory.
     pub fn read<R: Wait>(&mut self, rt: &R, shared: &SharedQueues) -> Option<Entry>
         requires { self.old.out_queue ≡ shared.now.out }
         ensures { MatchOption result (self.new ≡ self.old) (λ entry. self.new ≡ record self.old { entries = self.old.entries ++ entry ∷ [] }) }

@@ -4,7 +4,6 @@ use Rattle.std.specs.Prelude.{None, false}
 use Rattle.nb_outside.specs.declared.feed.Drawn.{Drawn}
 use Rattle.graph_model.specs.declared.plan.Weights.{Weights}
 use Rattle.graph_model.specs.declared.plan.Certified.{Certified}
-use Rattle.graph_model.specs.Graphs.{IsStuck}
 use Rattle.graph_model.specs.Networks.{IsCertified}
 use Rattle.session_core.specs.declared.request.Ask.{Ask}
 use Rattle.session_core.specs.declared.request.Ask.TheVariants as asks
@@ -21,9 +20,6 @@ added_more n (s ∷ served) ask draws = added_more (added n s.ask) served ask dr
 
 pub total_more : (served : List Served) (ask : Ask) (draws : List Drawn) → total (more served ask draws) ≡ added (total served) ask
 total_more served ask draws = added_more 0 served ask draws
-
-pub none_stuck : (version cell : ℕ) → ¬ IsStuck no_graph version cell
-none_stuck version cell h = none_at (version - 1) h.version h.active.0.1
 
 -- the plan that does nothing is certified
 pub certified : (w : Weights) (c : Certified) → c ≡ record { plan = record { copied = []; rerun = [] }; cost = 0; arcs = [] } → IsCertified no_graph w c

@@ -1,5 +1,5 @@
-//! The least engine: a counter whose every ask adds one, which dies at 4, which a restart sets back, which holds a handle at 2 and
-//! so can't move, and for which host 2 has no memory at 3.
+//! The least engine: a counter. Each ask adds one, and a restart sets it back. It dies at 4. At 2 it holds a handle, and so it
+//! can't move. At 3 host 2 has no memory for it.
 
 ghost use Rattle.std.specs.Prelude.{◌≡◌, ◌⊎◌, ◌+◌, ◌<◌, codes, IfOk, MatchResult, [], ◌∷◌, None, false};
 ghost use Rattle.graph_model.specs.Plans.{AreAdmitted};
@@ -15,6 +15,7 @@ use plan_model::{WeightFault, check_weights};
 use session_core::{Ask, Done, Engine, PackFault, Packed, Reply, RunFault};
 use std::alloc::{AllocError, Global};
 
+/// A counter: its total, and its host.
 #[derive(Drop)]
 pub struct Counter {
     pub total: u32,
@@ -92,7 +93,7 @@ impl Engine for Counter {
         if let Err(fault) = check(alloc, weights) {
             return Err(PackFault::BadWeights(fault));
         }
-        // Memory runs out where it is asked to.
+        // With this weight memory runs out, so that the tables can show it.
         if weights.run_base == 7 {
             return Err(PackFault::OutOfMemory);
         }

@@ -1,8 +1,8 @@
 //! Shows the journal of a session over the least engine (`counter`), for tables of cases.
 //!
 //! Each line of standard input has what is asked of a session on host 0 of 3, one after the other, with a space between: `info`,
-//! `restart`, `end` (a shutdown without a restart), `move:H:W` (a move to the host H, where W is one of the four weights and the
-//! others are 0; 7 has memory run out). For each, one line is printed: a word for each entry of the journal.
+//! `restart`, `end` (a shutdown without a restart), `move:H:W` (a move to the host H; W is one of the four weights, and the
+//! others are 0; with a W of 7 memory runs out). For each line one is printed: a word for each entry of the journal.
 #![tactic(auto)]
 
 ghost use Rattle.std.specs.Prelude.{◌≡◌, IfOk};

@@ -8,7 +8,7 @@ use Rattle.session_core.specs.declared.request.Request.{Request}
 use Rattle.session_core.specs.declared.entry.Entry.{Entry}
 use Rattle.session_queues.specs.declared.items.MainItem.TheVariants.{Opening}
 use Rattle.session_queues.specs.declared.shared.SharedQueues.{SharedQueues}
-use Rattle.session_queues.specs.Passes.{Producer, IsPassOf, parted, next_pass, taking_in}
+use Rattle.session_queues.specs.Passes.{Producer, parted, next_pass, taking_in}
 use Rattle.session_queues.specs.Ends.{Held, first_pass}
 use Rattle.session_gate.specs.Answered.{as_main, as_control}
 use Rattle.session_threads.specs.Parts.{HasAdmitted, IsPart, IsServed}
@@ -46,9 +46,6 @@ module _ (q : SharedQueues) (host : ℕ) (request : Header) (channel : Channel) 
   pub second_fresh : (p0 p1 p2 one two : Producer) → Splits p0 p1 p2 one two → HasAdmitted q two.number [] two × (two.number ≡ 2)
   second_fresh p0 p1 p2 one two h = subst (λ p. HasAdmitted q p.number [] p × (p.number ≡ 2)) (sym (second_is p0 p1 p2 one two h)) ((refl, refl, refl, refl, refl), refl)
 
-  pub left_is_here : (p0 p1 p2 one two : Producer) → Splits p0 p1 p2 one two → IsPassOf q p2
-  left_is_here p0 p1 p2 one two h = subst (IsPassOf q) (sym (left_is p0 p1 p2 one two h)) (refl, refl)
-
   -- both passes are joined, and an owner has their lists
   pub both_joined : (p0 p1 p2 one0 two0 one two p3 p4 : Producer) (first second : List Request) (ends : Held) → Splits p0 p1 p2 one0 two0
       → HasAdmitted q one0.number first one → HasAdmitted q two0.number second two → p3 ≡ taking_in p2 one → p4 ≡ taking_in p3 two
@@ -71,7 +68,7 @@ module _ (q : SharedQueues) (host : ℕ) (request : Header) (channel : Channel) 
         );
       }
 
-  -- each frontend's part of the journal that is kept, once all is answered
+  -- each frontend's requests in the journal that is kept, once all is answered
   pub parts : (here : SharedQueues) (p0 p1 p2 one0 two0 one two p3 p4 : Producer) (first second : List Request) (es kept : List Entry) → here ≡ q → Splits p0 p1 p2 one0 two0
       → HasAdmitted here one0.number first one → HasAdmitted here two0.number second two → p3 ≡ taking_in p2 one → p4 ≡ taking_in p3 two → IsServed es p4 → kept ≡ es
       → IsPart 1 kept first × IsPart 2 kept second × ((n : ℕ) → n ≢ 1 → n ≢ 2 → IsPart n kept [])

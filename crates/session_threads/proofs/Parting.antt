@@ -1,4 +1,4 @@
--- Each frontend's part of the journal that a session ends with.
+-- Each frontend's requests in the journal that a session ends with.
 use Rattle.std.proofs.Common.{◌≡◌, ◌≢◌, ◌==◌, ℕ, zero, suc, Bool, true, false, cond, List, [], ◌∷◌, ◌++◌, filter, map, refl, sym, ap, ◌∙◌, subst, append_assoc, inl, inr, arith}
 use Rattle.ruled_queue.specs.Rule.{of, Keeps}
 use Rattle.session_core.specs.declared.request.Header.{Header}
@@ -16,7 +16,7 @@ use Rattle.session_gate.specs.Answered.{opening_by, opening_of, as_main, as_cont
 use Rattle.session_gate.proofs.Gathered.{main_all, control_all, main_none, control_none}
 use Rattle.session_threads.specs.Parts.{IsPart}
 
--- the requests among what stands in a main queue
+-- the requests among what is in a main queue
 pub requests_in : List MainItem → List Request
 requests_in [] = []
 requests_in (Opening host request channel ∷ items) = requests_in items
@@ -63,7 +63,7 @@ pub opening_alone : (host : ℕ) (request : Header) (channel : Channel) → requ
 unfolding requests_in
 opening_alone host request channel = refl
 
--- the part of main, by what is kept under the number
+-- the requests on main of a number, by what is kept under it
 part_is : (es : List Entry) (n : ℕ) (l : List MainItem) → l ≡ of number_of n (opening_of es ++ as_main (asked es)) → of frontend_of n (main_asked es) ≡ requests_in l
 part_is es n l is =
     ap (of frontend_of n) (sym (requests_asked (main_asked es)) ∙ sym (openings_skipped es (as_main (asked es)))) ∙ sym (requests_of n (opening_of es ++ as_main (asked es))) ∙ ap requests_in (sym is)

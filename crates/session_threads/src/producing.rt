@@ -58,7 +58,7 @@ where
     }
 }
 
-/// The same on a pass of one's own.
+/// Admits a copy of each request, and gives the pass back. Whether all were admitted.
 pub(crate) fn admit_as<E, F, N, R>(
     rt: &R,
     alloc: Global,

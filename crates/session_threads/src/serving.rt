@@ -19,7 +19,7 @@ use std::sync::atomic::{AtomicBool, Ordering};
 use std::thread;
 use std::thread::{Threads, join};
 
-/// Two threads admit.
+/// Two threads admit these requests, each on its own pass.
 fn admit_both<E, F, N, R>(
     rt: &R,
     alloc: Global,
@@ -94,7 +94,7 @@ where
     )
 }
 
-/// What the workers left is done for each host, until nothing is left for any.
+/// Does for each host what the workers left, until nothing is left for any.
 fn work_off<E, F, N, R>(rt: &R, alloc: Global, cell: &SessionCell<E, F, N>, hosts: u32)
 where
     E: Engine + Drop,
@@ -115,8 +115,8 @@ where
     }
 }
 
-/// Two producers admit these requests, as frontends 1 and 2, while a worker of each host answers. The journal then: legal, with
-/// just these requests, each frontend's in its order. None for want of memory alone.
+/// Two producers admit these requests, as frontends 1 and 2, while a worker of each host answers. The journal is then
+/// legal and has just these requests, each frontend's in its order. None for want of memory alone.
 pub fn serve_two<E, F, N, R>(
     rt: &R,
     alloc: Global,
@@ -190,7 +190,7 @@ where
     }
 }
 
-/// The journal at the end, and whether all that waited was answered. None where no owner stands in the cell.
+/// The journal at the end, and whether all that waited was answered. None if no owner is in the cell.
 fn ended<E, F, N, R>(
     rt: &R,
     alloc: Global,

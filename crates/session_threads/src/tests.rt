@@ -36,7 +36,7 @@ fn to_host_1() -> Ask {
     }
 }
 
-/// A hundred requests of a frontend, the k-th with an id of k letters; at this place a move to host 1.
+/// A hundred requests of a frontend, the k-th with an id of k letters. The request of this number is a move to host 1.
 fn requests(alloc: Global, frontend: u32, moves_at: usize) -> Result<Vec<Request>, AllocError>
     ensures { IfOk result (λ requests. All (λ r. r.frontend ≡ frontend) requests.items) }
 {
@@ -115,8 +115,8 @@ fn counted(entries: &[Entry]) -> Counts {
     seen
 }
 
-/// What the journal has of two producers' hundred requests each, the first one's with a move at that place. None where there is no
-/// journal.
+/// What the journal has of two producers' hundred requests each. The first one's request of this number is a move. None if there
+/// is no journal.
 fn served<R: Threads + Wait + Sync>(
     rt: &R,
     alloc: Global,

@@ -39,7 +39,7 @@ where
     }
 }
 
-/// One hold of the session on its host, if it stands there or is sealed for it. Whether something was done.
+/// Takes the session once for its host, if it is there or is sealed for it, and does what is next. Whether something was done.
 pub(crate) fn work_once<E, F, N, R>(
     rt: &R,
     alloc: Global,

@@ -125,9 +125,6 @@ module _ (g : Graph) (s : State) where
   abbrev pub NoneUpTo : ℕ → Type 0
   NoneUpTo n = (m : ℕ) → m ≤ n → ¬ IsUnlike g s m
 
-  pub none_at_first : NoneUpTo 0
-  none_at_first m l u = let low = (version_within g m u.0 u.1.0).0 in let no : ⊥ = omega (arith, l, low) in no
-
   pub none_more : (i : ℕ) (x : Version) → VersionAt g (i + 1) x → NoneUpTo i → (x.replaced ≡ 0 → ¬ Disagrees x s) → NoneUpTo (i + 1)
   none_more i x at before fine m l u = elim (cases_eq m (i + 1)) [
     | inl e ↦

@@ -15,7 +15,7 @@ begins_from b h a = grind (arith, nat_tests)
 boundary_from : (text : List ℕ) (n : ℕ) → is_between text n ≡ true → IsCharBoundary text n
 boundary_from text n h = let p = and_parts _ _ h in (leb-true n (length text) p.0, λ l a. begins_from (slice_index text n) p.1 a)
 
--- ---- the cut is the last place within the room where a character begins
+-- ---- the cut is the last place within that many bytes at which a character begins
 
 pub cut_le : (n : ℕ) (text : List ℕ) → cut_within n text ≤ n
 unfolding cut_within

@@ -5,12 +5,12 @@ use Rattle.std.specs.Prelude.{ℕ, zero, suc, Bool, ◌||◌, ◌&&◌, cond, na
 abbrev pub is_between : List ℕ → ℕ → Bool
 is_between text n = nat_le n (length text) && (nat_lt (slice_index text n) 128 || nat_le 192 (slice_index text n))
 
--- the last such place within so many bytes
+-- the last such place within that many bytes
 unfoldable pub cut_within : ℕ → List ℕ → ℕ
 cut_within zero text = 0
 cut_within (suc n) text = cond (is_between text (suc n)) (suc n) (cut_within n text)
 
--- the longest beginning of whole characters within so many bytes
+-- the longest beginning of whole characters within that many bytes
 abbrev pub prefix_within : ℕ → List ℕ → List ℕ
 prefix_within n text = take (cut_within n text) text
 

@@ -2,8 +2,8 @@ ghost use Rattle.std.specs.Prelude.{ℕ, ◌≡◌, ◌+◌, ◌<◌, ◌≤◌,
 ghost use Rattle.std.specs.Str.{IsUtf8};
 ghost use Rattle.text_cuts.specs.Cuts.{prefix_within};
 
-/// The longest beginning of whole characters within so many bytes is a text of at most so many bytes. A text that has no more
-/// is its own beginning. Of one that has more, fewer than four of these bytes are left out, since a character has at most four.
+/// The longest beginning of whole characters within `n` bytes is a text of at most `n` bytes. A text of at most `n` bytes is
+/// its own beginning. Of a longer one, fewer than four of the first `n` bytes are left out, since a character has at most four.
 pub fn a_text_is_cut_near_the_end_of_its_room()
     ensures text { (n : ℕ) (text : List ℕ) → IsUtf8 text → IsUtf8 (prefix_within n text) }
     ensures within { (n : ℕ) (text : List ℕ) → length (prefix_within n text) ≤ n }

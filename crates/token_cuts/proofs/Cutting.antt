@@ -26,7 +26,7 @@ begun_at_start : begun 0 (Start 0 None) (0 ∷ []) ≡ Ok (record { given = []; 
 unfolding begun indented shallower
 begun_at_start = refl
 
--- where the last line's end is after a word, with no bracket open
+-- the tokens at the end of a text, after a word with no bracket open
 ended_kinds : (at : ℕ) (line : Line) → line.spot ≡ Inside → line.brackets ≡ 0 → kinds (ended at line) ≡ Newline ∷ dedents (opened line.depths) (End ∷ [])
 ended_kinds at line s b =
     ap (λ spot. kinds (last_newline at spot line.brackets ++ (closing at line.depths ++ token End at 0 ∷ []))) s

@@ -170,7 +170,7 @@ spoil_open Unclosed v w h = cc
 spoil_open (Closed u n) v w h = cc
 spoil_open (Spoiled n) v w h = cc
 
--- by the piece that stands in the longer bytes, what stands in the shorter
+-- the piece in the shorter bytes is the one in the longer
 piece_by : (b1 b2 b3 b4 e e' : Bool) (c : ℕ) (o o' : Option Escape) (p : Piece) → cond b1 Quote (cond b2 LineEnd (cond b3 (cond e LineEnd Bad) (cond b4 (escaped o) (Plain c)))) ≡ p
     → (p ≡ LineEnd → ⊥) → (p ≡ Bad → ⊥) → ((x : Escape) → p ≡ Escaped x → o ≡ Some x → o' ≡ Some x)
     → cond b1 Quote (cond b2 LineEnd (cond b3 (cond e' LineEnd Bad) (cond b4 (escaped o') (Plain c)))) ≡ p

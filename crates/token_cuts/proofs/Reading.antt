@@ -159,7 +159,7 @@ ended_same at a b e f g =
     ∙ ap (λ (ds : List ℕ). last_newline at b.spot a.brackets ++ (closing at ds ++ token End at 0 ∷ [])) f
     ∙ ap (λ n. last_newline at b.spot n ++ (closing at b.depths ++ token End at 0 ∷ [])) g
 
--- where the word is the one of the turn
+-- if the word is the one of the turn
 at_word : (at : ℕ) (line : Line) (c : ℕ) (bytes : List ℕ) (d : Depths) (l : Lexeme) (mid post : List Token) (w : Token) → IsLine line → IsFirstByte c bytes → begun at line.spot line.depths ≡ Ok d
     → lexeme_at at (c ∷ bytes) ≡ Ok l → mid ≡ d.given → token l.kind at l.width ≡ w → read (pred l.width) (suc at) (after_word line d l) bytes ≡ Ok post → IsCut zero at line (c ∷ bytes) mid w post
 at_word at line c bytes d l mid post w i b e f is_mid is_w h =

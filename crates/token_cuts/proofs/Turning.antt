@@ -122,7 +122,7 @@ and_cut true (x ∷ xs) ys h = h
 pub first_byte_cut : (c : ℕ) (xs ys : List ℕ) → IsFirstByte c (xs ++ ys) → IsFirstByte c xs
 first_byte_cut c xs ys b = record { space = b.space; tab = b.tab; hash = b.hash; feed = b.feed; return = and_cut (eqb c 13) xs ys b.return }
 
--- ---- what a turn says
+-- ---- what a turn tells
 
 -- it takes some bytes, keeps what is known of lines, and its tokens tell its blocks and lines
 pub record Tells (line : Line) (t : Turn) : Type 0 where
@@ -148,7 +148,7 @@ quiet_tells width line spot p e i = record {
   begins = sym e;
 }
 
--- the line's end, by where it stands
+-- the line's end, by what is before it in its line
 pub data Feeds (at : ℕ) (line : Line) (t : Turn) : Type 0 where
   passes : is_start line.spot ≡ true → t ≡ record { tokens = []; width = 1; line = next_line at line } → Feeds at line t
   ends : line.spot ≡ Inside → line.brackets ≡ 0 → t ≡ record { tokens = token Newline at 1 ∷ []; width = 1; line = next_line at line } → Feeds at line t
@@ -347,7 +347,7 @@ word_same p q line other c xs ys d l same b e f fits =
       lines = record { spot = tt; depths = w.3; brackets = ap (λ n. brackets_after l.kind n) same.brackets };
     }
 
--- where another token comes after the turn in the cut bytes, they are read alike
+-- if another token comes after the turn in the cut bytes, they are read alike
 pub same_turn : (p q : ℕ) (line other : Line) (c : ℕ) (xs ys : List ℕ) (t : Turn) → AreSame p q line other → pred t.width < length xs → Turns p line c (xs ++ ys) t → SameTurn p q other (c ∷ xs) t
 same_turn p q line other c xs ys t same more (blank e is) =
     subst (λ b. SameTurn p q other (b ∷ xs) t) (sym e) (quiet_same 1 p q line other line.spot other.spot (32 ∷ xs) t is same same.spot (blank_turn q other xs))

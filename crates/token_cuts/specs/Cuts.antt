@@ -17,7 +17,7 @@ is_word Dedent = false
 is_word End = false
 is_word _ = true
 
--- how many blocks are open after those tokens, from so many
+-- how many blocks are open after those tokens, if `n` are before them
 abbrev pub level : ℕ → List Kind → ℕ
 level n [] = n
 level n (Indent ∷ ks) = level (suc n) ks
@@ -32,13 +32,13 @@ begins_line b (Indent ∷ ks) = begins_line b ks
 begins_line b (Dedent ∷ ks) = begins_line b ks
 begins_line b (k ∷ ks) = begins_line false ks
 
--- so many blocks end
+-- that many blocks end
 abbrev pub dedents : ℕ → List Kind → List Kind
 dedents zero rest = rest
 dedents (suc n) rest = Dedent ∷ dedents n rest
 
--- the bytes have tokens of these kinds, and after them the line and each block that is open end: the first token stands at
--- the first byte, and the last word ends with the last
+-- The bytes have tokens of these kinds, and after them the line and each block that is open end. The first token begins at
+-- the first byte, and the last word ends with the last byte.
 pub record AreCut (bytes : List ℕ) (spelled : List Kind) : Type 0 where
   pub tokens : List Token
   pub are_tokens : tokens_of bytes ≡ Ok tokens

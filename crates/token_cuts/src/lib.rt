@@ -1,4 +1,4 @@
-//! The tokens of a part of a text: cut out alone, they are the same.
+//! The tokens of a section of a text: if it is cut out alone, they are the same.
 //!
 //! The law is the contract of a function that does nothing.
 #![tactic(auto)]

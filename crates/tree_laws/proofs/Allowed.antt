@@ -1,4 +1,4 @@
--- The statements of a cell are allowed, if each function at its top is of a kind: no function stands elsewhere.
+-- The statements of a cell are allowed, if each function at its top is of a kind: no function is elsewhere.
 use Rattle.std.proofs.Common.{◌≡◌, ℕ, false, IsTrue, List, [], ◌∷◌, map, Option, Some, None, refl, ap, ◌∙◌, subst}
 use Rattle.std.specs.List.{AllByRecursion}
 use Rattle.py_token.specs.declared.kinds.Kind.{Kind}
@@ -19,7 +19,7 @@ use Rattle.py_laws.specs.Allowed.{MayBindAt, IsAllowedHere, ArmAny, DefAny, IsAl
 use Rattle.tree_laws.proofs.Named.{push, AreKnown, head, condition, statements}
 use Rattle.tree_laws.proofs.Tokens.{Variable}
 
--- what holds of each is held with each
+-- each element together with what holds of it
 with_each : {A : Type 0} (P : A → Type 0) (xs : List A) → AllByRecursion P xs → (ys : List ((x : A) × P x)) × (map (λ e. e.0) ys ≡ xs)
 with_each P [] h = ([], refl)
 with_each P (x ∷ xs) h = let w = with_each P xs h.1 in ((x, h.0) ∷ w.0, ap (◌∷◌ x) w.1)
@@ -134,7 +134,7 @@ module _ (IsOfKind : Def → Type 0) where
   IsDefine (define n ps) = Unit {0}
   IsDefine _ = ⊥
 
-  -- no function stands in a block
+  -- no function is in a block
   not_top : (h : Head) (a : Around) → IsTrue (inside h a).top → ⊥
   not_top (choose c) a e = cc
   not_top (otherwise bs) a e = cc

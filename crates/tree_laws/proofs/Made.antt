@@ -1,4 +1,4 @@
--- The names that stand in a tree that is made of parts.
+-- The names in a tree that is made of smaller ones.
 use Rattle.std.proofs.Common.{ℕ, Bool, List, [], ◌∷◌, ◌++◌, map, Option, Some, None, sym, subst}
 use Rattle.std.specs.List.{AllByRecursion}
 use Rattle.py_tree.specs.declared.expressions.Expr.{Expr, roll-Expr}
@@ -122,7 +122,7 @@ module _ (Known : List ℕ → Type 0) where
       sliced None (Some b) k l = both (names_of x) (names_of b) h l
       sliced (Some a) (Some b) k l = both (names_of x) (names_of a ++ names_of b) h (both (names_of a) (names_of b) k l)
 
-  -- the parts of chains
+  -- the nodes of chains
   related : (x : Relation-F Expr Relation Operand Pair) → Pass (relation_step (map-Relation Expr Relation Operand Pair Names Names Names Names names_of names_of_relation names_of_operand names_of_pair x)) → OfRelation (roll-Relation x)
   unfolding names_of names_of_relation names_of_operand names_of_pair
   related x h = subst Pass (sym (fold-roll-Relation Names Names Names Names expression_step relation_step operand_step pair_step x)) h

@@ -1,4 +1,4 @@
--- Each name in the tree of a form stands in the tokens that the form spells.
+-- Each name in the tree of a form is in the tokens that the form spells.
 use Rattle.std.proofs.Common.{ℕ, List, [], ◌∷◌, ◌++◌, Some, None}
 use Rattle.std.specs.List.{AllByRecursion}
 use Rattle.py_tree.specs.declared.expressions.Expr.{Expr}

@@ -7,7 +7,7 @@ ghost use Rattle.py_grammar.specs.Trees.{Source, tree_cell};
 ghost use Rattle.py_laws.specs.Mentioned.{names_in, AllPass};
 ghost use Rattle.tree_laws.specs.Kinds.{kinds};
 
-/// If the tokens of a text are a cell, each name that stands in the cell's tree is one that a program may bind: an identifier
+/// If the tokens of a text are a cell, each name that is in the cell's tree is one that a program may bind: an identifier
 /// that is no keyword. This is so of names that are looked up, of targets, of functions, parameters and methods, and of what
 /// `del` and `global` name.
 pub fn names_in_trees_of_cells_are_variables()

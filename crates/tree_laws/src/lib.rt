@@ -1,4 +1,4 @@
-//! Laws of the trees of cells: which names stand in them, and where functions do.
+//! Laws of the trees of cells: which names are in them, and where functions are.
 //!
 //! Each law is the contract of a function that does nothing.
 #![tactic(auto)]

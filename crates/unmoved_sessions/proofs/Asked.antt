@@ -28,7 +28,7 @@ either_way : (b : Bool) → (b ≡ true) ⊎ (b ≡ false)
 either_way true = inl refl
 either_way false = inr refl
 
--- where no request waits in the control list, all wait in the main list
+-- if no request waits in the control list, all wait in the main list
 main_alone : (rs : List Request) → filter is_control rs ≡ [] → filter is_main rs ≡ rs
 main_alone [] none = refl
 main_alone (r ∷ rs) none = elim (either_way (is_control r)) [
@@ -38,6 +38,6 @@ main_alone (r ∷ rs) none = elim (either_way (is_control r)) [
   | inr is ↦ filter_yes is_main r rs (ap not is) ∙ ap (λ z. r ∷ z) (main_alone rs (sym (filter_no is_control r rs is) ∙ none))
 ]
 
--- of two lists with the same requests for each of the two lists, one of which has nothing but cells
+-- lists of requests are the same if the same of each wait in the control list and in the main list, and one has only cells
 pub same_list : (rs cells : List Request) → AllByRecursion IsCell cells → filter is_main rs ≡ filter is_main cells → filter is_control rs ≡ filter is_control cells → rs ≡ cells
 same_list rs cells are main control = sym (main_alone rs (control ∙ no_controls cells are)) ∙ main ∙ all_main cells are

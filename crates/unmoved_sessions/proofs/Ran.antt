@@ -1,4 +1,4 @@
--- What a journal has where nothing but cells is asked: a run for each cell, until it dies.
+-- What a journal has if nothing but cells is asked: a run for each cell, until it dies.
 use Rattle.std.proofs.Common.{◌≡◌, ℕ, Bool, true, false, ◌||◌, List, [], ◌∷◌, refl, sym, ap, ◌∙◌, subst, ◌⊎◌, inl, inr}
 use Rattle.std.specs.Prelude.{filter}
 use Rattle.std.specs.List.{AllByRecursion}

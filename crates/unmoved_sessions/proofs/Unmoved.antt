@@ -107,7 +107,7 @@ until_death host served (r ∷ rs) (e ∷ es) ((code, is), cells) (inl (draws, s
     )
 until_death host served (r ∷ rs) (e ∷ es) cells (inr dies) = inr dies
 
--- where nothing dies
+-- if nothing dies
 no_death : (host count : ℕ) (r : Request) (e : journal.Entry) → DiesAt host count r e → IsNoDeath e → ⊥
 no_death host count r e (cause, is) none = subst IsNoDeath is none
 

@@ -2,7 +2,7 @@
 use Rattle.std.specs.Prelude.{◌≡◌, ℕ, true, false, ◌⊎◌, List, [], ◌∷◌}
 use Rattle.nb_outside.specs.declared.feed.Drawn.{Drawn}
 use Rattle.py_heap.specs.declared.state.State.{State}
-use Rattle.py_session.specs.declared.reply.Reply as unmoved
+use Rattle.py_session.specs.declared.reply.CellReply.{CellReply}
 use Rattle.py_session.specs.Session.{answer, next_state, Takes}
 use Rattle.session_core.specs.declared.request.Ask.TheVariants.{Execute}
 use Rattle.session_core.specs.declared.request.Request.{Request}
@@ -13,8 +13,8 @@ use Rattle.session_core.specs.declared.entry.Entry.TheVariants.{Ran}
 use Rattle.notebook_meaning.specs.Answers.{name_in, text_in}
 use Rattle.unmoved_sessions.specs.Cells.{DiesAt, StaysDead}
 
--- a reply of a session that never moves, as a journal has it: where there is no error, its name and its text are empty
-abbrev pub told : unmoved.Reply → Reply
+-- a reply of a session that never moves, as a journal has it: if there is no error, its name and its text are empty
+abbrev pub told : CellReply → Reply
 told r = Executed r.count false r.printed r.result (name_in r.error) (text_in r.error)
 
 -- From this state the entry answers the request on this host as a session that never moves does, and leaves the next state.

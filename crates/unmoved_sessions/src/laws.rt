@@ -9,14 +9,14 @@ ghost use Rattle.notebook_meaning.specs.Notebooks.{notebooks};
 ghost use Rattle.unmoved_sessions.specs.Cells.{IsCell, IsNoDeath};
 ghost use Rattle.unmoved_sessions.specs.Answered.{AreAnswered, AreAnsweredUntilDeath};
 
-/// Where nothing but cells is asked of a session, and it doesn't die, its journal is its opening and then, for each cell in turn, the
-/// reply of a session that never moves, from the empty state on.
+/// If nothing but cells is asked of a session, and it doesn't die, its journal is its opening and then, for each cell in turn,
+/// the reply of a session that never moves, from the empty state on.
 pub fn a_session_of_cells_is_one_that_never_moves()
     ensures { (hosts : ℕ) (s : Taken) (es : List Entry) → IsJournalOf notebooks hosts s es → AllByRecursion IsCell s.requests → AllByRecursion IsNoDeath es
         → (entries : List Entry) × (es ≡ Opened s.host s.request s.channel ∷ entries) × AreAnswered s.host empty s.requests entries }
 {}
 
-/// Where nothing but cells is asked of a session, its journal is its opening and then, for each cell in turn, the reply of a session
+/// If nothing but cells is asked of a session, its journal is its opening and then, for each cell in turn, the reply of a session
 /// that never moves, from the empty state on, until it dies.
 pub fn a_session_of_cells_never_moves_until_it_dies()
     ensures { (hosts : ℕ) (s : Taken) (es : List Entry) → IsJournalOf notebooks hosts s es → AllByRecursion IsCell s.requests

@@ -1,5 +1,5 @@
-//! A session of which nothing but cells is asked is that of one kernel that never moves: whatever else its node does, each cell is
-//! answered as that kernel answers it, from the state that the cell before left.
+//! If nothing but cells is asked of a session, it is that of one kernel that never moves. Whatever else its node does, each cell
+//! is answered as that kernel answers it, from the state that the cell before left.
 //!
 //! The laws are contracts of functions that do nothing.
 #![tactic(auto)]

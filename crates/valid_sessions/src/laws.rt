@@ -6,8 +6,8 @@ ghost use Rattle.py_heap.specs.States.{empty};
 ghost use Rattle.py_session.specs.Session.{next_state, unmoved};
 ghost use Rattle.valid_sessions.specs.Valid.{IsValidState, AreTexts};
 
-/// The empty state is valid, a cell with any text as its code keeps a valid state valid, whatever it draws, and so each state
-/// that a session reaches from the empty one is valid.
+/// The empty state is valid. A cell with any text as its code keeps a valid state valid, whatever it draws. So each state that
+/// a session reaches from the empty one is valid.
 pub fn sessions_stay_valid()
     ensures begins { IsValidState empty }
     ensures cell { (code : List ℕ) (draws : List Drawn) (s : State) → IsUtf8 code → IsValidState s → IsValidState (next_state code draws s) }

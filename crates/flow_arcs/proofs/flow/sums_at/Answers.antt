@@ -33,7 +33,7 @@ module _ (arcs : List Arc) (on first next : List ℕ) (node : ℕ) (h : IsLists 
       let c = taken_all arcs on (length (tails arcs)) node l refl in
       omega arith
 
-  -- one arc of the walk, and the place behind it
+  -- one arc of the walk, and its entry, which is one more than its number
   module _ (e place q : ℕ) (p : place ≡ suc e) (b : place ≤ length (tails arcs)) (t : get_or (tails arcs) e 0 ≡ node) where
     pub held_given : get_or (outs on) e 0 ≤ below place (tails arcs) (outs on) node
     held_given = walk_holds (tails arcs) (outs on) node e place p (omega arith) out_length t

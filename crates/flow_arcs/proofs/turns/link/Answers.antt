@@ -7,7 +7,7 @@ use Rattle.flow_arcs.proofs.Partners.{partner_below, tail_partner}
 use Rattle.flow_arcs.proofs.Ways.{linked, tails_below}
 use Rattle.flow_arcs.proofs.turns.link.Goals as goal
 
--- the node that an arc leaves is where its partner goes
+-- the node that an arc leaves is the one that its partner enters
 leaves : (net : Net) (to first next : List ℕ) (e p node : ℕ) → IsTurns net to first next → e < length (heads net.arcs) → p ≡ partner e → node ≡ get_or to p node → node ≡ get_or (tails net.arcs) e 0
 leaves net to first next e p node h l q r =
     let b = partner_below net.arcs e l in

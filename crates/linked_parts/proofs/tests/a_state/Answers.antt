@@ -12,7 +12,7 @@ use Rattle.py_heap.specs.States.{with_name, with_object, with_items}
 use Rattle.py_heap.proofs.Closed.{empty_closed, bind_closed, add_closed, push_closed}
 use Rattle.linked_parts.proofs.tests.a_state.Goals as goal
 
--- a closed state with so many objects
+-- a closed state with that many objects
 abbrev IsClosedAt : ℕ → State → Type 0
 IsClosedAt n s = IsClosed s × (length s.heap ≡ n)
 

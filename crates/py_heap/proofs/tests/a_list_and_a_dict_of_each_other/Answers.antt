@@ -14,7 +14,7 @@ use Rattle.py_heap.specs.States.{with_name, with_object, with_items, with_pairs}
 use Rattle.py_heap.proofs.Closed.{empty_closed, bind_closed, add_closed, push_closed, put_closed}
 use Rattle.py_heap.proofs.tests.a_list_and_a_dict_of_each_other.Goals as goal
 
--- a closed state with so many objects
+-- a closed state with this many objects
 abbrev IsClosedAt : ℕ → State → Type 0
 IsClosedAt n s = IsClosed s × (length s.heap ≡ n)
 

@@ -1,12 +1,14 @@
 use Rattle.std.proofs.Common.{◌≡◌, ℕ, ◌+◌, List, Some, None, length, ap, ◌∙◌, subst}
 use Rattle.std.specs.FinMap as finite
 use Rattle.std.proofs.lemmas.Result.{err_from_is_err_and}
+use Rattle.graph_model.specs.declared.graph.Graph.{Graph}
 use Rattle.history_graph.specs.Left.{AreOfLeft}
 use Rattle.history_graph.specs.Grown.{IsGrown}
 use Rattle.history_graph.specs.Room.{IsFirstOf}
 use Rattle.history_graph.proofs.Ending.{Ended, is_next}
+use Rattle.history_graph.proofs.Leaving.{news_hold}
 use Rattle.history_graph.proofs.Judging.{all_fit, first_over, small}
-use Rattle.history_graph.proofs.Told.{long_over, room_at, few_then}
+use Rattle.history_graph.proofs.Told.{long_over, room_at, few_news, few_then}
 use Rattle.history_graph.proofs.history.History.end_cell.Goals as goal
 
 pub returns-in-Some-clause-too_many : goal.returns-in-Some-clause-too_many
@@ -29,14 +31,30 @@ returns-in_err-news-clause-too_many c =
     let p = err_from_is_err_and c.from_residual-in_err-news.result c.from_residual-in_err-news.ensures.1 in
     rw (p.1, p.2) (long_over h s c.args.marks.now c.in_ok-parts.parts c.in_ok-parts.ensures heads c.in_ok-heads.ensures.heads room c.in_err-news.field-0.0 c.in_err-news.ensures.err)
 
+pub grow-requires-clause-news : goal.grow-requires-clause-news
+grow-requires-clause-news c =
+    news_hold c.args.state.now c.in_ok-parts.parts (c.len-2.result + 1) c.in_ok-heads.heads c.as_slice.result.now c.in_ok-news.news c.in_ok-news.ensures.ok
+
+pub grow-requires-clause-few : goal.grow-requires-clause-few
+grow-requires-clause-few c =
+    let h = c.args.self.now in
+    let s = c.args.state.now in
+    let heads = c.in_ok-heads.heads in
+    let keys : c.as_slice.result.now ≡ finite.keys heads = c.as_slice.ensures ∙ c.in_ok-names.ensures in
+    let room : IsFirstOf (length h.graph.cells) (length h.graph.versions) (length (finite.keys heads)) (length (finite.keys s.globals)) None =
+    room_at (length h.graph.cells) (length h.graph.versions) c.len.result (length (finite.keys s.globals)) (length (finite.keys heads)) c.in_ok-tally.field-0 None
+    (c.len.ensures ∙ ap (λ (ns : List (List ℕ)). length ns) c.in_ok-names.ensures) c.in_default.is c.in_ok-tally.ensures in
+    few_news s c.in_ok-parts.parts (c.len-2.result + 1) (length h.graph.cells) (length h.graph.versions) (length (finite.keys s.globals)) heads c.in_ok-news.news room
+    (subst (λ (ns : List (List ℕ)). AreOfLeft s c.in_ok-parts.parts (c.len-2.result + 1) heads ns c.in_ok-news.news) keys c.in_ok-news.ensures.ok)
+
 pub returns-clause-next : goal.returns-clause-next
 returns-clause-next c = λ r n is stands.
     let h = c.args.self.now in
     let s = c.args.state.now in
     let heads = c.in_ok-heads.heads in
-    let cells : c.len-2.result + 1 ≡ length h.graph.cells + 1 = ap (λ m. m + 1) c.len-2.ensures in
+    let cells : c.len-2.result + 1 ≡ length h.graph.cells + 1 = ap (λ m. m + 1) (c.len-2.ensures ∙ ap (λ (g : Graph). length g.cells) c.graph.ensures) in
     let keys : c.as_slice.result.now ≡ finite.keys heads = c.as_slice.ensures ∙ c.in_ok-names.ensures in
-    let ended : Ended h s c.args.code.now c.args.meter c.args.steps c.args.marks.now c.grow.new.graph = record {
+    let ended : Ended h s c.args.code.now c.args.meter c.args.steps c.args.marks.now c.grow.new.self = record {
       now = c.in_ok-parts.parts;
       are = c.in_ok-parts.ensures;
       heads = heads;
@@ -46,9 +64,9 @@ returns-clause-next c = λ r n is stands.
       news = c.in_ok-news.news;
       made = subst (λ (m : ℕ). AreOfLeft s c.in_ok-parts.parts m heads (finite.keys heads) c.in_ok-news.news) cells
           (subst (λ (ns : List (List ℕ)). AreOfLeft s c.in_ok-parts.parts (c.len-2.result + 1) heads ns c.in_ok-news.news) keys c.in_ok-news.ensures.ok);
-      grown = subst (λ (m : ℕ). IsGrown m c.in_ok-cell.cell c.in_ok-news.news h.graph c.grow.new.graph) cells c.in_ok-grow.ensures.ok;
+      grown = subst (λ (m : ℕ). IsGrown m c.in_ok-cell.cell c.in_ok-news.news h.graph c.grow.new.self) cells c.in_ok-grow.ensures.ok;
     } in
-    is_next r n h s c.args.code.now c.args.meter c.args.steps c.args.marks.now c.grow.new.graph ended is stands
+    is_next r n h s c.args.code.now c.args.meter c.args.steps c.args.marks.now c.grow.new.self ended is stands
 
 pub returns-clause-fits : goal.returns-clause-fits
 returns-clause-fits c = λ u before.
@@ -75,5 +93,5 @@ returns-clause-few c =
     let room : IsFirstOf (length h.graph.cells) (length h.graph.versions) (length (finite.keys heads)) (length (finite.keys s.globals)) None =
     room_at (length h.graph.cells) (length h.graph.versions) c.len.result (length (finite.keys s.globals)) (length (finite.keys heads)) c.in_ok-tally.field-0 None
     (c.len.ensures ∙ ap (λ (ns : List (List ℕ)). length ns) c.in_ok-names.ensures) c.in_default.is c.in_ok-tally.ensures in
-    few_then s c.in_ok-parts.parts (c.len-2.result + 1) (length (finite.keys s.globals)) heads c.in_ok-cell.cell c.in_ok-news.news h.graph c.grow.new.graph room
+    few_then s c.in_ok-parts.parts (c.len-2.result + 1) (length (finite.keys s.globals)) heads c.in_ok-cell.cell c.in_ok-news.news h.graph c.grow.new.self room
     (subst (λ (ns : List (List ℕ)). AreOfLeft s c.in_ok-parts.parts (c.len-2.result + 1) heads ns c.in_ok-news.news) keys c.in_ok-news.ensures.ok) c.in_ok-grow.ensures.ok

@@ -1,10 +1,10 @@
 use Rattle.std.proofs.Common.{◌≡◌, true, Some, slice_get, subst}
-use Rattle.session_gate.specs.declared.slot.State.{State}
+use Rattle.session_gate.specs.declared.slot.Custody.{Custody}
 use Rattle.session_gate.specs.Places.{is_of, HasQueues}
 use Rattle.session_gate.proofs.Standing.{queues_here}
 use Rattle.session_gate.proofs.slot.Slot.has_queues.Goals as goal
 
 pub returns : goal.returns
 returns g c = let all = g.N.Name.queues in let n = c.args.number in
-    subst (λ (s : State g.row.E.Denot g.row.F.Denot). is_of s n ≡ true → HasQueues (λ q. slice_get all n ≡ Some q) s) c.self.view_is
+    subst (λ (s : Custody g.row.E.Denot g.row.F.Denot). is_of s n ≡ true → HasQueues (λ q. slice_get all n ≡ Some q) s) c.self.view_is
     (λ same. queues_here g.N.Name.hosts all n c.self.inside.state c.self.invariant same)
