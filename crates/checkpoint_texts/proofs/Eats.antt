@@ -154,12 +154,12 @@ module _ (bytes : List ℕ) (small : All (λ b. b < 256) bytes) where
         let left : length rest ≡ length bytes - at = length-drop at bytes in
         let long : length xs ≡ k = ap (λ (zs : List ℕ). length zs) (sym got) ∙ length-take-le k rest (omega (arith, left, room)) in
         let size : length xs ≡ n = omega (arith, long) in
-        let behind : drop k rest ≡ drop next bytes = drop-drop k at bytes ∙ ap (λ (m : ℕ). drop m bytes) (omega (arith, there)) in
+        let beyond : drop k rest ≡ drop next bytes = drop-drop k at bytes ∙ ap (λ (m : ℕ). drop m bytes) (omega (arith, there)) in
         let few : IsBytes xs = subst (λ (zs : List ℕ). IsBytes zs) got (bytes_small (take k rest) (All-take (λ b. b < 256) k rest (All-drop (λ b. b < 256) at bytes small))) in
         record {
           xs = xs;
           is = (refl, size, few);
-          left = sym (take-append-drop k rest) ∙ (ap (λ (zs : List ℕ). zs ++ drop k rest) got ∙ ap (λ (zs : List ℕ). xs ++ zs) behind);
+          left = sym (take-append-drop k rest) ∙ (ap (λ (zs : List ℕ). zs ++ drop k rest) got ∙ ap (λ (zs : List ℕ). xs ++ zs) beyond);
           end = omega (arith, there, size);
         }
     | inr f ↦ absurd (let no : failed (List ℕ) (Cut field) ≡ answer xs next = rw f at e in cc)

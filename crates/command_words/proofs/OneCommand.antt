@@ -50,8 +50,8 @@ same_settings [] (y ∷ ys) a b e = absurd (some_word y.form y.kind y.number (se
 same_settings (x ∷ xs) [] a b e = absurd (some_word x.form x.kind x.number (setting_words xs) e)
 same_settings (x ∷ xs) (y ∷ ys) a b e =
     let first = same_setting x y (setting_words xs) (setting_words ys) (a 0 x (omega arith)) (b 0 y (omega arith)) e in
-    let behind = (same_first x.form y.form x.kind y.kind x.number y.number (setting_words xs) (setting_words ys) e).2 in
-    ap (λ (z : Setting). z ∷ xs) first ∙ ap (λ (zs : List Setting). y ∷ zs) (same_settings xs ys (All-tail IsAllowed x xs a) (All-tail IsAllowed y ys b) behind)
+    let after = (same_first x.form y.form x.kind y.kind x.number y.number (setting_words xs) (setting_words ys) e).2 in
+    ap (λ (z : Setting). z ∷ xs) first ∙ ap (λ (zs : List Setting). y ∷ zs) (same_settings xs ys (All-tail IsAllowed x xs a) (All-tail IsAllowed y ys b) after)
 
 -- ---- settings, none of them twice, say one number of a kind
 

@@ -98,21 +98,21 @@ same_letter Workers Hosts e = absurd (omega arith)
 same_letter Workers Workers e = refl
 
 -- the byte after the name in its word, or 0
-abbrev behind_name : Form → ℕ
-behind_name Spaced = 0
-behind_name Joined = 61
+abbrev after_name : Form → ℕ
+after_name Spaced = 0
+after_name Joined = 61
 
-behind_at : (f : Form) (k : Kind) (n : ℕ) (rest : List (List ℕ)) → byte (length (name_of k)) (spelled f k n ++ rest) ≡ behind_name f
-behind_at Spaced Hosts n rest = refl
-behind_at Spaced Workers n rest = refl
-behind_at Joined Hosts n rest = refl
-behind_at Joined Workers n rest = refl
+after_at : (f : Form) (k : Kind) (n : ℕ) (rest : List (List ℕ)) → byte (length (name_of k)) (spelled f k n ++ rest) ≡ after_name f
+after_at Spaced Hosts n rest = refl
+after_at Spaced Workers n rest = refl
+after_at Joined Hosts n rest = refl
+after_at Joined Workers n rest = refl
 
-same_behind : (f g : Form) → behind_name f ≡ behind_name g → f ≡ g
-same_behind Spaced Spaced e = refl
-same_behind Spaced Joined e = absurd (omega arith)
-same_behind Joined Spaced e = absurd (omega arith)
-same_behind Joined Joined e = refl
+same_after : (f g : Form) → after_name f ≡ after_name g → f ≡ g
+same_after Spaced Spaced e = refl
+same_after Spaced Joined e = absurd (omega arith)
+same_after Joined Spaced e = absurd (omega arith)
+same_after Joined Joined e = refl
 
 abbrev size : Form → ℕ
 size Spaced = 2
@@ -126,8 +126,8 @@ rest_of Joined k n rest = refl
 pub same_first : (f g : Form) (k l : Kind) (m n : ℕ) (r q : List (List ℕ)) → spelled f k m ++ r ≡ spelled g l n ++ q → (k ≡ l) × (f ≡ g) × (r ≡ q)
 same_first f g k l m n r q e =
     let kinds : k ≡ l = same_letter k l (sym (letter_at f k m r) ∙ (ap (byte 2) e ∙ letter_at g l n q)) in
-    let behind = subst (λ (j : Kind). byte (length (name_of j)) (spelled g l n ++ q) ≡ behind_name g) (sym kinds) (behind_at g l n q) in
-    let forms : f ≡ g = same_behind f g (sym (behind_at f k m r) ∙ (ap (byte (length (name_of k))) e ∙ behind)) in
+    let after = subst (λ (j : Kind). byte (length (name_of j)) (spelled g l n ++ q) ≡ after_name g) (sym kinds) (after_at g l n q) in
+    let forms : f ≡ g = same_after f g (sym (after_at f k m r) ∙ (ap (byte (length (name_of k))) e ∙ after)) in
     let rest = subst (λ (h : Form). drop (size h) (spelled g l n ++ q) ≡ q) (sym forms) (rest_of g l n q) in
     (kinds, forms, sym (rest_of f k m r) ∙ (ap (drop (size f)) e ∙ rest))
 
@@ -157,34 +157,34 @@ pub none_first : (words : List (List ℕ)) → words ≢ [] → ((f : Form) → 
 none_first words some none [] all e = some e
 none_first words some none (s ∷ settings) all e = none s.form s.kind s.number (setting_words settings) (all 0 s (omega arith)) e
 
-module _ (words behind : List (List ℕ)) (s : Setting) (is : words ≡ spelled s.form s.kind s.number ++ behind) where
+module _ (words after : List (List ℕ)) (s : Setting) (is : words ≡ spelled s.form s.kind s.number ++ after) where
   some : words ≢ []
-  some e = some_word s.form s.kind s.number behind (sym is ∙ e)
+  some e = some_word s.form s.kind s.number after (sym is ∙ e)
 
-  next : (t : Setting) (more : List Setting) → words ≡ setting_words (t ∷ more) → (s.kind ≡ t.kind) × (behind ≡ setting_words more)
+  next : (t : Setting) (more : List Setting) → words ≡ setting_words (t ∷ more) → (s.kind ≡ t.kind) × (after ≡ setting_words more)
   next t more e =
-      let same = same_first s.form t.form s.kind t.kind s.number t.number behind (setting_words more) (sym is ∙ e) in
+      let same = same_first s.form t.form s.kind t.kind s.number t.number after (setting_words more) (sym is ∙ e) in
       (same.0, same.2)
 
-  pub none_second : behind ≢ [] → ((f : Form) → NoneBegins f behind) → SayNone words
+  pub none_second : after ≢ [] → ((f : Form) → NoneBegins f after) → SayNone words
   none_second left none [] all once e = some e
-  none_second left none (t ∷ more) all once e = none_first behind left none more (All-tail IsAllowed t more all) (next t more e).1
+  none_second left none (t ∷ more) all once e = none_first after left none more (All-tail IsAllowed t more all) (next t more e).1
 
-module _ (words behind rest : List (List ℕ)) (s t : Setting) (is : words ≡ spelled s.form s.kind s.number ++ behind) (then : behind ≡ spelled t.form t.kind t.number ++ rest) where
+module _ (words after rest : List (List ℕ)) (s t : Setting) (is : words ≡ spelled s.form s.kind s.number ++ after) (then : after ≡ spelled t.form t.kind t.number ++ rest) where
   pub none_third : rest ≢ [] → SayNone words
-  none_third left [] all once e = some words behind s is e
-  none_third left (a ∷ []) all once e = some behind rest t then (next words behind s is a [] e).1
+  none_third left [] all once e = some words after s is e
+  none_third left (a ∷ []) all once e = some after rest t then (next words after s is a [] e).1
   none_third left (a ∷ b ∷ []) all once e =
-      left (next behind rest t then b [] (next words behind s is a (b ∷ []) e).1).1
+      left (next after rest t then b [] (next words after s is a (b ∷ []) e).1).1
   none_third left (a ∷ b ∷ c ∷ more) all once e =
       three a.kind b.kind c.kind (once 0 1 a (omega arith) (omega arith)) (once 0 2 a (omega arith) (omega arith)) (once 1 2 a (omega arith) (omega arith))
 
   pub not_twice : s.kind ≡ t.kind → SayNone words
-  not_twice same [] all once e = some words behind s is e
-  not_twice same (a ∷ []) all once e = some behind rest t then (next words behind s is a [] e).1
+  not_twice same [] all once e = some words after s is e
+  not_twice same (a ∷ []) all once e = some after rest t then (next words after s is a [] e).1
   not_twice same (a ∷ b ∷ more) all once e =
-      let first = next words behind s is a (b ∷ more) e in
-      let second = next behind rest t then b more first.1 in
+      let first = next words after s is a (b ∷ more) e in
+      let second = next after rest t then b more first.1 in
       once 0 1 a (omega arith) (omega arith) (sym first.0 ∙ (same ∙ second.0))
 
 -- `run` with these words after it says no command

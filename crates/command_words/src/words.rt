@@ -96,13 +96,13 @@ fn run_of(words: &[String]) -> Option<Command>
             workers: UNSAID,
         });
     }
-    let Some((first, behind)) = first_of(words) else {
+    let Some((first, after)) = first_of(words) else {
         return None;
     };
-    if behind.is_empty() {
+    if after.is_empty() {
         return Some(run_with(first));
     }
-    let Some((second, rest)) = first_of(behind) else {
+    let Some((second, rest)) = first_of(after) else {
         return None;
     };
     if !rest.is_empty() {

@@ -67,13 +67,14 @@ pub fn top<R: AllocGlobal, S: Source, K: Sink, D: Feeds>(
     // The status is one of the command's.
     ensures statuses { (c : Asked) → IsCommand (map string_bytes words.now) c → IsStatusOf c result }
 
-    // What `run` takes in, does and writes: journals that are legal histories of what was asked, and the frames that tell them.
+    // What `run` takes in, does and writes: journals that are legal histories of what was asked, with draws that the feeds gave, and
+    // the frames that tell them.
     ensures streams { (hosts workers : ℕ) → IsCommand (map string_bytes words.now) (command.Run hosts workers)
-        → StreamsTold notebooks hosts result (S.left source.old) (S.left source.new) (K.written sink.old) (K.written sink.new) }
+        → StreamsTold notebooks hosts (D.gives feeds.old) result (S.left source.old) (S.left source.new) (K.written sink.old) (K.written sink.new) }
 
     // What `save` writes: the checkpoint of the session opened first, under a plan that no plan undercuts.
     ensures saved { (w : Four) → IsCommand (map string_bytes words.now) (command.Save w)
-        → SavesTold w result (S.left source.old) (S.left source.new) (K.written sink.old) (K.written sink.new) }
+        → SavesTold (D.gives feeds.old) w result (S.left source.old) (S.left source.new) (K.written sink.old) (K.written sink.new) }
 
     // What `plan` reads and says: the lines of a plan that no plan undercuts, shown by a flow.
     ensures planned { (w : Four) → IsCommand (map string_bytes words.now) (command.Plan w)

@@ -1,10 +1,11 @@
-ghost use Rattle.std.specs.Prelude.{◌≡◌, ◌≢◌, ℕ, ◌<◌, ◌≤◌, List, ◌++◌, length, vec_len, Some, None, IfOk, OnOk, OnErr};
+ghost use Rattle.std.specs.Prelude.{◌≡◌, ◌≢◌, ℕ, ◌<◌, ◌≤◌, List, ◌++◌, length, Some, None, OnOk, OnErr};
 ghost use Rattle.nb_outside.specs.Counts.{HasRisen, HasRisenBy};
 ghost use Rattle.nb_outside.specs.Streams.{Takes, IsAtEnd};
 ghost use Rattle.elastic_notebook.specs.Reading.{MayGoOn, KeepsAll};
 
 use nb_outside::{ReadEnd, Source};
-use std::alloc::{AllocError, Global};
+use node_intake::read_room;
+use std::alloc::Global;
 
 /// How reading a source to its end ended.
 #[derive(Clone, Copy, Debug, PartialEq, Eq)]
@@ -18,9 +19,6 @@ pub enum ReadingEnd {
     /// Memory ran out.
     OutOfMemory,
 }
-
-/// How many bytes each read asks for.
-const PIECE: usize = 65_536;
 
 /// Reads one piece and adds it to the bytes. `None` if there may be more.
 fn read_piece<S: Source>(
@@ -47,13 +45,6 @@ fn read_piece<S: Source>(
     }
 }
 
-/// Room for a piece with this number of bytes.
-fn room(alloc: Global, count: usize) -> Result<Vec<u8>, AllocError>
-    ensures { IfOk result (λ piece. vec_len piece ≡ count) }
-{
-    vec![in alloc; 0u8; count]
-}
-
 /// Reads a source to its end, and adds what it gives to the bytes.
 pub fn read_all<S: Source>(alloc: Global, source: &mut S, bytes: &mut Vec<u8>) -> ReadingEnd
     ensures taken { (taken : List ℕ) × Takes (S.left source.old) (S.left source.new) taken
@@ -63,7 +54,7 @@ pub fn read_all<S: Source>(alloc: Global, source: &mut S, bytes: &mut Vec<u8>) -
     ensures too_many { result ≡ ReadingEnd.TooMany → HasRisenBy 4294967295 (S.reads source.old) (S.reads source.new) }
     ensures faults_stay { S.faults source.old ≤ S.faults source.new }
 {
-    let Ok(mut piece) = room(alloc, PIECE) else {
+    let Ok(mut piece) = read_room(alloc) else {
         return ReadingEnd::OutOfMemory;
     };
     for turn in 0..u32::MAX {

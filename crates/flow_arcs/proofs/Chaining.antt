@@ -86,9 +86,9 @@ module _ (leaving : Bool) (nodes : ℕ) (arcs : List Arc) (on : List ℕ) (i : �
     next_skips = more_skips;
   }
 
-  pub chained_by : (place : ℕ) (first' next' : List ℕ) → place ≡ get_or first node place → first' ≡ set first node (i + 1) → next' ≡ next ++ place ∷ [] → IsChain leaving nodes arcs on (i + 1) first' next'
-  chained_by place first' next' p f n = let k = h.firsts in let e = get_or_read first node place (omega arith) p 0 in rw (f, n, e) chained
+  pub chained_by : (position : ℕ) (first' next' : List ℕ) → position ≡ get_or first node position → first' ≡ set first node (i + 1) → next' ≡ next ++ position ∷ [] → IsChain leaving nodes arcs on (i + 1) first' next'
+  chained_by position first' next' p f n = let k = h.firsts in let e = get_or_read first node position (omega arith) p 0 in rw (f, n, e) chained
 
-  pub unchained_by : (place : ℕ) (first' next' : List ℕ) → place ≡ get_or first node place → first' ≡ first → next' ≡ next ++ place ∷ [] → (HasRoom leaving arcs on i → ⊥)
+  pub unchained_by : (position : ℕ) (first' next' : List ℕ) → position ≡ get_or first node position → first' ≡ first → next' ≡ next ++ position ∷ [] → (HasRoom leaving arcs on i → ⊥)
       → IsChain leaving nodes arcs on (i + 1) first' next'
-  unchained_by place first' next' p f n none = let k = h.firsts in let e = get_or_read first node place (omega arith) p 0 in rw (f, n, e) (unchained none)
+  unchained_by position first' next' p f n none = let k = h.firsts in let e = get_or_read first node position (omega arith) p 0 in rw (f, n, e) (unchained none)

@@ -186,21 +186,21 @@ taken_small (arc ∷ arcs) (x ∷ on) node h =
     elim (arc.to == node) as (λ c. cond c x 0 + taken arcs on node ≤ (suc (length arcs)) * 2 ^ 64) [ true ↦ omega arith | false ↦ omega arith ]
 
 -- a walk begins at an entry above the numbers of all arcs that leave the node
-pub walk_begins : (ts xs : List ℕ) (node place : ℕ) → length xs ≡ length ts → place ≤ length ts → ((e : ℕ) → place ≤ e → e < length ts → get_or ts e 0 ≢ node)
-    → below (length ts) ts xs node ≡ below place ts xs node
-walk_begins ts xs node place l b f = below_skip (length ts - place) place (length ts) ts xs node (omega arith) (omega arith) l f
+pub walk_begins : (ts xs : List ℕ) (node position : ℕ) → length xs ≡ length ts → position ≤ length ts → ((e : ℕ) → position ≤ e → e < length ts → get_or ts e 0 ≢ node)
+    → below (length ts) ts xs node ≡ below position ts xs node
+walk_begins ts xs node position l b f = below_skip (length ts - position) position (length ts) ts xs node (omega arith) (omega arith) l f
 
 -- an arc of the walk
-pub walk_holds : (ts xs : List ℕ) (node e place : ℕ) → place ≡ suc e → e < length ts → length xs ≡ length ts → get_or ts e 0 ≡ node → get_or xs e 0 ≤ below place ts xs node
-walk_holds ts xs node e place q l m t =
+pub walk_holds : (ts xs : List ℕ) (node e position : ℕ) → position ≡ suc e → e < length ts → length xs ≡ length ts → get_or ts e 0 ≡ node → get_or xs e 0 ≤ below position ts xs node
+walk_holds ts xs node e position q l m t =
     let s = below_step e ts xs node l m in
     let h = rw (eq-eqb (get_or ts e 0) node t) at s in
     rw q (omega arith)
 
 -- and the next one
-pub walk_step : (ts xs : List ℕ) (node e q place : ℕ) → place ≡ suc e → e < length ts → length xs ≡ length ts → get_or ts e 0 ≡ node → q ≤ e → ((k : ℕ) → q ≤ k → k < e → get_or ts k 0 ≢ node)
-    → below place ts xs node ≡ below q ts xs node + get_or xs e 0
-walk_step ts xs node e q place p l m t b f =
+pub walk_step : (ts xs : List ℕ) (node e q position : ℕ) → position ≡ suc e → e < length ts → length xs ≡ length ts → get_or ts e 0 ≡ node → q ≤ e → ((k : ℕ) → q ≤ k → k < e → get_or ts k 0 ≢ node)
+    → below position ts xs node ≡ below q ts xs node + get_or xs e 0
+walk_step ts xs node e q position p l m t b f =
     let s = below_step e ts xs node l m in
     let h = rw (eq-eqb (get_or ts e 0) node t) at s in
     let r = below_skip (e - q) q e ts xs node (omega arith) (omega arith) m f in

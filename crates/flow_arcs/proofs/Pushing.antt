@@ -44,9 +44,9 @@ pub record IsPushed (arcs : List Arc) (old on : List ℕ) (tree : List Reached) 
   pub moved : IsMoved arcs old on (reached_at tree at).node amount
 
 -- one node has one entry
-one_place : (arcs : List Arc) (on : List ℕ) (tree : List Reached) (seen : List ℕ) (j k : ℕ) → IsSearch arcs on tree seen → j < length tree → k < length tree
+one_position : (arcs : List Arc) (on : List ℕ) (tree : List Reached) (seen : List ℕ) (j k : ℕ) → IsSearch arcs on tree seen → j < length tree → k < length tree
     → (reached_at tree j).node ≡ (reached_at tree k).node → j ≡ k
-one_place arcs on tree seen j k h l m e =
+one_position arcs on tree seen j k h l m e =
     let p = h.marked j l in let q = h.marked k m in let r = ap (λ n. get_or seen n 0) e in omega arith
 
 apart : (arcs : List Arc) (on : List ℕ) (tree : List Reached) (seen : List ℕ) (j k : ℕ) → IsSearch arcs on tree seen → j < k → k < length tree → (x y : Reached) → x ≡ reached_at tree j → y ≡ reached_at tree k
@@ -63,10 +63,10 @@ apart arcs on tree seen j k h l m x y p q lj lk e = at x.leaving y.leaving lj.be
     same_end f = ap (λ n. f (arc_at arcs n)) e
 
     twice : x.node ≡ y.node → ⊥
-    twice s = let o = one_place arcs on tree seen j k h (omega arith) m (sym node_x ∙ (s ∙ node_y)) in omega arith
+    twice s = let o = one_position arcs on tree seen j k h (omega arith) m (sym node_x ∙ (s ∙ node_y)) in omega arith
 
     round : (reached_at tree x.back).node ≡ y.node → ⊥
-    round s = let b = lj.earlier in let o = one_place arcs on tree seen x.back k h (omega arith) m (s ∙ node_y) in omega arith
+    round s = let b = lj.earlier in let o = one_position arcs on tree seen x.back k h (omega arith) m (s ∙ node_y) in omega arith
 
     at : (v w : Bool) → near_end v (arc_at arcs x.arc) ≡ (reached_at tree x.back).node → far_end v (arc_at arcs x.arc) ≡ x.node → far_end w (arc_at arcs y.arc) ≡ y.node → ⊥
     at true true b a c = twice (sym a ∙ (same_end (λ r. r.to) ∙ c))

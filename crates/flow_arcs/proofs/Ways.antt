@@ -167,20 +167,20 @@ left_source net rest rank rank' turn stop mark h r = record {
 }
 
 -- another entry of the list of the last stop's node
-pub went_on : (net : Net) (rest rank turn : List ℕ) (stop : Stop) (more : List Stop) (arc place : ℕ) → IsNet net → IsSending net rest rank turn stop more → get_or (tails net.arcs) arc 0 ≡ stop.node
-    → ((e : ℕ) → place ≡ e + 1 → (e < length (heads net.arcs)) × (get_or (tails net.arcs) e 0 ≡ get_or (tails net.arcs) arc 0))
-    → IsSending net rest rank (set turn stop.node place) stop more
-went_on net rest rank turn stop more arc place n h t p = record {
+pub went_on : (net : Net) (rest rank turn : List ℕ) (stop : Stop) (more : List Stop) (arc position : ℕ) → IsNet net → IsSending net rest rank turn stop more → get_or (tails net.arcs) arc 0 ≡ stop.node
+    → ((e : ℕ) → position ≡ e + 1 → (e < length (heads net.arcs)) × (get_or (tails net.arcs) e 0 ≡ get_or (tails net.arcs) arc 0))
+    → IsSending net rest rank (set turn stop.node position) stop more
+went_on net rest rank turn stop more arc position n h t p = record {
   paired = h.paired;
   ranks = h.ranks;
-  turns = let l = length-set turn stop.node place in let k = h.turns in omega arith;
+  turns = let l = length-set turn stop.node position in let k = h.turns in omega arith;
   leaves = λ node e q. elim (cases_eq node stop.node) [
     | inl s ↦ (let b : stop.node < length turn = (let w = way_node net rest rank stop more n h.way in let k = h.turns in omega arith) in
-        let g = get_or-set_same turn stop.node place 0 b in
+        let g = get_or-set_same turn stop.node position 0 b in
         let r = rw (s, g) at q in
         let f = p e r in
         (f.0, f.1 ∙ (t ∙ sym s)))
-    | inr s ↦ h.leaves node e (sym (get_or-set_other turn stop.node node place 0 s) ∙ q)
+    | inr s ↦ h.leaves node e (sym (get_or-set_other turn stop.node node position 0 s) ∙ q)
   ];
   way = h.way;
 }
@@ -216,20 +216,20 @@ pub begins_sending : (net : Net) (rest rank turn : List ℕ) (stop : Stop) → I
 begins_sending net rest rank turn stop n p r t l z f = record { paired = p; ranks = r; turns = t; leaves = l; way = (z, f) }
 
 -- the arc whose turn it is
-pub turn_arc : (net : Net) (rest rank turn : List ℕ) (stop : Stop) (more : List Stop) (place : ℕ) → IsNet net → IsSending net rest rank turn stop more → place ≡ get_or turn stop.node place → place ≢ 0
-    → (place - 1 < length (heads net.arcs)) × (get_or (tails net.arcs) (place - 1) 0 ≡ stop.node)
-turn_arc net rest rank turn stop more place n h r z =
+pub turn_arc : (net : Net) (rest rank turn : List ℕ) (stop : Stop) (more : List Stop) (position : ℕ) → IsNet net → IsSending net rest rank turn stop more → position ≡ get_or turn stop.node position → position ≢ 0
+    → (position - 1 < length (heads net.arcs)) × (get_or (tails net.arcs) (position - 1) 0 ≡ stop.node)
+turn_arc net rest rank turn stop more position n h r z =
     let w = way_node net rest rank stop more n h.way in
     let k = h.turns in
-    let g = get_or_read turn stop.node place (omega arith) r 0 in
-    h.leaves stop.node (place - 1) (omega arith)
+    let g = get_or_read turn stop.node position (omega arith) r 0 in
+    h.leaves stop.node (position - 1) (omega arith)
 
 -- where a node's list goes on
-pub next_arc : (net : Net) (to first next : List ℕ) (arc place : ℕ) → IsTurns net to first next → arc < length (heads net.arcs) → place ≡ get_or next arc place
-    → (e : ℕ) → place ≡ e + 1 → (e < length (heads net.arcs)) × (get_or (tails net.arcs) e 0 ≡ get_or (tails net.arcs) arc 0)
-next_arc net to first next arc place t k r e q =
+pub next_arc : (net : Net) (to first next : List ℕ) (arc position : ℕ) → IsTurns net to first next → arc < length (heads net.arcs) → position ≡ get_or next arc position
+    → (e : ℕ) → position ≡ e + 1 → (e < length (heads net.arcs)) × (get_or (tails net.arcs) e 0 ≡ get_or (tails net.arcs) arc 0)
+next_arc net to first next arc position t k r e q =
     let l = t.nexts in
-    let g = get_or_read next arc place (omega arith) r 0 in
+    let g = get_or_read next arc position (omega arith) r 0 in
     t.goes_on arc e (omega arith)
 
 -- the node that an arc enters
@@ -239,12 +239,12 @@ enters net to first next arc node t k r =
     rw (← t.ends) (sym (get_or_read to arc node (omega arith) r 0))
 
 -- an arc is put before the others of its node
-pub linked : (net : Net) (to first next : List ℕ) (e node place : ℕ) → IsNet net → IsTurns net to first next → e < length (heads net.arcs) → node ≡ get_or (tails net.arcs) e 0 → place ≡ get_or first node 0
-    → IsTurns net to (set first node (e + 1)) (set next e place)
-linked net to first next e node place n h k q p = record {
+pub linked : (net : Net) (to first next : List ℕ) (e node position : ℕ) → IsNet net → IsTurns net to first next → e < length (heads net.arcs) → node ≡ get_or (tails net.arcs) e 0 → position ≡ get_or first node 0
+    → IsTurns net to (set first node (e + 1)) (set next e position)
+linked net to first next e node position n h k q p = record {
   ends = h.ends;
   firsts = let l = length-set first node (e + 1) in let f = h.firsts in omega arith;
-  nexts = let l = length-set next e place in let f = h.nexts in omega arith;
+  nexts = let l = length-set next e position in let f = h.nexts in omega arith;
   leaves = λ x d r. elim (cases_eq x node) [
     | inl s ↦ (let b : node < length first = (let t = tails_below net.nodes net.arcs n.joined e k in let f = h.firsts in omega arith) in
         let g = get_or-set_same first node (e + 1) 0 b in
@@ -256,11 +256,11 @@ linked net to first next e node place n h k q p = record {
   goes_on = λ x d r. elim (cases_eq x e) [
     | inl s ↦ (let f = h.nexts in
         let b : e < length next = omega arith in
-        let g = get_or-set_same next e place 0 b in
+        let g = get_or-set_same next e position 0 b in
         let w = rw (s, g) at r in
         let m = h.leaves node d (sym p ∙ w) in
         (m.0, rw s (m.1 ∙ q)))
-    | inr s ↦ h.goes_on x d (sym (get_or-set_other next e x place 0 s) ∙ r)
+    | inr s ↦ h.goes_on x d (sym (get_or-set_other next e x position 0 s) ∙ r)
   ];
 }
 

@@ -7,11 +7,11 @@ use Rattle.flow_arcs.specs.Pairs.{heads, tails, carried, IsPaired}
 
 -- each entry is 0 or one more than the number of a directed arc that leaves this node
 abbrev pub LeavesEach : List Arc → List ℕ → Type 0
-LeavesEach arcs places = (node e : ℕ) → slice_index places node ≡ e + 1 → (e < length (heads arcs)) × (slice_index (tails arcs) e ≡ node)
+LeavesEach arcs positions = (node e : ℕ) → slice_index positions node ≡ e + 1 → (e < length (heads arcs)) × (slice_index (tails arcs) e ≡ node)
 
 -- each entry is 0 or one more than the number of a directed arc that leaves the same node as this one
 abbrev pub LeavesSame : List Arc → List ℕ → Type 0
-LeavesSame arcs places = (d e : ℕ) → slice_index places d ≡ e + 1 → (e < length (heads arcs)) × (slice_index (tails arcs) e ≡ slice_index (tails arcs) d)
+LeavesSame arcs positions = (d e : ℕ) → slice_index positions d ≡ e + 1 → (e < length (heads arcs)) × (slice_index (tails arcs) e ≡ slice_index (tails arcs) d)
 
 -- the directed arcs of each node as linked lists
 pub record IsTurns (net : Net) (to first next : List ℕ) : Type 0 where

@@ -47,16 +47,16 @@ pub fn sums_at(net: &Network, on: &[u64], node: u32) -> Sums
     let lists = net.lists();
     let mut given = 0u128;
     let mut taken = 0u128;
-    let mut place = number_at(&lists.first, node);
-    'arcs: while place > 0 {
-        let arc = place as usize - 1;
+    let mut position = number_at(&lists.first, node);
+    'arcs: while position > 0 {
+        let arc = position as usize - 1;
         let amount = u128::from(on[arc / 2]);
         if arc % 2 == 0 {
             given += amount;
         } else {
             taken += amount;
         }
-        place = lists.next[arc];
+        position = lists.next[arc];
     }
     Sums { given, taken }
 }

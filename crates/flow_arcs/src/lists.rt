@@ -60,8 +60,8 @@ impl Lists {
         ensures len { vec_len self.new.next ≡ vec_len self.old.next + 1 }
         ensures capacity { vec_capacity self.new.next ≡ vec_capacity self.old.next }
     {
-        let place = self.first[node as usize];
-        self.next.push_reserved(place);
+        let position = self.first[node as usize];
+        self.next.push_reserved(position);
         self.first[node as usize] = self.next.len() as u32;
     }
 }

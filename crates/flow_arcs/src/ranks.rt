@@ -41,9 +41,9 @@ impl Ranking {
     fn give(&mut self, node: u32, value: u32) -> Result<(), AllocError>
         ensures { OnOk result (length self.new.rank.items ≡ length self.old.rank.items) }
     {
-        if let Some(place) = self.rank.get_mut(node as usize) {
-            if *place == SHUT {
-                *place = value;
+        if let Some(position) = self.rank.get_mut(node as usize) {
+            if *position == SHUT {
+                *position = value;
                 self.order.push(node)?;
             }
         }
@@ -55,16 +55,16 @@ impl Ranking {
         ensures { OnOk result (length self.new.rank.items ≡ length self.old.rank.items) }
     {
         let farther = number_at(&self.rank, node).saturating_add(1);
-        let mut place = number_at(&turns.first, node);
+        let mut position = number_at(&turns.first, node);
         'arcs: for _ in 0..rest.len() {
-            if place == 0 {
+            if position == 0 {
                 break;
             }
-            let arc = place - 1;
+            let arc = position - 1;
             if has_room(rest, partner(arc)) {
                 self.give(number_at(&turns.to, arc), farther)?;
             }
-            place = number_at(&turns.next, arc);
+            position = number_at(&turns.next, arc);
         }
         Ok(())
     }
@@ -100,9 +100,9 @@ fn lift(arcs: &[Arc], rank: &mut Vec<u32>) -> bool
     let mut lifted = false;
     for arc in arcs {
         let least = number_at(rank, arc.to).saturating_add(1);
-        if let Some(place) = rank.get_mut(arc.from as usize) {
-            if *place < least {
-                *place = least;
+        if let Some(position) = rank.get_mut(arc.from as usize) {
+            if *position < least {
+                *position = least;
                 lifted = true;
             }
         }

@@ -175,11 +175,11 @@ impl Sender {
         ensures sending { OnOk result (IsSending net.now self.new.rest.items self.new.rank.items self.new.turn.items self.new.last self.new.before) }
         ensures carried { OnOk result (IsCarried net.now.arcs self.old.rest.items self.new.rest.items (self.old.last ∷ self.old.before) (self.new.last ∷ self.new.before)) }
     {
-        let place = self.turn[self.last.node as usize];
-        if place == 0 || self.last.need == 0 {
+        let position = self.turn[self.last.node as usize];
+        if position == 0 || self.last.need == 0 {
             return Ok(self.leave(net));
         }
-        self.try_arc(net, turns, place - 1)?;
+        self.try_arc(net, turns, position - 1)?;
         Ok(true)
     }
 

@@ -98,8 +98,8 @@ fn ends(arcs: &[Arc], number: usize) -> (u32, u32) {
 }
 
 /// The number at that index, or 0 after the end.
-fn at(numbers: &[u64], place: usize) -> u64 {
-    match numbers.get(place) {
+fn at(numbers: &[u64], position: usize) -> u64 {
+    match numbers.get(position) {
         Some(number) => *number,
         None => 0,
     }
@@ -125,11 +125,11 @@ fn shortest_paths(
                 && at(&round, from as usize) == step
                 && at(&round, to as usize) == 0
             {
-                if let (Some(place), Some(last)) = (
+                if let (Some(position), Some(last)) = (
                     round.get_mut(to as usize),
                     via.get_mut(to as usize),
                 ) {
-                    *place = step.saturating_add(1);
+                    *position = step.saturating_add(1);
                     *last = (number as u64).saturating_add(1);
                 }
             }

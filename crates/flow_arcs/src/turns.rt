@@ -68,8 +68,8 @@ fn link(net: &Network, turns: &mut Turns, arc: u32)
     ensures { IsTurns net.now turns.new.to.items turns.new.first.items turns.new.next.items }
 {
     let node = turns.to[partner(arc) as usize] as usize;
-    let place = turns.first[node];
-    turns.next[arc as usize] = place;
+    let position = turns.first[node];
+    turns.next[arc as usize] = position;
     turns.first[node] = arc + 1;
 }
 

@@ -60,7 +60,10 @@ pub enum GraphFault {
 impl fmt::Display for GraphFault {
     fn fmt<W: fmt::Write>(&self, f: &mut fmt::Formatter<W>) -> fmt::Result {
         match *self {
-            GraphFault::BadWriter(v) => write!(f, "version {v} has a bad writer or place"),
+            GraphFault::BadWriter(v) => write!(
+                f,
+                "version {v} has a bad writer, or is out of order"
+            ),
             GraphFault::BadRead(c) => write!(f, "cell {c} has bad reads or missed names"),
             GraphFault::TwoActive(v) => write!(
                 f,

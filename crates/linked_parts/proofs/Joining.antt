@@ -9,7 +9,7 @@ use Rattle.py_heap.specs.declared.state.State.{State}
 use Rattle.py_machine.specs.Marked.{Name}
 use Rattle.linked_parts.specs.Parts.{Reaches, Linked, itself, shared, back, on}
 use Rattle.linked_parts.specs.Labels.{name_at, joined, IsRelabelled, Joins, Meets, IsMet, AreMet, AreClasses, IsLabelling}
-use Rattle.linked_parts.proofs.Names.{AreNames, one_place, linked_values}
+use Rattle.linked_parts.proofs.Names.{AreNames, one_position, linked_values}
 
 -- ---- one label in place of another, name by name
 
@@ -72,8 +72,8 @@ classes_first s names labels owners n size same none =
       least = λ k l. let e : slice_index labels k ≡ k = same k l in omega arith;
       heads = λ k l. ap (slice_index labels) (same k l);
       linked = λ j k j_in k_in e.
-          let same_place : j ≡ k = sym (same j j_in) ∙ (e ∙ same k k_in) in
-          subst (λ z. Linked s (name_at names j) (name_at names z)) same_place (itself (name_at names j) (n.valued j j_in));
+          let same_position : j ≡ k = sym (same j j_in) ∙ (e ∙ same k k_in) in
+          subst (λ z. Linked s (name_at names j) (name_at names z)) same_position (itself (name_at names j) (n.valued j j_in));
       owned = λ at k e. elim (cases_lt at (length s.heap)) [
         | inl l ↦ absurd (none-some k (sym (get_or-replicate (length s.heap) at None None l) ∙ (ap (λ (os : List (Option ℕ)). get_or os at None) (sym none) ∙ e)))
         | inr past ↦ absurd (none-some k (sym (get_or_past owners at None (omega arith)) ∙ e))
@@ -280,7 +280,7 @@ module _ (s : State) (names : List Name) (n : AreNames s names) (labels : List �
     (m : AreMet s names labels owners (length names)) where
   same_label : (x y : Name) → Linked s x y → (j k : ℕ) → j < length names → k < length names → name_at names j ≡ x → name_at names k ≡ y
       → slice_index labels j ≡ slice_index labels k
-  same_label _ _ (itself x v) j k j_in k_in e f = ap (slice_index labels) (one_place s names n j k j_in k_in (e ∙ sym f))
+  same_label _ _ (itself x v) j k j_in k_in e f = ap (slice_index labels) (one_position s names n j k j_in k_in (e ∙ sym f))
   same_label _ _ (shared x y at p q) j k j_in k_in e f =
       let a = m j j_in at (subst (λ z. Reaches s z at) (sym e) p) in
       let b = m k k_in at (subst (λ z. Reaches s z at) (sym f) q) in
@@ -288,7 +288,7 @@ module _ (s : State) (names : List Name) (n : AreNames s names) (labels : List �
       sym a.2 ∙ (ap (slice_index labels) o ∙ b.2)
   same_label _ _ (back x y l) j k j_in k_in e f = sym (same_label x y l k j k_in j_in f e)
   same_label _ _ (on x y z l h) j k j_in k_in e f =
-      let w = n.placed y (linked_values s x y l).1 in
+      let w = n.positioned y (linked_values s x y l).1 in
       same_label x y l j w.0 j_in w.1 e w.2 ∙ same_label y z h w.0 k w.1 k_in w.2 f
 
   pub labelling : IsLabelling s names labels

@@ -7,12 +7,12 @@ use Rattle.py_machine.specs.Marked.{Name}
 use Rattle.graph_model.specs.Faults.{TextBelow, Ascends, least_name}
 
 module _ {X : Type 0} where
-  at_place : (y : X) (ys : List X) (x : X) (k : ℕ) → k < length (y ∷ ys) → get_or (y ∷ ys) k x ≡ x → (y ≡ x) ⊎ Contains ys x
-  at_place y ys x zero l e = inl e
-  at_place y ys x (suc k) l e = inr (k, omega arith, e)
+  at_position : (y : X) (ys : List X) (x : X) (k : ℕ) → k < length (y ∷ ys) → get_or (y ∷ ys) k x ≡ x → (y ≡ x) ⊎ Contains ys x
+  at_position y ys x zero l e = inl e
+  at_position y ys x (suc k) l e = inr (k, omega arith, e)
 
   pub cons_cases : (y : X) (ys : List X) (x : X) → Contains (y ∷ ys) x → (y ≡ x) ⊎ Contains ys x
-  cons_cases y ys x h = at_place y ys x h.0 h.1 h.2
+  cons_cases y ys x h = at_position y ys x h.0 h.1 h.2
 
   pub first_in : (y : X) (ys : List X) → Contains (y ∷ ys) y
   first_in y ys = (0, omega arith, refl)

@@ -66,7 +66,7 @@ same_name x y e = slice_cmp-IsAntisymmetric nat_cmp-IsAntisymmetric x y (is_equa
 -- these are the names with a value, each before the next
 pub record AreNames (s : State) (names : List Name) : Type 0 where
   pub rises : (j k : ℕ) → j < k → k < length names → TextBelow (name_at names j) (name_at names k)
-  pub placed : (x : Name) → HasValue s x → (k : ℕ) × (k < length names) × (name_at names k ≡ x)
+  pub positioned : (x : Name) → HasValue s x → (k : ℕ) × (k < length names) × (name_at names k ≡ x)
   pub valued : (k : ℕ) → k < length names → HasValue s (name_at names k)
 
 keys_are_names : (s : State) → AreNames s (finite.keys s.globals)
@@ -74,7 +74,7 @@ keys_are_names s =
     let names : List Name = finite.keys s.globals in
     record {
       rises = λ j k l k_in. rising (finite.entries s.globals) (is_true _ (finite.entries_sorted s.globals)) j k [] l k_in;
-      placed = λ x v.
+      positioned = λ x v.
           let any : list_any (eq_by_cmp (slice_cmp nat_cmp) x) names ≡ true = sym (finite.contains_key-keys s.globals x) ∙ ap is_some v.1 in
           let c = Contains-from_any same_name x names any in
           (c.0, c.1, get_or_default names c.0 [] x c.1 ∙ c.2);
@@ -86,8 +86,8 @@ keys_are_names s =
 pub are_names : (s : State) (names : List Name) → names ≡ finite.keys s.globals → AreNames s names
 are_names s names e = subst (AreNames s) (sym e) (keys_are_names s)
 
-pub one_place : (s : State) (names : List Name) → AreNames s names → (j k : ℕ) → j < length names → k < length names → name_at names j ≡ name_at names k → j ≡ k
-one_place s names n j k j_in k_in e = elim (cases_order j k) [
+pub one_position : (s : State) (names : List Name) → AreNames s names → (j k : ℕ) → j < length names → k < length names → name_at names j ≡ name_at names k → j ≡ k
+one_position s names n j k j_in k_in e = elim (cases_order j k) [
   | inl same ↦ same
   | inr (inl l) ↦ absurd (never_below_itself (name_at names k) (subst (λ x. TextBelow x (name_at names k)) e (n.rises j k l k_in)))
   | inr (inr l) ↦ absurd (never_below_itself (name_at names j) (subst (λ x. TextBelow x (name_at names j)) (sym e) (n.rises k j l j_in)))

@@ -4,7 +4,7 @@ use Rattle.std.specs.Prelude.{Contains, ◌↔◌, All, AllPairs}
 use Rattle.std.specs.List.Sorted.{IsPermutation, IsSorted}
 use Rattle.std.specs.Ordering.{nat_cmp}
 use Rattle.std.proofs.Common.{eqb}
-use Rattle.std.proofs.lemmas.Bool.{cases_eq, cases_order}
+use Rattle.std.proofs.lemmas.Bool.{cases_eq, cases_lt, cases_order}
 use Rattle.std.proofs.lemmas.Bool.Decides.{Decides-eqb}
 use Rattle.std.proofs.lemmas.Cmp.{nat_eq_equiv}
 use Rattle.std.proofs.lemmas.List.Elements.{All-nil, All-push, Contains-append_left, Contains-push, Contains-push_cases}
@@ -24,13 +24,6 @@ use Rattle.linked_parts.proofs.Names.{AreNames, linked_values}
 
 -- ---- the names with one label
 
-pub under_none : (names : List Name) (labels : List ℕ) (root : ℕ) → AreUnder names labels root 0 []
-under_none names labels root = record {
-  listed = λ x h. absurd (let none : h.0 < 0 = h.1 in omega arith);
-  has = λ k l e. absurd (omega arith);
-  ascends = λ rise. tt;
-}
-
 pub under_push : (names : List Name) (labels : List ℕ) (root count : ℕ) (own : List Name) → AreUnder names labels root count own → count < length names
     → slice_index labels count ≡ root → AreUnder names labels root (count + 1) (own ++ name_at names count ∷ [])
 under_push names labels root count own u l e = record {
@@ -46,13 +39,22 @@ under_push names labels root count own u l e = record {
       (λ x h. let w = u.listed x h in subst (λ z. TextBelow z (name_at names count)) w.3 (rise w.0 count w.1 l));
 }
 
-pub under_skip : (names : List Name) (labels : List ℕ) (root count : ℕ) (own : List Name) → AreUnder names labels root count own
-    → slice_index labels count ≢ root → AreUnder names labels root (count + 1) own
-under_skip names labels root count own u n = record {
+-- no name below a label's own number has it
+pub under_start : (names : List Name) (labels : List ℕ) (root : ℕ) → ((k : ℕ) → k < length names → slice_index labels k ≤ k) → root ≤ length names → AreUnder names labels root root []
+under_start names labels root least in_ = record {
+  listed = λ x h. absurd (let none : h.0 < 0 = h.1 in omega arith);
+  has = λ k l e. let m : slice_index labels k ≤ k = least k (omega arith) in absurd (omega (arith, m, e));
+  ascends = λ rise. tt;
+}
+
+-- names without the label change nothing
+pub under_until : (names : List Name) (labels : List ℕ) (root count until : ℕ) (own : List Name) → AreUnder names labels root count own → count ≤ until
+    → ((k : ℕ) → count ≤ k → k < until → slice_index labels k ≢ root) → AreUnder names labels root until own
+under_until names labels root count until own u up none = record {
   listed = λ x h. let w = u.listed x h in (w.0, omega (arith, w.1), w.2, w.3);
-  has = λ k k_in f. elim (cases_eq k count) [
-    | inl same ↦ absurd (n (ap (slice_index labels) (sym same) ∙ f))
-    | inr other ↦ u.has k (omega arith) f
+  has = λ k k_in e. elim (cases_lt k count) [
+    | inl low ↦ u.has k low e
+    | inr high ↦ absurd (none k (omega arith) k_in e)
   ];
   ascends = u.ascends;
 }
@@ -72,7 +74,7 @@ module _ (s : State) (names : List Name) (n : AreNames s names) (labels : List �
               let l : Linked s (name_at names j.0) (name_at names k.0) = (b.linked j.0 k.0 j.1 k.1).0 (j.2 ∙ sym k.2) in
               subst (λ z. Linked s x z) k.3 (subst (λ z. Linked s z (name_at names k.0)) j.3 l)),
           (λ l.
-              let k = n.placed y (linked_values s x y l).1 in
+              let k = n.positioned y (linked_values s x y l).1 in
               let m : Linked s (name_at names j.0) (name_at names k.0) = subst (λ z. Linked s z (name_at names k.0)) (sym j.3) (subst (λ z. Linked s x z) (sym k.2) l) in
               let e : slice_index labels k.0 ≡ root = sym ((b.linked j.0 k.0 j.1 k.1).1 m) ∙ j.2 in
               subst (λ z. Contains own z) k.2 (u.has k.0 k.1 e)),
@@ -151,7 +153,7 @@ listed_all s names n labels b count list t l = record {
   parts = t.parts;
   ascends = t.ascends;
   whole = λ x v.
-      let k = n.placed x v in
+      let k = n.positioned x v in
       let least : slice_index labels k.0 ≤ k.0 = b.least k.0 k.1 in
       let w = t.has k.0 k.1 (omega (arith, least, k.1, l)) in
       (w.0, w.1, subst (λ z. Contains w.0.names z) k.2 w.2);

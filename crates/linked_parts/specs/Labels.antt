@@ -1,6 +1,6 @@
 -- Labels of names, as linked names are found: each name has the number of the least name of its class, and each object the
 -- number of the first name that was found to reach it.
-use Rattle.std.specs.Prelude.{◌≡◌, ℕ, ◌<◌, ◌≤◌, ◌==◌, ◌⊎◌, ◌↔◌, cond, List, [], Contains, Option, Some, None, length, slice_index, slice_index_or, slice_set}
+use Rattle.std.specs.Prelude.{◌≡◌, ◌≢◌, ℕ, ◌+◌, ◌<◌, ◌≤◌, ◌==◌, ◌⊎◌, ◌↔◌, cond, List, [], Contains, Option, Some, None, length, slice_index, slice_index_or, slice_set}
 use Rattle.py_heap.specs.declared.state.State.{State}
 use Rattle.py_machine.specs.Marked.{Name}
 use Rattle.graph_model.specs.Faults.{TextBelow, Ascends}
@@ -65,3 +65,15 @@ pub record AreUnder (names : List Name) (labels : List ℕ) (root count : ℕ) (
   pub listed : (x : Name) → Contains own x → (k : ℕ) × (k < count) × (slice_index labels k ≡ root) × (name_at names k ≡ x)
   pub has : (k : ℕ) → k < count → slice_index labels k ≡ root → Contains own (name_at names k)
   pub ascends : ((j k : ℕ) → j < k → k < length names → TextBelow (name_at names j) (name_at names k)) → Ascends TextBelow own
+
+-- from a name on, the first with this label; or the number of names, if there is none
+pub record IsFirstFrom (labels : List ℕ) (from label found : ℕ) : Type 0 where
+  pub low : from ≤ found
+  pub high : found ≤ length labels
+  pub is : found < length labels → slice_index labels found ≡ label
+  pub none : (k : ℕ) → from ≤ k → k < found → slice_index labels k ≢ label
+
+-- for each name the next with its label
+pub record AreNext (labels next : List ℕ) : Type 0 where
+  pub size : length next ≡ length labels
+  pub each : (k : ℕ) → k < length labels → IsFirstFrom labels (k + 1) (slice_index labels k) (slice_index next k)

@@ -97,8 +97,8 @@ impl Classes {
     {
         let found = state.reach(alloc, from_ref(&names[name]))?;
         let items = found.as_slice();
-        for place in items {
-            self.meet(*place as usize, name);
+        for position in items {
+            self.meet(*position as usize, name);
         }
         Ok(())
     }

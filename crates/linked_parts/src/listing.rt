@@ -1,10 +1,10 @@
-ghost use Rattle.std.specs.Prelude.{ℕ, ◌≡◌, ◌<◌, ◌↔◌, length, slice_index, IsTrue, Contains, IfOk};
+ghost use Rattle.std.specs.Prelude.{ℕ, ◌≡◌, ◌<◌, ◌≤◌, ◌↔◌, length, slice_index, IsTrue, Contains, IfOk};
 ghost use Rattle.std.specs.FinMap as finite;
 ghost use Rattle.graph_model.specs.Faults.{Ascends, least_name};
 ghost use Rattle.py_heap.specs.Objects.{IsHandleAt};
 ghost use Rattle.py_heap.specs.References.{IsClosed};
 ghost use Rattle.py_heap.specs.Reaching.{Reach};
-ghost use Rattle.linked_parts.specs.Labels.{name_at, IsLabelling, AreUnder};
+ghost use Rattle.linked_parts.specs.Labels.{name_at, IsLabelling, AreUnder, AreNext};
 ghost use Rattle.linked_parts.specs.Parts.{IsPartOf, ArePartsOf};
 
 use crate::labels::labels_of;
@@ -36,14 +36,34 @@ fn list_parts(
     requires labels { IsLabelling state.now names.now labels.now }
     ensures { IfOk result (λ parts. ArePartsOf state.now parts) }
 {
+    let next = next_of(alloc, labels.as_slice())?;
     let mut list = Items::new(alloc);
     for root in 0..names.len() {
         if has_label(labels, root, root) {
-            let part = part_under(alloc, state, names, labels, root)?;
+            let part = part_under(alloc, state, names, labels, next.as_slice(), root)?;
             list.push(part)?;
         }
     }
     Ok(Parts { list })
+}
+
+/// For each name the number of the next with its label, or how many names there are.
+fn next_of(alloc: Global, labels: &[usize]) -> Result<Items<usize>, AllocError>
+    requires { (k : ℕ) → k < length labels.now → slice_index labels.now k < length labels.now }
+    ensures { IfOk result (λ next. AreNext labels.now next) }
+{
+    let count = labels.len();
+    let mut next = Items::from_vec(vec![in alloc; count; count]?);
+    let mut first = Items::from_vec(vec![in alloc; count; count]?);
+    let mut index = count;
+    while index > 0 {
+        index -= 1;
+        let label = labels[index];
+        let found = first.as_slice()[label];
+        next.set(index, found);
+        first.set(label, index);
+    }
+    Ok(next)
 }
 
 /// The part with this label.
@@ -52,17 +72,19 @@ fn part_under(
     state: &State,
     names: &[Text],
     labels: &Items<usize>,
+    next: &[usize],
     root: usize,
 ) -> Result<Part, AllocError>
     requires closed { IsClosed state.now }
     requires names { names.now ≡ finite.keys state.now.globals }
     requires labels { IsLabelling state.now names.now labels.now }
+    requires next { AreNext labels.now next.now }
     requires within { root < length names.now }
     requires root { slice_index labels.now root ≡ root }
     ensures part { IfOk result (λ part. IsPartOf state.now part) }
     ensures names { IfOk result (λ part. AreUnder names.now labels.now root (length names.now) part.names) }
 {
-    let own = names_under(alloc, names, labels, root)?;
+    let own = names_under(alloc, names, labels, next, root)?;
     let objects = objects_of(alloc, state, own.as_slice())?;
     let handle = has_handle(state, objects.as_slice());
     Ok(Part {
@@ -72,22 +94,27 @@ fn part_under(
     })
 }
 
-/// The names with this label.
+/// The names with this label: the first is the one with its number, and each tells the next.
 fn names_under(
     alloc: Global,
     names: &[Text],
     labels: &Items<usize>,
+    next: &[usize],
     root: usize,
 ) -> Result<Items<Text>, AllocError>
-    requires { length labels.now ≡ length names.now }
+    requires size { length labels.now ≡ length names.now }
+    requires least { (k : ℕ) → k < length names.now → slice_index labels.now k ≤ k }
+    requires next { AreNext labels.now next.now }
+    requires within { root < length names.now }
+    requires root { slice_index labels.now root ≡ root }
     ensures { IfOk result (λ own. AreUnder names.now labels.now root (length names.now) own) }
 {
     let mut own = Items::new(alloc);
-    for index in 0..names.len() {
-        if has_label(labels, index, root) {
-            let name = copy_at(alloc, names, index)?;
-            own.push(name)?;
-        }
+    let mut index = root;
+    while index < names.len() {
+        let name = copy_at(alloc, names, index)?;
+        own.push(name)?;
+        index = next[index];
     }
     Ok(own)
 }

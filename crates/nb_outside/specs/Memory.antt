@@ -29,6 +29,9 @@ seen_feed feed = record { made = Some feed.answers.items; left = Some (drop feed
 abbrev pub answers_of : MemFeeds → List Drawn
 answers_of feeds = feeds.answers.items
 
+abbrev pub given_by : MemFeeds → ℕ → Option (List Drawn)
+given_by feeds kernel = Some (answers_of feeds)
+
 -- the feed that has nothing to give
 abbrev pub seen_none : NoFeed → Seen
 seen_none feed = record { made = Some []; left = Some []; faults = feed.faults }

@@ -25,12 +25,19 @@ pub trait Feed: Drop {
 
 /// Where the feeds of sessions come from.
 pub trait Feeds {
+    ghost use Rattle.std.specs.Prelude.{ℕ, List, Option};
+    ghost use Rattle.nb_outside.specs.declared.feed.Drawn.{Drawn};
     ghost use Rattle.nb_outside.specs.Feeds.{HasAll};
+
+    // The answers that the feed of this kernel's session is made with, if that is told.
+    ghost gives: { Self → ℕ → Option (List Drawn) };
 
     /// The feed of one session.
     type Feed: Feed;
 
     /// A feed for the session of this kernel. One that tells has all its answers left.
     fn open(&mut self, alloc: Global, kernel: u128) -> Result<Self::Feed, AllocError>
-        ensures { IfOk result (λ feed. HasAll (Self.Feed.seen feed)) };
+        ensures all { IfOk result (λ feed. HasAll (Self.Feed.seen feed)) }
+        ensures made { IfOk result (λ feed. (Self.Feed.seen feed).made ≡ gives self.old kernel) }
+        ensures same { gives self.new ≡ gives self.old };
 }

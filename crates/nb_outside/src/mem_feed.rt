@@ -66,15 +66,19 @@ impl MemFeeds {
 }
 
 impl Feeds for MemFeeds {
-    ghost use Rattle.nb_outside.specs.Memory.{answers_of, seen_feed, IsNewFeed};
+    ghost use Rattle.nb_outside.specs.Memory.{answers_of, given_by, seen_feed, IsNewFeed};
     ghost use Rattle.nb_outside.specs.Feeds.{HasAll};
 
     type Feed = MemFeed;
 
+    ghost gives = { given_by };
+
     fn open(&mut self, alloc: Global, _kernel: u128) -> Result<MemFeed, AllocError>
         ensures all { IfOk result (λ feed. HasAll (seen_feed feed)) }
-        ensures made { IfOk result (λ feed. IsNewFeed (answers_of self.old) (seen_feed feed)) }
-        ensures same { answers_of self.new ≡ answers_of self.old }
+        ensures made { IfOk result (λ feed. (seen_feed feed).made ≡ given_by self.old _kernel) }
+        ensures same { given_by self.new ≡ given_by self.old }
+        ensures new { IfOk result (λ feed. IsNewFeed (answers_of self.old) (seen_feed feed)) }
+        ensures answers { answers_of self.new ≡ answers_of self.old }
     {
         let answers = Vec::from_slice(alloc, self.answers.as_slice())?;
         Ok(MemFeed::new(answers))

@@ -42,6 +42,8 @@ impl<S: RandomSource + Copy> RandomFeeds<S> {
 impl<S: RandomSource + Copy> Feeds for RandomFeeds<S> {
     type Feed = RandomFeed<S>;
 
+    ghost gives = { λ feeds kernel. None };
+
     fn open(&mut self, _alloc: Global, _kernel: u128) -> Result<RandomFeed<S>, AllocError> {
         Ok(RandomFeed {
             random: self.random,

@@ -120,6 +120,10 @@ pub map_ok : {A E : Type 0} {P Q : Type 0} (r : Result A E) → (P → Q) → On
 map_ok (Ok a) f h = f h
 map_ok (Err e) f h = tt
 
+pub map_err : {A E : Type 0} {P Q : Type 0} (r : Result A E) → (P → Q) → OnErr r P → OnErr r Q
+map_err (Ok a) f h = tt
+map_err (Err e) f h = f h
+
 -- a node by its two lists
 pub two : (ss ts : List Taken) (es fs : List NodeError) → ss ≡ ts → es ≡ fs → ◌≡◌ {A = Node} (record { sessions = ss; errors = es }) (record { sessions = ts; errors = fs })
 two ss ts es fs p q = ap (λ (zs : List Taken). let n : Node = record { sessions = zs; errors = es } in n) p ∙ ap (λ (zs : List NodeError). let n : Node = record { sessions = ts; errors = zs } in n) q

@@ -14,5 +14,5 @@ mod session;
 #[cfg(test)]
 mod tests;
 
-pub use pieces::take_in;
+pub use pieces::{read_room, take_in};
 pub use session::{IntakeEnd, Session, TakenIn};

@@ -42,7 +42,7 @@ const MOST_SESSIONS: usize = 256;
 const MOST_REQUESTS: usize = 65_536;
 
 /// The index of this kernel's session, if there is one.
-fn place_of(sessions: &[Session], kernel: u128) -> Option<usize>
+fn index_of(sessions: &[Session], kernel: u128) -> Option<usize>
     ensures { MatchOption result (spec.session_of kernel (map taken_of sessions.now) ≡ None) (λ at. IsAt sessions.now kernel at) }
 {
     for (at, session) in sessions.iter().enumerate() {
@@ -83,7 +83,8 @@ impl Intake {
     }
 
     fn fail(&mut self, kind: NodeErrorKind, about: Option<About>) -> Result<(), AllocError>
-        ensures { OnOk result (self.new ≡ spec.failed self.old kind about) }
+        ensures ok { OnOk result (self.new ≡ spec.failed self.old kind about) }
+        ensures err { OnErr result (self.new ≡ self.old) }
     {
         self.errors.push(NodeError { kind, about })?;
         Ok(())
@@ -96,7 +97,8 @@ impl Intake {
         kernel: u128,
         header: Header,
     ) -> Result<(), AllocError>
-        ensures { OnOk result (self.new ≡ spec.failed self.old kind (Some (record { kernel = kernel; header = header }))) }
+        ensures ok { OnOk result (self.new ≡ spec.failed self.old kind (Some (record { kernel = kernel; header = header }))) }
+        ensures err { OnErr result (self.new ≡ self.old) }
     {
         self.fail(kind, Some(About { kernel, header }))
     }
@@ -104,7 +106,8 @@ impl Intake {
     /// Adds a session, of a kernel that has none.
     fn begin(&mut self, session: Session) -> Result<(), AllocError>
         requires { spec.session_of session.kernel self.old.sessions ≡ None }
-        ensures { OnOk result (self.new ≡ record self.old { sessions = self.old.sessions ++ taken_of session ∷ [] }) }
+        ensures ok { OnOk result (self.new ≡ record self.old { sessions = self.old.sessions ++ taken_of session ∷ [] }) }
+        ensures err { OnErr result (self.new ≡ self.old) }
     {
         self.sessions.push(session)?;
         Ok(())
@@ -121,8 +124,9 @@ impl Intake {
         channel: Channel,
     ) -> Result<(), AllocError>
         requires { spec.session_of kernel self.old.sessions ≡ None }
-        ensures { OnOk result (self.new ≡ spec.opening hosts self.old
+        ensures ok { OnOk result (self.new ≡ spec.opening hosts self.old
             (record { header = header; channel = channel; kernel = kernel; kind = MessageKind.Open host }) host None) }
+        ensures err { OnErr result (self.new ≡ self.old) }
     {
         if u64::from(hosts) <= host {
             return self.fail_about(NodeErrorKind::UnknownHost(host), kernel, header);
@@ -148,10 +152,11 @@ impl Intake {
         header: Header,
         channel: Channel,
     ) -> Result<(), AllocError>
-        ensures { OnOk result (self.new ≡ spec.opening hosts self.old
+        ensures ok { OnOk result (self.new ≡ spec.opening hosts self.old
             (record { header = header; channel = channel; kernel = kernel; kind = MessageKind.Open host }) host (spec.session_of kernel self.old.sessions)) }
+        ensures err { OnErr result (self.new ≡ self.old) }
     {
-        match place_of(&self.sessions, kernel) {
+        match index_of(&self.sessions, kernel) {
             Some(_) => self.fail_about(NodeErrorKind::OpenedTwice, kernel, header),
             None => self.open_new(alloc, hosts, host, kernel, header, channel),
         }
@@ -160,7 +165,8 @@ impl Intake {
     /// Puts a request to the session of its kernel, which is at that index.
     fn admit(&mut self, at: usize, kernel: u128, request: Request) -> Result<(), AllocError>
         requires { (s : Taken) × (slice_get self.old.sessions at ≡ Some s) × (s.kernel ≡ kernel) }
-        ensures { OnOk result (self.new ≡ record self.old { sessions = map (spec.with_request kernel request) self.old.sessions }) }
+        ensures ok { OnOk result (self.new ≡ record self.old { sessions = map (spec.with_request kernel request) self.old.sessions }) }
+        ensures err { OnErr result (self.new ≡ self.old) }
     {
         push_request(&mut self.sessions, at, request)
     }
@@ -172,10 +178,11 @@ impl Intake {
         channel: Channel,
         ask: Ask,
     ) -> Result<(), AllocError>
-        ensures { OnOk result (self.new ≡ spec.asking self.old
+        ensures ok { OnOk result (self.new ≡ spec.asking self.old
             (record { header = header; channel = channel; kernel = kernel; kind = MessageKind.Ask ask }) ask (spec.session_of kernel self.old.sessions)) }
+        ensures err { OnErr result (self.new ≡ self.old) }
     {
-        let Some(at) = place_of(&self.sessions, kernel) else {
+        let Some(at) = index_of(&self.sessions, kernel) else {
             return self.fail_about(NodeErrorKind::UnknownKernel, kernel, header);
         };
         if is_full(&self.sessions, at) {
@@ -199,7 +206,8 @@ impl Intake {
         hosts: u32,
         message: Message,
     ) -> Result<(), AllocError>
-        ensures { OnOk result (self.new ≡ spec.with_message hosts self.old (Ok message)) }
+        ensures ok { OnOk result (self.new ≡ spec.with_message hosts self.old (Ok message)) }
+        ensures err { OnErr result (self.new ≡ self.old) }
     {
         let Message {
             header,
@@ -217,6 +225,7 @@ impl Intake {
     fn take_fault(&mut self, alloc: Global, fault: MessageFault) -> Result<(), AllocError>
         ensures told { OnOk result (is_told fault ≡ true) }
         ensures node { OnOk result (self.new ≡ spec.unread self.old fault) }
+        ensures err { OnErr result (self.new ≡ self.old) }
     {
         match fault {
             MessageFault::OutOfMemory => Err(AllocError),
@@ -232,9 +241,10 @@ impl Intake {
         }
     }
 
-    /// Takes in one frame more, with this body. After an error it isn't taken in.
+    /// Takes in one frame more, with this body. After an error nothing is changed.
     pub fn take_body(&mut self, alloc: Global, hosts: u32, body: &[u8]) -> Result<(), AllocError>
-        ensures { OnOk result (self.new ≡ spec.with_message hosts self.old (message_in body.now)) }
+        ensures ok { OnOk result (self.new ≡ spec.with_message hosts self.old (message_in body.now)) }
+        ensures err { OnErr result (self.new ≡ self.old) }
     {
         match read_message(alloc, body) {
             Ok(message) => self.take_message(alloc, hosts, message),

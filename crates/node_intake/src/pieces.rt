@@ -13,8 +13,8 @@ use jupyter_frames::Framer;
 use nb_outside::{ReadEnd, Source};
 use std::alloc::{AllocError, Global};
 
-/// How many bytes each read asks for.
-const PIECE: usize = 65_536;
+/// How many bytes each read of a source asks for.
+const READ_LENGTH: usize = 65_536;
 
 /// Reads one piece and gives it to the framer. `None` if there may be more.
 fn read_piece<S: Source>(
@@ -100,11 +100,11 @@ fn take_pieces<S: Source>(
     Ok(IntakeEnd::TooMany)
 }
 
-/// Room for a piece with this number of bytes.
-fn room(alloc: Global, count: usize) -> Result<Vec<u8>, AllocError>
-    ensures { IfOk result (λ piece. vec_len piece ≡ count) }
+/// Room for what one read of a source gives.
+pub fn read_room(alloc: Global) -> Result<Vec<u8>, AllocError>
+    ensures { IfOk result (λ room. vec_len room ≡ 65536) }
 {
-    vec![in alloc; 0u8; count]
+    vec![in alloc; 0u8; READ_LENGTH]
 }
 
 /// Reads a source to its end, or to a length that no frame has, and takes in what it gives, for a node with this number of hosts.
@@ -121,7 +121,7 @@ pub fn take_in<S: Source>(
     ensures too_many { IfOk result (λ r. r.1 ≡ IntakeEnd.TooMany → HasRisenBy 4294967295 (S.reads source.old) (S.reads source.new)) }
     ensures faults_stay { S.faults source.old ≤ S.faults source.new }
 {
-    let Ok(mut piece) = room(alloc, PIECE) else {
+    let Ok(mut piece) = read_room(alloc) else {
         return Err(AllocError);
     };
     let mut framer = Framer::new(alloc);

@@ -25,7 +25,7 @@ use Rattle.node_intake.specs.Sessions.{taken_of}
 use Rattle.node_intake.specs.Taking.{IsTakenIn, EndsSo}
 use Rattle.node_run.specs.declared.end.RunEnd.{RunEnd}
 use Rattle.node_run.specs.declared.end.RunEnd.TheVariants.{Whole, Broken, SourceFailed, TooManyReads}
-use Rattle.node_run.specs.Journals.{AreHosted, Run, journal_of, journals_of, AreRuns, AreJournals}
+use Rattle.node_run.specs.Journals.{Answers, AreHosted, Run, journal_of, journals_of, AreRuns, AreJournals}
 use Rattle.node_run.specs.Frames.{journal_frames, session_frames, run_frames, error_frames, AddsFront}
 use Rattle.node_run.specs.Ends.{status_of, node_at, EndsAt, end_after, errors_after}
 use Rattle.node_run.specs.Streams.{HasRun, Writes, StreamsTold}
@@ -137,14 +137,14 @@ node_agrees intake.End hosts bodies rest (Some p) sessions errors (inr some) agr
 node_agrees intake.Failed hosts bodies rest broken sessions errors is agrees = agrees
 node_agrees intake.TooMany hosts bodies rest broken sessions errors is agrees = agrees
 
-pub has_run : (meaning : Meaning) (hosts : ℕ) (bytes : List ℕ) (left : Option (List ℕ)) (t : TakenIn) (end : IntakeEnd) (run_end : RunEnd) (errors : List NodeError) (runs : List Run)
-    → (taken : IsTakenIn hosts bytes t) → EndsSo end left taken.rest → run_end ≡ end_after end t.broken → errors ≡ errors_after end t.broken t.errors → AreRuns meaning hosts (map taken_of t.sessions) runs
-    → HasRun meaning hosts run_end bytes left errors runs
-has_run meaning hosts bytes left t end run_end errors runs taken ends is are_errors are_runs =
+pub has_run : (meaning : Meaning) (hosts : ℕ) (gives : Answers) (bytes : List ℕ) (left : Option (List ℕ)) (t : TakenIn) (end : IntakeEnd) (run_end : RunEnd) (errors : List NodeError) (runs : List Run)
+    → (taken : IsTakenIn hosts bytes t) → EndsSo end left taken.rest → run_end ≡ end_after end t.broken → errors ≡ errors_after end t.broken t.errors → AreRuns meaning hosts gives (map taken_of t.sessions) runs
+    → HasRun meaning hosts gives run_end bytes left errors runs
+has_run meaning hosts gives bytes left t end run_end errors runs taken ends is are_errors are_runs =
     let plain : Agrees (with_frames hosts no_sessions taken.bodies) (map taken_of t.sessions) t.errors =
     record { are_sessions = ap (λ (n : Node). n.sessions) taken.node; are_errors = ap (λ (n : Node). n.errors) taken.node } in
     let agrees = node_agrees end hosts taken.bodies taken.rest t.broken (map taken_of t.sessions) t.errors taken.broken plain in
-    subst (λ (e : RunEnd). HasRun meaning hosts e bytes left errors runs) (sym is) (record {
+    subst (λ (e : RunEnd). HasRun meaning hosts gives e bytes left errors runs) (sym is) (record {
       node = node_at (end_after end t.broken) hosts taken.bodies taken.rest;
       is_node = record {
         bodies = taken.bodies;
@@ -156,7 +156,7 @@ has_run meaning hosts bytes left t end run_end errors runs taken ends is are_err
         ends = ends_at end left taken.rest _ t.broken ends taken.broken;
       };
       errors_are = are_errors ∙ agrees.are_errors;
-      are_runs = subst (λ ss. AreRuns meaning hosts ss runs) agrees.are_sessions are_runs;
+      are_runs = subst (λ ss. AreRuns meaning hosts gives ss runs) agrees.are_sessions are_runs;
     })
 
 pub failed_end : (end : IntakeEnd) (broken : Option ℕ) → end_after end broken ≡ SourceFailed → end ≡ intake.Failed
@@ -182,31 +182,31 @@ if_ok_three (Err e) p q s f = tt
 
 -- ---- what is written of it
 
-are_journals : (meaning : Meaning) (hosts : ℕ) (ss : List Taken) (runs : List Run) → AreRuns meaning hosts ss runs → AreJournals meaning hosts ss (journals_of runs)
-are_journals meaning hosts [] [] are = tt
-are_journals meaning hosts [] (r ∷ runs) are = absurd are
-are_journals meaning hosts (s ∷ ss) [] are = absurd are
-are_journals meaning hosts (s ∷ ss) (r ∷ runs) are = (are.0.1, are_journals meaning hosts ss runs are.1)
+are_journals : (meaning : Meaning) (hosts : ℕ) (gives : Answers) (ss : List Taken) (runs : List Run) → AreRuns meaning hosts gives ss runs → AreJournals meaning hosts gives ss (journals_of runs)
+are_journals meaning hosts gives [] [] are = tt
+are_journals meaning hosts gives [] (r ∷ runs) are = absurd are
+are_journals meaning hosts gives (s ∷ ss) [] are = absurd are
+are_journals meaning hosts gives (s ∷ ss) (r ∷ runs) are = (are.0.1, are_journals meaning hosts gives ss runs are.1)
 
-same_frames : (meaning : Meaning) (hosts : ℕ) (ss : List Taken) (runs : List Run) → AreRuns meaning hosts ss runs → run_frames runs ≡ session_frames ss (journals_of runs)
+same_frames : (meaning : Meaning) (hosts : ℕ) (gives : Answers) (ss : List Taken) (runs : List Run) → AreRuns meaning hosts gives ss runs → run_frames runs ≡ session_frames ss (journals_of runs)
 unfolding run_frames session_frames
-same_frames meaning hosts [] [] are = refl
-same_frames meaning hosts [] (r ∷ runs) are = absurd are
-same_frames meaning hosts (s ∷ ss) [] are = absurd are
-same_frames meaning hosts (s ∷ ss) (r ∷ runs) are =
-    ap (λ k. journal_frames k 1 (journal_of r) ++ run_frames runs) are.0.0 ∙ ap (λ z. journal_frames s.kernel 1 (journal_of r) ++ z) (same_frames meaning hosts ss runs are.1)
+same_frames meaning hosts gives [] [] are = refl
+same_frames meaning hosts gives [] (r ∷ runs) are = absurd are
+same_frames meaning hosts gives (s ∷ ss) [] are = absurd are
+same_frames meaning hosts gives (s ∷ ss) (r ∷ runs) are =
+    ap (λ k. journal_frames k 1 (journal_of r) ++ run_frames runs) are.0.0 ∙ ap (λ z. journal_frames s.kernel 1 (journal_of r) ++ z) (same_frames meaning hosts gives ss runs are.1)
 
 pub same_written : (es fs : List NodeError) (rs ss : List Run) → es ≡ fs → rs ≡ ss → error_frames 1 es ++ run_frames rs ≡ error_frames 1 fs ++ run_frames ss
 same_written es fs rs ss p q = ap (λ z. error_frames 1 z ++ run_frames rs) p ∙ ap (λ z. error_frames 1 fs ++ run_frames z) q
 
-writes_of : (meaning : Meaning) (hosts : ℕ) (end : RunEnd) (bytes : List ℕ) (left : Option (List ℕ)) (errors : List NodeError) (runs : List Run) (IsAdded : List ℕ → Type 0)
-    → HasRun meaning hosts end bytes left errors runs → IsAdded (error_frames 1 errors ++ run_frames runs) → Writes meaning hosts end bytes left IsAdded
-writes_of meaning hosts end bytes left errors runs IsAdded run adds = record {
+writes_of : (meaning : Meaning) (hosts : ℕ) (gives : Answers) (end : RunEnd) (bytes : List ℕ) (left : Option (List ℕ)) (errors : List NodeError) (runs : List Run) (IsAdded : List ℕ → Type 0)
+    → HasRun meaning hosts gives end bytes left errors runs → IsAdded (error_frames 1 errors ++ run_frames runs) → Writes meaning hosts gives end bytes left IsAdded
+writes_of meaning hosts gives end bytes left errors runs IsAdded run adds = record {
   node = run.node;
   journals = journals_of runs;
   is_node = run.is_node;
-  are_journals = are_journals meaning hosts run.node.sessions runs run.are_runs;
-  added = subst IsAdded (ap (λ es. error_frames 1 es ++ run_frames runs) run.errors_are ∙ ap (λ z. error_frames 1 run.node.errors ++ z) (same_frames meaning hosts run.node.sessions runs run.are_runs)) adds;
+  are_journals = are_journals meaning hosts gives run.node.sessions runs run.are_runs;
+  added = subst IsAdded (ap (λ es. error_frames 1 es ++ run_frames runs) run.errors_are ∙ ap (λ z. error_frames 1 run.node.errors ++ z) (same_frames meaning hosts gives run.node.sessions runs run.are_runs)) adds;
 }
 
 -- ---- statuses
@@ -243,9 +243,9 @@ Adds-none None = refl
 Adds-none (Some had) = ap Some (sym (append-nil had))
 
 -- nothing was written
-pub told_nothing : (meaning : Meaning) (hosts : ℕ) (old new sink : Option (List ℕ)) (bytes : List ℕ) → Takes old new bytes → StreamsTold meaning hosts 5 old new sink sink
-told_nothing meaning hosts None new sink bytes t = t
-told_nothing meaning hosts (Some had) new sink bytes (rest, parts, is) = (
+pub told_nothing : (meaning : Meaning) (hosts : ℕ) (gives : Answers) (old new sink : Option (List ℕ)) (bytes : List ℕ) → Takes old new bytes → StreamsTold meaning hosts gives 5 old new sink sink
+told_nothing meaning hosts gives None new sink bytes t = t
+told_nothing meaning hosts gives (Some had) new sink bytes (rest, parts, is) = (
   bytes,
   rest,
   parts,
@@ -258,45 +258,45 @@ told_nothing meaning hosts (Some had) new sink bytes (rest, parts, is) = (
 )
 
 -- all was written
-pub told_all : (meaning : Meaning) (hosts status : ℕ) (end : RunEnd) (old new a b : Option (List ℕ)) (bytes : List ℕ) (errors : List NodeError) (runs : List Run) → status ≡ status_of end → Takes old new bytes
-    → HasRun meaning hosts end bytes new errors runs → Adds a b (error_frames 1 errors ++ run_frames runs) → StreamsTold meaning hosts status old new a b
-told_all meaning hosts status end None new a b bytes errors runs same t run adds = t
-told_all meaning hosts status end (Some had) new a b bytes errors runs same (rest, parts, is) run adds =
-    let told = subst (λ l. HasRun meaning hosts end bytes l errors runs) is run in (
+pub told_all : (meaning : Meaning) (hosts : ℕ) (gives : Answers) (status : ℕ) (end : RunEnd) (old new a b : Option (List ℕ)) (bytes : List ℕ) (errors : List NodeError) (runs : List Run) → status ≡ status_of end → Takes old new bytes
+    → HasRun meaning hosts gives end bytes new errors runs → Adds a b (error_frames 1 errors ++ run_frames runs) → StreamsTold meaning hosts gives status old new a b
+told_all meaning hosts gives status end None new a b bytes errors runs same t run adds = t
+told_all meaning hosts gives status end (Some had) new a b bytes errors runs same (rest, parts, is) run adds =
+    let told = subst (λ l. HasRun meaning hosts gives end bytes l errors runs) is run in (
       bytes,
       rest,
       parts,
       is,
       record {
-        whole = λ other e. subst (λ (n : RunEnd). Writes meaning hosts n bytes (Some rest) (Adds a b)) (same_end end other (sym same ∙ e)) (writes_of meaning hosts end bytes (Some rest) errors runs (Adds a b) told adds);
+        whole = λ other e. subst (λ (n : RunEnd). Writes meaning hosts gives n bytes (Some rest) (Adds a b)) (same_end end other (sym same ∙ e)) (writes_of meaning hosts gives end bytes (Some rest) errors runs (Adds a b) told adds);
         cut = λ e. absurd (not_four end (sym same ∙ e));
         short = λ e. absurd (not_five end (sym same ∙ e));
       },
     )
 
 -- some of it was written, and the sink met a fault
-pub told_cut : (meaning : Meaning) (hosts : ℕ) (end : RunEnd) (old new a b : Option (List ℕ)) (bytes : List ℕ) (errors : List NodeError) (runs : List Run) → Takes old new bytes
-    → HasRun meaning hosts end bytes new errors runs → AddsFront a b (error_frames 1 errors ++ run_frames runs) → StreamsTold meaning hosts 4 old new a b
-told_cut meaning hosts end None new a b bytes errors runs t run adds = t
-told_cut meaning hosts end (Some had) new a b bytes errors runs (rest, parts, is) run adds =
-    let told = subst (λ l. HasRun meaning hosts end bytes l errors runs) is run in (
+pub told_cut : (meaning : Meaning) (hosts : ℕ) (gives : Answers) (end : RunEnd) (old new a b : Option (List ℕ)) (bytes : List ℕ) (errors : List NodeError) (runs : List Run) → Takes old new bytes
+    → HasRun meaning hosts gives end bytes new errors runs → AddsFront a b (error_frames 1 errors ++ run_frames runs) → StreamsTold meaning hosts gives 4 old new a b
+told_cut meaning hosts gives end None new a b bytes errors runs t run adds = t
+told_cut meaning hosts gives end (Some had) new a b bytes errors runs (rest, parts, is) run adds =
+    let told = subst (λ l. HasRun meaning hosts gives end bytes l errors runs) is run in (
       bytes,
       rest,
       parts,
       is,
       record {
         whole = λ other e. absurd (not_four other (sym e));
-        cut = λ e. (end, writes_of meaning hosts end bytes (Some rest) errors runs (AddsFront a b) told adds);
+        cut = λ e. (end, writes_of meaning hosts gives end bytes (Some rest) errors runs (AddsFront a b) told adds);
         short = λ e. absurd (omega (arith, e));
       },
     )
 
 -- some of it was written, and memory ran out
-pub told_short : (meaning : Meaning) (hosts : ℕ) (end : RunEnd) (old new a b : Option (List ℕ)) (bytes : List ℕ) (errors : List NodeError) (runs : List Run) → Takes old new bytes
-    → HasRun meaning hosts end bytes new errors runs → AddsFront a b (error_frames 1 errors ++ run_frames runs) → StreamsTold meaning hosts 5 old new a b
-told_short meaning hosts end None new a b bytes errors runs t run adds = t
-told_short meaning hosts end (Some had) new a b bytes errors runs (rest, parts, is) run adds =
-    let told = subst (λ l. HasRun meaning hosts end bytes l errors runs) is run in (
+pub told_short : (meaning : Meaning) (hosts : ℕ) (gives : Answers) (end : RunEnd) (old new a b : Option (List ℕ)) (bytes : List ℕ) (errors : List NodeError) (runs : List Run) → Takes old new bytes
+    → HasRun meaning hosts gives end bytes new errors runs → AddsFront a b (error_frames 1 errors ++ run_frames runs) → StreamsTold meaning hosts gives 5 old new a b
+told_short meaning hosts gives end None new a b bytes errors runs t run adds = t
+told_short meaning hosts gives end (Some had) new a b bytes errors runs (rest, parts, is) run adds =
+    let told = subst (λ l. HasRun meaning hosts gives end bytes l errors runs) is run in (
       bytes,
       rest,
       parts,
@@ -304,6 +304,6 @@ told_short meaning hosts end (Some had) new a b bytes errors runs (rest, parts, 
       record {
         whole = λ other e. absurd (not_five other (sym e));
         cut = λ e. absurd (omega (arith, e));
-        short = λ e. inr (end, writes_of meaning hosts end bytes (Some rest) errors runs (AddsFront a b) told adds);
+        short = λ e. inr (end, writes_of meaning hosts gives end bytes (Some rest) errors runs (AddsFront a b) told adds);
       },
     )

@@ -1,9 +1,11 @@
 -- Sessions that are served: their two lists, and their journals.
-use Rattle.std.proofs.Common.{◌≡◌, ℕ, ◌<◌, Bool, true, false, List, [], ◌∷◌, ◌++◌, refl, ap, sym, ◌∙◌, subst, append_assoc, ◌⊎◌, inl, inr}
+use Rattle.std.proofs.Common.{◌≡◌, ℕ, ◌<◌, Bool, true, false, List, [], ◌∷◌, ◌++◌, Option, refl, ap, sym, ◌∙◌, subst, append_assoc, ◌⊎◌, inl, inr}
 use Rattle.std.specs.Prelude.{filter, map, not}
 use Rattle.std.proofs.lemmas.List.{append-nil, map-append}
 use Rattle.std.proofs.lemmas.List.Elements.{filter-append}
 use Rattle.std.proofs.lemmas.Slice.Zip.{all_zipped_more}
+use Rattle.nb_outside.specs.declared.feed.Drawn.{Drawn}
+use Rattle.nb_outside.specs.Feeds.{Seen as SeenFeed}
 use Rattle.session_core.specs.declared.request.Header.{Header}
 use Rattle.session_core.specs.declared.request.Channel.{Channel}
 use Rattle.session_core.specs.declared.request.Request.{Request}
@@ -14,10 +16,12 @@ use Rattle.session_core.specs.Meanings.{Meaning}
 use Rattle.session_core.specs.Legal.{IsLegal, asked}
 use Rattle.session_core.specs.Stepping.{GoesOn}
 use Rattle.session_core.specs.Aloneness.{Seen}
+use Rattle.session_core.specs.Feeding.{HasFed}
+use Rattle.session_core.proofs.Feeding.{first_answers}
 use Rattle.reply_frames.specs.Intake.{Taken}
 use Rattle.node_intake.specs.declared.session.Session.{Session}
 use Rattle.node_intake.specs.Sessions.{taken_of}
-use Rattle.node_run.specs.Journals.{IsJournalOf, AreHosted, Run, IsRunOf, AreRuns}
+use Rattle.node_run.specs.Journals.{Answers, IsJournalOf, AreHosted, Run, IsRunOf, AreRuns}
 
 -- ---- two lists
 
@@ -59,10 +63,10 @@ all_asked : (host : ℕ) (request : Header) (channel : Channel) (opened mid es :
 all_asked host request channel opened mid es control main is first then =
     then ∙ ap (λ z. z ++ main) first ∙ ap (λ z. (z ++ control) ++ main) (ap asked is)
 
-pub is_journal : (meaning : Meaning) (hosts h : ℕ) (s : Taken) (opened mid es : List Entry) (control main : List Request) → IsLegal meaning h es → h ≡ hosts
+pub is_journal : (meaning : Meaning) (hosts h : ℕ) (answers : Option (List Drawn)) (seen : SeenFeed) (s : Taken) (opened mid es : List Entry) (control main : List Request) → IsLegal meaning h es → h ≡ hosts
     → opened ≡ Opened s.host s.request s.channel ∷ [] → GoesOn opened mid → GoesOn mid es → asked mid ≡ asked opened ++ control → asked es ≡ asked mid ++ main
-    → control ≡ filter is_control s.requests → main ≡ filter is_main s.requests → IsJournalOf meaning hosts s es
-is_journal meaning hosts h s opened mid es control main is_legal same is first then asked_first asked_then are_control are_main =
+    → control ≡ filter is_control s.requests → main ≡ filter is_main s.requests → HasFed answers es seen → IsJournalOf meaning hosts answers s es
+is_journal meaning hosts h answers seen s opened mid es control main is_legal same is first then asked_first asked_then are_control are_main fed =
     let more = goes_both opened mid es first then in
     let all : asked es ≡ filter is_control s.requests ++ filter is_main s.requests = all_asked s.host s.request s.channel opened mid es control main is asked_first asked_then
     ∙ ap (λ z. z ++ main) are_control ∙ ap (λ z. filter is_control s.requests ++ z) are_main in
@@ -71,38 +75,39 @@ is_journal meaning hosts h s opened mid es control main is_legal same is first t
       begins = (more.0, more.1 ∙ ap (λ z. z ++ more.0) is);
       main = ap (filter is_main) all ∙ main_of_both s.requests;
       control = ap (filter is_control) all ∙ control_of_both s.requests;
+      fed = first_answers answers es seen fed;
     }
 
 -- ---- sessions, one after the other
 
 -- the first of the sessions were served, and the rest is left
-pub record ServedSoFar (meaning : Meaning) (hosts : ℕ) (all rest : List Session) (runs : List Run) : Type 0 where
+pub record ServedSoFar (meaning : Meaning) (hosts : ℕ) (gives : Answers) (all rest : List Session) (runs : List Run) : Type 0 where
   pub done : List Session
   pub parts : all ≡ done ++ rest
-  pub are_runs : AreRuns meaning hosts (map taken_of done) runs
+  pub are_runs : AreRuns meaning hosts gives (map taken_of done) runs
 
-pub none_served : (meaning : Meaning) (hosts : ℕ) (all : List Session) → ServedSoFar meaning hosts all all []
-none_served meaning hosts all = record { done = []; parts = refl; are_runs = tt }
+pub none_served : (meaning : Meaning) (hosts : ℕ) (gives : Answers) (all : List Session) → ServedSoFar meaning hosts gives all all []
+none_served meaning hosts gives all = record { done = []; parts = refl; are_runs = tt }
 
-pub start_served : (meaning : Meaning) (hosts : ℕ) (all rest : List Session) (runs : List Run) → rest ≡ all → runs ≡ [] → ServedSoFar meaning hosts all rest runs
-start_served meaning hosts all rest runs same none = subst (λ zs. ServedSoFar meaning hosts all zs runs) (sym same) (subst (ServedSoFar meaning hosts all all) (sym none) (none_served meaning hosts all))
+pub start_served : (meaning : Meaning) (hosts : ℕ) (gives : Answers) (all rest : List Session) (runs : List Run) → rest ≡ all → runs ≡ [] → ServedSoFar meaning hosts gives all rest runs
+start_served meaning hosts gives all rest runs same none = subst (λ zs. ServedSoFar meaning hosts gives all zs runs) (sym same) (subst (ServedSoFar meaning hosts gives all all) (sym none) (none_served meaning hosts gives all))
 
-pub as_next : (meaning : Meaning) (hosts : ℕ) (all left rest : List Session) (s : Session) (runs : List Run) → left ≡ s ∷ rest → ServedSoFar meaning hosts all left runs → ServedSoFar meaning hosts all (s ∷ rest) runs
-as_next meaning hosts all left rest s runs is so_far = subst (λ zs. ServedSoFar meaning hosts all zs runs) is so_far
+pub as_next : (meaning : Meaning) (hosts : ℕ) (gives : Answers) (all left rest : List Session) (s : Session) (runs : List Run) → left ≡ s ∷ rest → ServedSoFar meaning hosts gives all left runs → ServedSoFar meaning hosts gives all (s ∷ rest) runs
+as_next meaning hosts gives all left rest s runs is so_far = subst (λ zs. ServedSoFar meaning hosts gives all zs runs) is so_far
 
-pub next_served : (meaning : Meaning) (hosts kernel : ℕ) (all rest : List Session) (s : Session) (seen : Seen) (runs new : List Run) → ServedSoFar meaning hosts all (s ∷ rest) runs → kernel ≡ s.kernel
-    → IsJournalOf meaning hosts (taken_of s) seen.entries → new ≡ runs ++ (kernel, seen) ∷ [] → ServedSoFar meaning hosts all rest new
-next_served meaning hosts kernel all rest s seen runs new so_far own journal is = record {
+pub next_served : (meaning : Meaning) (hosts : ℕ) (gives : Answers) (kernel : ℕ) (all rest : List Session) (s : Session) (seen : Seen) (runs new : List Run) → ServedSoFar meaning hosts gives all (s ∷ rest) runs → kernel ≡ s.kernel
+    → IsJournalOf meaning hosts (gives s.kernel) (taken_of s) seen.entries → new ≡ runs ++ (kernel, seen) ∷ [] → ServedSoFar meaning hosts gives all rest new
+next_served meaning hosts gives kernel all rest s seen runs new so_far own journal is = record {
   done = so_far.done ++ s ∷ [];
   parts = so_far.parts ∙ sym (append_assoc so_far.done (s ∷ []) rest);
-  are_runs = subst (AreRuns meaning hosts (map taken_of (so_far.done ++ s ∷ []))) (sym is)
-      (subst (λ ts. AreRuns meaning hosts ts (runs ++ (kernel, seen) ∷ [])) (sym (map-append taken_of so_far.done (s ∷ [])))
-      (all_zipped_more (IsRunOf meaning hosts) (map taken_of so_far.done) runs (taken_of s) (kernel, seen) so_far.are_runs (own, journal)));
+  are_runs = subst (AreRuns meaning hosts gives (map taken_of (so_far.done ++ s ∷ []))) (sym is)
+      (subst (λ ts. AreRuns meaning hosts gives ts (runs ++ (kernel, seen) ∷ [])) (sym (map-append taken_of so_far.done (s ∷ [])))
+      (all_zipped_more (IsRunOf meaning hosts gives) (map taken_of so_far.done) runs (taken_of s) (kernel, seen) so_far.are_runs (own, journal)));
 }
 
 hosted_in : (hosts : ℕ) (done rest : List Session) (s : Session) → AreHosted hosts (map taken_of (done ++ s ∷ rest)) → s.host < hosts
 hosted_in hosts [] rest s are = are.0
 hosted_in hosts (first ∷ done) rest s are = hosted_in hosts done rest s are.1
 
-pub next_hosted : (meaning : Meaning) (hosts : ℕ) (all rest : List Session) (s : Session) (runs : List Run) → ServedSoFar meaning hosts all (s ∷ rest) runs → AreHosted hosts (map taken_of all) → s.host < hosts
-next_hosted meaning hosts all rest s runs so_far are = hosted_in hosts so_far.done rest s (subst (λ ss. AreHosted hosts (map taken_of ss)) so_far.parts are)
+pub next_hosted : (meaning : Meaning) (hosts : ℕ) (gives : Answers) (all rest : List Session) (s : Session) (runs : List Run) → ServedSoFar meaning hosts gives all (s ∷ rest) runs → AreHosted hosts (map taken_of all) → s.host < hosts
+next_hosted meaning hosts gives all rest s runs so_far are = hosted_in hosts so_far.done rest s (subst (λ ss. AreHosted hosts (map taken_of ss)) so_far.parts are)

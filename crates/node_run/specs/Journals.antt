@@ -1,19 +1,27 @@
 -- The journals of sessions.
-use Rattle.std.specs.Prelude.{◌≡◌, ℕ, ◌<◌, List, ◌∷◌, map}
+use Rattle.std.specs.Prelude.{◌≡◌, ℕ, ◌<◌, List, ◌∷◌, map, Option}
 use Rattle.std.specs.List.{AllByRecursion, AllZip}
+use Rattle.nb_outside.specs.declared.feed.Drawn.{Drawn}
 use Rattle.session_core.specs.declared.entry.Entry.{Entry}
 use Rattle.session_core.specs.declared.entry.Entry.TheVariants.{Opened}
 use Rattle.session_core.specs.Meanings.{Meaning}
 use Rattle.session_core.specs.Legal.{IsLegal, main_asked, control_asked}
 use Rattle.session_core.specs.Aloneness.{Seen}
+use Rattle.session_core.specs.Feeding.{drawn_in, AreFirstAnswers}
 use Rattle.reply_frames.specs.Intake.{Taken, main_requests, control_requests}
 
--- a legal journal of a session that was opened so, in which all that was asked of it is answered, each list in order
-pub record IsJournalOf (meaning : Meaning) (hosts : ℕ) (s : Taken) (es : List Entry) : Type 0 where
+-- the answers that the feed of each kernel's session is made with, if they are told
+abbrev pub Answers : Type 0
+Answers = ℕ → Option (List Drawn)
+
+-- a legal journal of a session that was opened so, in which all that was asked of it is answered, each list in order; and what
+-- its cells drew is what its feed gave
+pub record IsJournalOf (meaning : Meaning) (hosts : ℕ) (answers : Option (List Drawn)) (s : Taken) (es : List Entry) : Type 0 where
   pub legal : IsLegal meaning hosts es
   pub begins : (more : List Entry) × (es ≡ Opened s.host s.request s.channel ∷ more)
   pub main : main_asked es ≡ main_requests s
   pub control : control_asked es ≡ control_requests s
+  pub fed : AreFirstAnswers answers (drawn_in es)
 
 -- each session was opened on a host that is there
 abbrev pub AreHosted : ℕ → List Taken → Type 0
@@ -29,12 +37,12 @@ journal_of run = run.1.entries
 abbrev pub journals_of : List Run → List (List Entry)
 journals_of runs = map journal_of runs
 
-abbrev pub IsRunOf : Meaning → ℕ → Taken → Run → Type 0
-IsRunOf meaning hosts s run = (run.0 ≡ s.kernel) × IsJournalOf meaning hosts s (journal_of run)
+abbrev pub IsRunOf : Meaning → ℕ → Answers → Taken → Run → Type 0
+IsRunOf meaning hosts gives s run = (run.0 ≡ s.kernel) × IsJournalOf meaning hosts (gives s.kernel) s (journal_of run)
 
 -- each session was served, in order
-abbrev pub AreRuns : Meaning → ℕ → List Taken → List Run → Type 0
-AreRuns meaning hosts sessions runs = AllZip (IsRunOf meaning hosts) sessions runs
+abbrev pub AreRuns : Meaning → ℕ → Answers → List Taken → List Run → Type 0
+AreRuns meaning hosts gives sessions runs = AllZip (IsRunOf meaning hosts gives) sessions runs
 
-abbrev pub AreJournals : Meaning → ℕ → List Taken → List (List Entry) → Type 0
-AreJournals meaning hosts sessions journals = AllZip (IsJournalOf meaning hosts) sessions journals
+abbrev pub AreJournals : Meaning → ℕ → Answers → List Taken → List (List Entry) → Type 0
+AreJournals meaning hosts gives sessions journals = AllZip (λ (s : Taken) (es : List Entry). IsJournalOf meaning hosts (gives s.kernel) s es) sessions journals

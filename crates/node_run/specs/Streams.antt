@@ -8,7 +8,7 @@ use Rattle.session_core.specs.Meanings.{Meaning}
 use Rattle.reply_frames.specs.Intake.{Node}
 use Rattle.reply_frames.specs.declared.node.NodeError.{NodeError}
 use Rattle.node_run.specs.declared.end.RunEnd.{RunEnd}
-use Rattle.node_run.specs.Journals.{Run, AreRuns, AreJournals}
+use Rattle.node_run.specs.Journals.{Answers, Run, AreRuns, AreJournals}
 use Rattle.node_run.specs.Frames.{written, AddsFront}
 use Rattle.node_run.specs.Ends.{status_of, node_at, EndsAt}
 
@@ -23,34 +23,34 @@ pub record IsNodeOf (hosts : ℕ) (end : RunEnd) (bytes : List ℕ) (left : Opti
   pub ends : EndsAt end left rest
 
 -- these errors, and these sessions that were served, are those of that node
-pub record HasRun (meaning : Meaning) (hosts : ℕ) (end : RunEnd) (bytes : List ℕ) (left : Option (List ℕ)) (errors : List NodeError) (runs : List Run) : Type 0 where
+pub record HasRun (meaning : Meaning) (hosts : ℕ) (gives : Answers) (end : RunEnd) (bytes : List ℕ) (left : Option (List ℕ)) (errors : List NodeError) (runs : List Run) : Type 0 where
   pub node : Node
   pub is_node : IsNodeOf hosts end bytes left node
   pub errors_are : errors ≡ node.errors
-  pub are_runs : AreRuns meaning hosts node.sessions runs
+  pub are_runs : AreRuns meaning hosts gives node.sessions runs
 
 -- of that node and of journals of its sessions the frames were written, as this says
-pub record Writes (meaning : Meaning) (hosts : ℕ) (end : RunEnd) (bytes : List ℕ) (left : Option (List ℕ)) (IsAdded : List ℕ → Type 0) : Type 0 where
+pub record Writes (meaning : Meaning) (hosts : ℕ) (gives : Answers) (end : RunEnd) (bytes : List ℕ) (left : Option (List ℕ)) (IsAdded : List ℕ → Type 0) : Type 0 where
   pub node : Node
   pub journals : List (List Entry)
   pub is_node : IsNodeOf hosts end bytes left node
-  pub are_journals : AreJournals meaning hosts node.sessions journals
+  pub are_journals : AreJournals meaning hosts gives node.sessions journals
   pub added : IsAdded (written node journals)
 
--- What a run did that took these bytes of a source and left the rest in it.
-pub record Streams (meaning : Meaning) (hosts status : ℕ) (taken left : List ℕ) (sink_old sink_new : Option (List ℕ)) : Type 0 where
+-- What a run did that took these bytes of a source and left the rest in it, with feeds made with these answers.
+pub record Streams (meaning : Meaning) (hosts : ℕ) (gives : Answers) (status : ℕ) (taken left : List ℕ) (sink_old sink_new : Option (List ℕ)) : Type 0 where
   -- at 0, 2, 3 and 10 all was written
-  pub whole : (end : RunEnd) → status ≡ status_of end → Writes meaning hosts end taken (Some left) (Adds sink_old sink_new)
+  pub whole : (end : RunEnd) → status ≡ status_of end → Writes meaning hosts gives end taken (Some left) (Adds sink_old sink_new)
   -- at 4 the first bytes of it
-  pub cut : status ≡ 4 → (end : RunEnd) × Writes meaning hosts end taken (Some left) (AddsFront sink_old sink_new)
+  pub cut : status ≡ 4 → (end : RunEnd) × Writes meaning hosts gives end taken (Some left) (AddsFront sink_old sink_new)
   -- at 5 the same, or nothing if memory ran out before all was served
-  pub short : status ≡ 5 → Adds sink_old sink_new [] ⊎ ((end : RunEnd) × Writes meaning hosts end taken (Some left) (AddsFront sink_old sink_new))
+  pub short : status ≡ 5 → Adds sink_old sink_new [] ⊎ ((end : RunEnd) × Writes meaning hosts gives end taken (Some left) (AddsFront sink_old sink_new))
 
 -- over a source that tells what it had and has left
-abbrev pub StreamsTold : Meaning → ℕ → ℕ → Option (List ℕ) → Option (List ℕ) → Option (List ℕ) → Option (List ℕ) → Type 0
-StreamsTold meaning hosts status None source_new sink_old sink_new = source_new ≡ None
-StreamsTold meaning hosts status (Some had) source_new sink_old sink_new =
-    (taken : List ℕ) × (left : List ℕ) × (had ≡ taken ++ left) × (source_new ≡ Some left) × Streams meaning hosts status taken left sink_old sink_new
+abbrev pub StreamsTold : Meaning → ℕ → Answers → ℕ → Option (List ℕ) → Option (List ℕ) → Option (List ℕ) → Option (List ℕ) → Type 0
+StreamsTold meaning hosts gives status None source_new sink_old sink_new = source_new ≡ None
+StreamsTold meaning hosts gives status (Some had) source_new sink_old sink_new =
+    (taken : List ℕ) × (left : List ℕ) × (had ≡ taken ++ left) × (source_new ≡ Some left) × Streams meaning hosts gives status taken left sink_old sink_new
 
 -- the statuses of a run
 abbrev pub IsStatus : ℕ → Type 0

@@ -67,7 +67,7 @@ fn serve_taken<E: Engine + Drop, Q: Feeds>(
 ) -> Result<NodeRun<E>, AllocError>
     requires { AreHosted hosts (map taken_of taken.sessions) }
     ensures errors { IfOk result (λ ran. ran.errors ≡ spec.errors_after end taken.broken taken.errors) }
-    ensures runs { IfOk result (λ ran. AreRuns E.meaning hosts (map taken_of taken.sessions) ran.runs.items) }
+    ensures runs { IfOk result (λ ran. AreRuns E.meaning hosts (Q.gives feeds.old) (map taken_of taken.sessions) ran.runs.items) }
     ensures end { IfOk result (λ ran. ran.end ≡ spec.end_after end taken.broken) }
 {
     let TakenIn {
@@ -93,7 +93,7 @@ pub fn run_sessions<E: Engine + Drop, S: Source, Q: Feeds>(
     feeds: &mut Q,
 ) -> Result<NodeRun<E>, AllocError>
     ensures told { (bytes : List ℕ) × Takes (S.left source.old) (S.left source.new) bytes
-        × IfOk result (λ ran. HasRun E.meaning hosts ran.end bytes (S.left source.new) ran.errors ran.runs.items) }
+        × IfOk result (λ ran. HasRun E.meaning hosts (Q.gives feeds.old) ran.end bytes (S.left source.new) ran.errors ran.runs.items) }
     ensures failed { IfOk result (λ ran. ran.end ≡ RunEnd.SourceFailed → HasRisen (S.faults source.old) (S.faults source.new)) }
     ensures reads { IfOk result (λ ran. ran.end ≡ RunEnd.TooManyReads → HasRisenBy 4294967295 (S.reads source.old) (S.reads source.new)) }
     ensures faults_stay { S.faults source.old ≤ S.faults source.new }
@@ -133,7 +133,7 @@ pub fn run_stream<E: Engine + Drop, S: Source, K: Sink, Q: Feeds>(
     sink: &mut K,
     feeds: &mut Q,
 ) -> u8
-    ensures streams { StreamsTold E.meaning hosts result (S.left source.old) (S.left source.new) (K.written sink.old) (K.written sink.new) }
+    ensures streams { StreamsTold E.meaning hosts (Q.gives feeds.old) result (S.left source.old) (S.left source.new) (K.written sink.old) (K.written sink.new) }
     ensures source_fault { result ≡ 3 → HasRisen (S.faults source.old) (S.faults source.new) }
     ensures sink_fault { result ≡ 4 → HasRisen (K.faults sink.old) (K.faults sink.new) }
     ensures reads { result ≡ 10 → HasRisenBy 4294967295 (S.reads source.old) (S.reads source.new) }

@@ -1,8 +1,11 @@
 //! Sessions, served one after the other.
 
-ghost use Rattle.std.specs.Prelude.{◌≡◌, ◌<◌, ◌++◌, map, IfOk};
+ghost use Rattle.std.specs.Prelude.{◌≡◌, ◌<◌, List, ◌++◌, map, Option, IfOk};
+ghost use Rattle.nb_outside.specs.declared.feed.Drawn.{Drawn};
+ghost use Rattle.nb_outside.specs.Feeds.{HasAll};
 ghost use Rattle.session_core.specs.Legal.{asked};
 ghost use Rattle.session_core.specs.Stepping.{GoesOn};
+ghost use Rattle.session_core.specs.Feeding.{HasFed};
 ghost use Rattle.node_intake.specs.Sessions.{taken_of};
 ghost use Rattle.node_run.specs.Journals.{IsJournalOf, AreHosted, AreRuns};
 
@@ -21,6 +24,8 @@ fn answer_all<E: Engine + Drop, F: Feed>(
     requests: Vec<Request>,
 ) -> Result<Alone<E>, AllocError>
     ensures goes_on { IfOk result (λ after. GoesOn session.entries after.entries) }
+    ensures fed { (answers : Option (List Drawn)) → HasFed answers session.entries (F.seen feed.old)
+        → IfOk result (λ after. HasFed answers after.entries (F.seen feed.new)) }
     ensures answered { IfOk result (λ after. asked after.entries ≡ asked session.entries ++ requests.items) }
     ensures hosts { IfOk result (λ after. after.hosts ≡ session.hosts) }
 {
@@ -32,15 +37,16 @@ fn answer_all<E: Engine + Drop, F: Feed>(
     Ok(after)
 }
 
-/// Serves a session on an engine of its own: its control requests first, then the others.
+/// Serves a session on an engine of its own, with a feed that gave nothing yet: its control requests first, then the others.
 pub fn serve_session<E: Engine + Drop, F: Feed>(
     alloc: Global,
     hosts: u32,
     feed: &mut F,
     session: Session,
 ) -> Result<Alone<E>, AllocError>
-    requires { session.host < hosts }
-    ensures journal { IfOk result (λ served. IsJournalOf E.meaning hosts (taken_of session) served.entries) }
+    requires host { session.host < hosts }
+    requires feed { HasAll (F.seen feed.old) }
+    ensures journal { IfOk result (λ served. IsJournalOf E.meaning hosts (F.seen feed.old).made (taken_of session) served.entries) }
     ensures hosts { IfOk result (λ served. served.hosts ≡ hosts) }
 {
     let Session {
@@ -67,7 +73,7 @@ pub fn serve_all<E: Engine + Drop, Q: Feeds>(
     feeds: &mut Q,
 ) -> Result<Vec<(u128, Alone<E>)>, AllocError>
     requires { AreHosted hosts (map taken_of sessions) }
-    ensures { IfOk result (λ runs. AreRuns E.meaning hosts (map taken_of sessions) runs.items) }
+    ensures { IfOk result (λ runs. AreRuns E.meaning hosts (Q.gives feeds.old) (map taken_of sessions) runs.items) }
 {
     let mut runs = Vec::new(alloc);
     for session in sessions.into_vec() {

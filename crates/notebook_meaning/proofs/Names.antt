@@ -25,8 +25,8 @@ pub of_contained : {A : Type 0} (P : A → Type 0) (xs : List A) → ((x : A) �
 of_contained P [] h = tt
 of_contained P (x ∷ xs) h = (h x (first_in x xs), of_contained P xs (λ y c. h y (later_in x xs y c)))
 
-pub at_place : {A : Type 0} (P : A → Type 0) (xs : List A) → All P xs → (k : ℕ) (x : A) → slice_get xs k ≡ Some x → P x
-at_place P xs h k x e = subst P (get_or_from_slice_get xs k x x e) (h k x (slice_get_within xs k x e))
+pub at_position : {A : Type 0} (P : A → Type 0) (xs : List A) → All P xs → (k : ℕ) (x : A) → slice_get xs k ≡ Some x → P x
+at_position P xs h k x e = subst P (get_or_from_slice_get xs k x x e) (h k x (slice_get_within xs k x e))
 
 pub listed : (ns : List ℕ) (n : ℕ) → Contains ns n → lists ns n ≡ true
 listed [] n c = absurd (none_in n c)

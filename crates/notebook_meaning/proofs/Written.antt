@@ -57,7 +57,7 @@ use Rattle.notebook_meaning.specs.Cells.{unmoved}
 use Rattle.notebook_meaning.specs.Codes.{HaveCodes}
 use Rattle.notebook_meaning.specs.Notebooks.{IsGraphOf}
 use Rattle.notebook_meaning.proofs.Validity.{valid_at, few_steps}
-use Rattle.notebook_meaning.proofs.Names.{by_places, of_contained, at_place, listed, none_reached, name_of_identifier, identifier_of_variable}
+use Rattle.notebook_meaning.proofs.Names.{by_places, of_contained, at_position, listed, none_reached, name_of_identifier, identifier_of_variable}
 
 -- ---- the text is that of each state that is the same
 
@@ -277,7 +277,7 @@ module _ (cells : List Entry) (codes : HaveCodes cells) (g : Graph) (of : IsGrap
         writable_by (HasPair turned.by) held (slice_get Last.heap partner.0)
         (λ name uses e. false≢true (sym free ∙ (has.handles v x (active v x c here)).1 (at, name, uses, reach, is ∙ ap (λ (o : Object). Some o) e)))
         both
-        (λ y found. at_place (IsValidObject IsItsText) Last.heap (valid_at cells (length cells) codes).objects partner.0 y found)
+        (λ y found. at_position (IsValidObject IsItsText) Last.heap (valid_at cells (length cells) codes).objects partner.0 y found)
 
     value_or_alone : (v : ℕ) (x : Version) → IsActive g v x → (b : Bool) → x.absent ≡ b → (name : Name) → Contains x.names name → HasNone t name → length x.names ≡ 1
     value_or_alone v x a true e name c none = let one = alone v x a.0 e in ap (λ (zs : List Name). length zs) one.1
@@ -302,8 +302,8 @@ module _ (cells : List Entry) (codes : HaveCodes cells) (g : Graph) (of : IsGrap
       count = subst (λ (n : ℕ). n < 2 ^ 32) (sym stands.same.count) plain.count;
       meter = (valid_at cells (length cells) codes).meter;
       few_cells = subst (λ (n : ℕ). n < 2 ^ 32) (sym H.cells) of.few_cells;
-      cells = by_places IsCell g.cells (λ k x at. is_cell k x at (at_place IsPlainCell g.cells plain.cells k x at));
+      cells = by_places IsCell g.cells (λ k x at. is_cell k x at (at_position IsPlainCell g.cells plain.cells k x at));
       few_versions = of.few_versions;
-      versions = by_places IsVersion g.versions (λ k x at. is_version k x at (at_place IsPlainVersion g.versions plain.versions k x at));
+      versions = by_places IsVersion g.versions (λ k x at. is_version k x at (at_position IsPlainVersion g.versions plain.versions k x at));
       parts = parts;
     }

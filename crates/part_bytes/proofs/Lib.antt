@@ -1,5 +1,5 @@
 pub mod Orders
-pub mod Places
+pub mod ByAddress
 pub mod Pieces
 pub mod Small
 pub mod Closing

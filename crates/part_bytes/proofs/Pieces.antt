@@ -15,7 +15,7 @@ use Rattle.py_heap.specs.Dicts.{Pairs}
 use Rattle.py_heap.specs.References.{AreLive}
 use Rattle.part_bytes.specs.Parts.{order, number_in, numbered, numbered_pair, numbered_object, objects_of, held_of}
 use Rattle.part_bytes.specs.Texts.{four, name_bytes, value_bytes, held_bytes, pair_bytes, object_bytes, bytes_of, part_text}
-use Rattle.part_bytes.proofs.Places.{there}
+use Rattle.part_bytes.proofs.ByAddress.{there}
 
 -- what holds always holds if all went well
 pub on_ok : {A B : Type 0} {P : Type 0} (r : Result A B) → P → OnOk r P

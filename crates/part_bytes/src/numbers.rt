@@ -14,9 +14,9 @@ pub struct Numbers {
     /// How many there are.
     pub total: u32,
     /// The number at each address of a reached object, and `total` at the others.
-    pub places: Items<u32>,
+    pub by_address: Items<u32>,
     ghost counted: { total ≡ length order },
-    ghost placed: { (at : ℕ) → slice_index_or places at total ≡ number_in order at },
+    ghost numbered_by: { (at : ℕ) → slice_index_or by_address at total ≡ number_in order at },
 }
 
 /// A count, if four bytes hold it: a part with one of 2^32 or more is want of memory.
@@ -30,7 +30,7 @@ pub(crate) fn count_of(n: usize) -> Result<u32, AllocError>
 }
 
 /// For each address below `room` its number in the order, and `total` for one that isn't in it.
-fn places_of(
+fn by_address_of(
     alloc: Global,
     order: &[u32],
     room: usize,
@@ -38,15 +38,15 @@ fn places_of(
 ) -> Result<Items<u32>, AllocError>
     requires total { total ≡ length order.now }
     requires live { All (λ at. at < room) order.now }
-    ensures { IfOk result (λ places. (at : ℕ) → slice_index_or places at total ≡ number_in order.now at) }
+    ensures { IfOk result (λ by_address. (at : ℕ) → slice_index_or by_address at total ≡ number_in order.now at) }
 {
-    let mut places = Items::from_vec(vec![in alloc; total; room]?);
+    let mut by_address = Items::from_vec(vec![in alloc; total; room]?);
     let mut next = total;
     while next > 0 {
         next -= 1;
-        places.set(order[next as usize] as usize, next);
+        by_address.set(order[next as usize] as usize, next);
     }
-    Ok(places)
+    Ok(by_address)
 }
 
 impl Numbers {
@@ -58,11 +58,11 @@ impl Numbers {
     {
         let order = state.reach(alloc, names)?;
         let total = count_of(order.len())?;
-        let places = places_of(alloc, order.as_slice(), state.len(), total)?;
+        let by_address = by_address_of(alloc, order.as_slice(), state.len(), total)?;
         Ok(Numbers {
             order,
             total,
-            places,
+            by_address,
         })
     }
 
@@ -70,8 +70,8 @@ impl Numbers {
     pub fn number(&self, at: u32) -> u32
         ensures { result ≡ number_in self.now.order at }
     {
-        match self.places.get(at as usize) {
-            Some(place) => *place,
+        match self.by_address.get(at as usize) {
+            Some(number) => *number,
             None => self.total,
         }
     }

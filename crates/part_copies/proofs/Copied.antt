@@ -20,7 +20,7 @@ use Rattle.py_laws.specs.Same.{HasPair, ValuesMatch, ObjectsMatch, BothOrNone, B
 use Rattle.py_laws.proofs.Matching.{Turned}
 use Rattle.py_laws.proofs.Members.{name_cases, name_itself}
 use Rattle.py_laws.proofs.Partners.{none_in, first_in, later_in}
-use Rattle.py_laws.proofs.Places.{bound, bound_other}
+use Rattle.py_laws.proofs.Bindings.{bound, bound_other}
 use Rattle.py_laws.proofs.Reached.{reached_live}
 use Rattle.py_laws.proofs.Sameness.{same_by_agreeing, same_by_turned}
 use Rattle.run_graph.proofs.Lists.{cons_cases, has_name}
@@ -31,7 +31,7 @@ use Rattle.part_bytes.proofs.Pieces.{as_many}
 use Rattle.part_loader.specs.Loading.{Globals, globals_of, state_of}
 use Rattle.replay_laws.specs.Tidied.{AtPlace}
 use Rattle.replay_laws.proofs.Renumbering.{value_moved, object_moved, moved_at}
-use Rattle.replay_laws.proofs.Tidying.{from_place, to_zero, from_zero, held_live, object_live}
+use Rattle.replay_laws.proofs.Tidying.{from_position, to_zero, from_zero, held_live, object_live}
 
 -- ---- the names
 
@@ -169,7 +169,7 @@ module _ (s : State) (names : List Name) (closed : IsClosed s) where
   }
 
   pub copy_same : Same (Contains names) s Alone
-  copy_same = record { by = from_place 0 Found; same = same_by_agreeing (AtPlace Found) (HasPair (from_place 0 Found)) (Contains names) s Alone (to_zero Found) (from_zero Found) by_place }
+  copy_same = record { by = from_position 0 Found; same = same_by_agreeing (AtPlace Found) (HasPair (from_position 0 Found)) (Contains names) s Alone (to_zero Found) (from_zero Found) by_place }
 
   abbrev Places : ℕ → ℕ → Type 0
   Places = Turned (AtPlace Found)

@@ -14,7 +14,7 @@ use Rattle.py_heap.specs.States.{empty, with_name}
 use Rattle.py_machine.specs.Runs.{Name}
 use Rattle.py_laws.proofs.Members.{name_cases, name_itself}
 use Rattle.py_laws.proofs.Partners.{none_in, one_in, first_in}
-use Rattle.py_laws.proofs.Places.{bound, bound_other}
+use Rattle.py_laws.proofs.Bindings.{bound, bound_other}
 use Rattle.run_graph.proofs.Lists.{has_name}
 use Rattle.run_graph.proofs.Reached.{has_value}
 use Rattle.part_bytes.specs.Parts.{order, number_in, numbered, objects_of}

@@ -14,7 +14,7 @@ use Rattle.py_heap.specs.Reaching.{held_refs}
 use Rattle.py_machine.specs.Runs.{Name}
 use Rattle.py_laws.proofs.Members.{name_cases, name_itself}
 use Rattle.py_laws.proofs.Partners.{none_in, first_in, later_in}
-use Rattle.py_laws.proofs.Places.{bound, bound_other}
+use Rattle.py_laws.proofs.Bindings.{bound, bound_other}
 use Rattle.graph_model.specs.Faults.{TextBelow, Ascends}
 use Rattle.linked_parts.proofs.Lists.{cons_cases, below_on, never_below_itself}
 use Rattle.part_bytes.specs.declared.part.PartValue.{PartValue}

@@ -10,11 +10,11 @@ use py_value::Value;
 use std::alloc::{AllocError, Global};
 
 /// The new address of each object.
-pub(crate) trait Places {
+pub(crate) trait Addresses {
     ghost goes_to: { Self → ℕ → ℕ };
 
     /// The new address of the object at that one. An address of 2^32 or more is want of memory.
-    fn place(&self, at: u32) -> Result<u32, AllocError>
+    fn new_address(&self, at: u32) -> Result<u32, AllocError>
         ensures { IfOk result (λ new. new ≡ goes_to self.now at) };
 }
 
@@ -24,12 +24,12 @@ pub(crate) struct Above {
     pub(crate) base: usize,
 }
 
-impl Places for Above {
+impl Addresses for Above {
     ghost use Rattle.std.specs.Prelude.{◌+◌};
 
     ghost goes_to = { λ above at. above.base + at };
 
-    fn place(&self, at: u32) -> Result<u32, AllocError> {
+    fn new_address(&self, at: u32) -> Result<u32, AllocError> {
         if self.base > (u32::MAX - at) as usize {
             return Err(AllocError);
         }
@@ -37,21 +37,21 @@ impl Places for Above {
     }
 }
 
-impl Places for Numbers {
+impl Addresses for Numbers {
     ghost use Rattle.part_bytes.specs.Parts.{number_in};
 
     ghost goes_to = { λ numbers. number_in numbers.order };
 
-    fn place(&self, at: u32) -> Result<u32, AllocError> {
+    fn new_address(&self, at: u32) -> Result<u32, AllocError> {
         Ok(self.number(at))
     }
 }
 
-pub(crate) fn moved_value<P: Places>(places: &P, value: &Value) -> Result<Value, AllocError>
-    ensures { IfOk result (λ moved. moved ≡ numbered (P.goes_to places.now) value.now) }
+pub(crate) fn moved_value<P: Addresses>(addresses: &P, value: &Value) -> Result<Value, AllocError>
+    ensures { IfOk result (λ moved. moved ≡ numbered (P.goes_to addresses.now) value.now) }
 {
     match value {
-        Value::Ref(at) => Ok(Value::Ref(places.place(*at)?)),
+        Value::Ref(at) => Ok(Value::Ref(addresses.new_address(*at)?)),
         Value::Nothing => Ok(Value::Nothing),
         Value::Bool(truth) => Ok(Value::Bool(*truth)),
         Value::Number(number) => Ok(Value::Number(*number)),
@@ -60,41 +60,41 @@ pub(crate) fn moved_value<P: Places>(places: &P, value: &Value) -> Result<Value,
     }
 }
 
-fn moved_items<P: Places>(
+fn moved_items<P: Addresses>(
     alloc: Global,
-    places: &P,
+    addresses: &P,
     items: &[Value],
 ) -> Result<Items<Value>, AllocError>
-    ensures { IfOk result (λ moved. moved ≡ map (numbered (P.goes_to places.now)) items.now) }
+    ensures { IfOk result (λ moved. moved ≡ map (numbered (P.goes_to addresses.now)) items.now) }
 {
     let mut moved = Items::new(alloc);
     for value in items {
-        moved.push(moved_value(places, value)?)?;
+        moved.push(moved_value(addresses, value)?)?;
     }
     Ok(moved)
 }
 
-fn moved_pairs<P: Places>(alloc: Global, places: &P, dict: &Dict) -> Result<Dict, AllocError>
-    ensures { IfOk result (λ moved. moved ≡ map (numbered_pair (P.goes_to places.now)) dict.now) }
+fn moved_pairs<P: Addresses>(alloc: Global, addresses: &P, dict: &Dict) -> Result<Dict, AllocError>
+    ensures { IfOk result (λ moved. moved ≡ map (numbered_pair (P.goes_to addresses.now)) dict.now) }
 {
     let mut moved = Dict::new(alloc);
     for index in 0..dict.len() {
         let (key, value) = dict.pair_at(index);
-        moved.put(key.copy()?, moved_value(places, value)?)?;
+        moved.put(key.copy()?, moved_value(addresses, value)?)?;
     }
     Ok(moved)
 }
 
-pub(crate) fn moved_object<P: Places>(
+pub(crate) fn moved_object<P: Addresses>(
     alloc: Global,
-    places: &P,
+    addresses: &P,
     object: &Object,
 ) -> Result<Object, AllocError>
-    ensures { IfOk result (λ moved. moved ≡ numbered_object (P.goes_to places.now) object.now) }
+    ensures { IfOk result (λ moved. moved ≡ numbered_object (P.goes_to addresses.now) object.now) }
 {
     match object {
-        Object::List(items) => Ok(Object::List(moved_items(alloc, places, items.as_slice())?)),
-        Object::Dict(dict) => Ok(Object::Dict(moved_pairs(alloc, places, dict)?)),
+        Object::List(items) => Ok(Object::List(moved_items(alloc, addresses, items.as_slice())?)),
+        Object::Dict(dict) => Ok(Object::Dict(moved_pairs(alloc, addresses, dict)?)),
         Object::Function(function) => Ok(Object::Function(function.share()?)),
         Object::Handle { name, uses } => Ok(Object::Handle {
             name: name.share()?,

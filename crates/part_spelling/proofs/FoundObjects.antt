@@ -31,11 +31,11 @@ use Rattle.part_spelling.proofs.Numbers.{IsBytes}
 use Rattle.part_spelling.proofs.Offs.{answer, Stands, some_same}
 use Rattle.part_spelling.proofs.Values.{GoodPair}
 use Rattle.part_spelling.proofs.Found.{same_value, same_spot, failed, reached, stands_join, Ate, ate_to, ate_then, ate_none, ate_as, byte_found, four_found, text_found, many_found}
-use Rattle.part_spelling.proofs.FoundValues.{Behind, behind_whole, value_found, pair_found, items_good, pairs_good}
+use Rattle.part_spelling.proofs.FoundValues.{After, after_whole, value_found, pair_found, items_good, pairs_good}
 
 -- an object after its tag
 abbrev FoundObject : List ℕ → ℕ → Spot → Spot → Object → Type 0
-FoundObject bytes tag s t o = IsObject o × Behind bytes tag (object_bytes o) (object_refs o) s t
+FoundObject bytes tag s t o = IsObject o × After bytes tag (object_bytes o) (object_refs o) s t
 
 -- the text of a function that was read is its source
 has_text : (code : List ℕ) (def : Def) → DefinitionVerdict code (Ok def) → def.source ≡ code
@@ -130,7 +130,7 @@ module _ (bytes : List ℕ) (small : IsBytes bytes) where
       let a = byte_found bytes s r.mid r.first r.was in
       let f = object_by_found (length before) s.at r.first r.mid t o r.next in
       let same : r.mid.met ≡ s.met = sym (some_same s.met r.mid.met a.refs) in
-      (subst (λ (m : ℕ). length before < m) same f.0, f.1.0, behind_whole bytes r.first (object_bytes o) (object_refs o) s r.mid t a f.1.1)
+      (subst (λ (m : ℕ). length before < m) same f.0, f.1.0, after_whole bytes r.first (object_bytes o) (object_refs o) s r.mid t a f.1.1)
 
   -- n objects
   record Objects (n : ℕ) (before all : List Object) (s t : Spot) : Type 0 where

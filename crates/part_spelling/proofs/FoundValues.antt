@@ -26,19 +26,19 @@ use Rattle.part_spelling.proofs.Values.{GoodPair}
 use Rattle.part_spelling.proofs.Found.{same_value, same_spot, failed, reached, Ate, ate_then, ate_none, ate_as, byte_found, four_found, sixteen_found, text_found}
 
 -- what comes after a tag
-pub record Behind (bytes : List ℕ) (tag : ℕ) (xs ns : List ℕ) (s t : Spot) : Type 0 where
+pub record After (bytes : List ℕ) (tag : ℕ) (xs ns : List ℕ) (s t : Spot) : Type 0 where
   pub body : List ℕ
   pub is : xs ≡ tag ∷ body
   pub ate : Ate bytes body ns s t
 
-pub behind_whole : (bytes : List ℕ) (tag : ℕ) (xs ns : List ℕ) (s u t : Spot) → Ate bytes (tag ∷ []) [] s u → Behind bytes tag xs ns u t → Ate bytes xs ns s t
-behind_whole bytes tag xs ns s u t a b = ate_as bytes (tag ∷ b.body) xs ns ns s t t (sym b.is) refl refl (ate_then bytes (tag ∷ []) b.body [] ns s u t a b.ate)
+pub after_whole : (bytes : List ℕ) (tag : ℕ) (xs ns : List ℕ) (s u t : Spot) → Ate bytes (tag ∷ []) [] s u → After bytes tag xs ns u t → Ate bytes xs ns s t
+after_whole bytes tag xs ns s u t a b = ate_as bytes (tag ∷ b.body) xs ns ns s t t (sym b.is) refl refl (ate_then bytes (tag ∷ []) b.body [] ns s u t a b.ate)
 
 abbrev FoundKey : List ℕ → ℕ → Spot → Spot → Key → Type 0
-FoundKey bytes tag s t k = IsValue (value_of k) × Behind bytes tag (value_bytes (value_of k)) (value_refs (value_of k)) s t
+FoundKey bytes tag s t k = IsValue (value_of k) × After bytes tag (value_bytes (value_of k)) (value_refs (value_of k)) s t
 
 abbrev FoundValue : List ℕ → ℕ → Spot → Spot → Value → Type 0
-FoundValue bytes tag s t v = IsValue v × Behind bytes tag (value_bytes v) (value_refs v) s t
+FoundValue bytes tag s t v = IsValue v × After bytes tag (value_bytes v) (value_refs v) s t
 
 tagged_as : (tag n : ℕ) (xs : List ℕ) → tag ≡ n → n ∷ xs ≡ tag ∷ xs
 tagged_as tag n xs e = ap (λ (m : ℕ). m ∷ xs) (sym e)
@@ -219,7 +219,7 @@ module _ (bytes : List ℕ) (small : IsBytes bytes) where
   value_found s t v h =
       let r = reached (byte bytes s) (λ tag. value_by bytes s.at tag) v t h in
       let f = value_by_found s.at r.first r.mid t v r.next in
-      (f.0, behind_whole bytes r.first (value_bytes v) (value_refs v) s r.mid t (byte_found bytes s r.mid r.first r.was) f.1)
+      (f.0, after_whole bytes r.first (value_bytes v) (value_refs v) s r.mid t (byte_found bytes s r.mid r.first r.was) f.1)
 
   abbrev if_none : Bool → ℕ → ℕ → Read (Option Value)
   if_none alone p tag = cond ((tag == 7) && alone) (pure None) (λ s. after (value_by bytes p tag s) (λ v. pure (Some v)))
@@ -240,7 +240,7 @@ module _ (bytes : List ℕ) (small : IsBytes bytes) where
             let some : after (value_by bytes s.at r.first r.mid) (λ v. pure (Some v)) ≡ answer o t = rw f at r.next in
             let q = reached (value_by bytes s.at r.first r.mid) (λ v. pure (Some v)) o t some in
             let v = value_by_found s.at r.first r.mid q.mid q.first q.was in
-            let b : Ate bytes (value_bytes q.first) (value_refs q.first) s q.mid = behind_whole bytes r.first (value_bytes q.first) (value_refs q.first) s r.mid q.mid a v.1 in
+            let b : Ate bytes (value_bytes q.first) (value_refs q.first) s q.mid = after_whole bytes r.first (value_bytes q.first) (value_refs q.first) s r.mid q.mid a v.1 in
             let there : Ate bytes (value_bytes q.first) (value_refs q.first) s t = subst (λ (u : Spot). Ate bytes (value_bytes q.first) (value_refs q.first) s u) (same_spot (Some q.first) o q.mid t q.next) b in
             subst (λ (w : Option Value). IsHeld alone w × Ate bytes (held_bytes w) (held_refs value_refs w) s t) (same_value (Some q.first) o q.mid t q.next) (v.0, there)
       ]
@@ -254,7 +254,7 @@ module _ (bytes : List ℕ) (small : IsBytes bytes) where
       let q = reached (key_by bytes s.at r.first r.mid) (λ k. pair_with bytes s.at before k) p t r.next in
       let k = key_found s.at r.first r.mid q.mid q.first q.was in
       let kv : Value = value_of q.first in
-      let key : Ate bytes (value_bytes kv) (value_refs kv) s q.mid = behind_whole bytes r.first (value_bytes kv) (value_refs kv) s r.mid q.mid (byte_found bytes s r.mid r.first r.was) k.1 in
+      let key : Ate bytes (value_bytes kv) (value_refs kv) s q.mid = after_whole bytes r.first (value_bytes kv) (value_refs kv) s r.mid q.mid (byte_found bytes s r.mid r.first r.was) k.1 in
       elim (cases_Bool (is_some (value_under before q.first))) [
         | inl e ↦ absurd (let no : failed (Key × Value) (BadKey s.at) ≡ answer p t = rw e at q.next in cc)
         | inr e ↦

@@ -81,8 +81,8 @@ module _ (bytes : List ℕ) where
       let second : values bytes n (spot (0 + length xs) 0 most) ≡ answer p.values (spot (0 + length xs + length ys) h.met most) =
       off_values n p.values 0 h.met most h.as_many h.values h.refs fewer (0 + length xs) (stands_next bytes 0 xs ys front) in
       let place : 0 + length xs + length ys ≡ 0 + length (xs ++ ys) = let size = length-append xs ys in omega (arith, size) in
-      let behind : Stands bytes (0 + length xs + length ys) zs = subst (λ (k : ℕ). Stands bytes k zs) (sym place) (stands_next bytes 0 (xs ++ ys) zs stands) in
-      let third = all_objects bytes p.objects h.met most (0 + length xs + length ys) h.few_objects h.within h.objects behind in
+      let beyond : Stands bytes (0 + length xs + length ys) zs = subst (λ (k : ℕ). Stands bytes k zs) (sym place) (stands_next bytes 0 (xs ++ ys) zs stands) in
+      let third = all_objects bytes p.objects h.met most (0 + length xs + length ys) h.few_objects h.within h.objects beyond in
       let end : 0 + length xs + length ys + length zs ≡ length (bytes_of p) =
       let one = length-append (xs ++ ys) zs in let two = length-append xs ys in let all : length (bytes_of p) ≡ length ((xs ++ ys) ++ zs) = ap (λ (ws : List ℕ). length ws) spelled in omega (arith, one, two, all) in
       let last : List (List ℕ) → List (Option Value) → Read PartValue = λ ns vs t. after (objects bytes t) (λ os. let whole : PartValue = record { names = ns; values = vs; objects = os } in pure whole) in

@@ -6,7 +6,7 @@ ghost use Rattle.py_meaning.specs.Numbers.{as_number};
 ghost use Rattle.py_meaning.specs.Methods.{items_in, pairs_in};
 ghost use Rattle.py_meaning.specs.Items as spec;
 
-use crate::places::{place_in, short_place};
+use crate::positions::{position_in, short_position};
 use py_heap::Object;
 use py_machine::{
     Change, Fault, Machine, ValueKind, no_assigned_index, no_item_deletion, no_key, not_an_index,
@@ -20,14 +20,14 @@ fn deleted_at(
     alloc: Global,
     machine: &mut Machine,
     address: u32,
-    place: Option<usize>,
+    position: Option<usize>,
 ) -> Result<(), Fault>
-    ensures runs { Still (run (spec.deleted_at address place)) machine.old result machine.new }
+    ensures runs { Still (run (spec.deleted_at address position)) machine.old result machine.new }
     ensures drawn { machine.new.drawn ≡ machine.old.drawn }
 {
-    match place {
-        Some(place) => {
-            let at = short_place(place)?;
+    match position {
+        Some(position) => {
+            let at = short_position(position)?;
             machine.change(address, Change::Remove { at })
         }
         None => Err(Fault::Raised(no_assigned_index(alloc)?)),
@@ -46,7 +46,7 @@ fn list_deleted(
     ensures drawn { machine.new.drawn ≡ machine.old.drawn }
 {
     match sign_of(at) {
-        Some(index) => deleted_at(alloc, machine, address, place_in(count, index)),
+        Some(index) => deleted_at(alloc, machine, address, position_in(count, index)),
         None => Err(Fault::Raised(not_an_index(alloc)?)),
     }
 }

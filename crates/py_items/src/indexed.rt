@@ -4,7 +4,7 @@ ghost use Rattle.py_meaning.specs.Acts.{run};
 ghost use Rattle.py_meaning.specs.Numbers.{as_number};
 ghost use Rattle.py_meaning.specs.Items as spec;
 
-use crate::places::{item_at, place_in};
+use crate::positions::{item_at, position_in};
 use plain_data::{Items, SharedText, Text};
 use py_heap::{Dict, Object};
 use py_machine::{
@@ -75,9 +75,9 @@ fn text_indexed(
     ensures drawn { machine.new.drawn ≡ machine.old.drawn }
 {
     match sign_of(at) {
-        Some(index) => match place_in(text.len_chars(), index) {
-            Some(place) => {
-                let character = Text::new(alloc, text.char_at(place))?;
+        Some(index) => match position_in(text.len_chars(), index) {
+            Some(position) => {
+                let character = Text::new(alloc, text.char_at(position))?;
                 made_text(alloc, machine, character)
             }
             None => Err(Fault::Raised(no_text_index(alloc)?)),

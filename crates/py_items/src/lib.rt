@@ -7,7 +7,7 @@ mod deleted;
 mod filled;
 mod indexed;
 mod iterated;
-mod places;
+mod positions;
 mod sliced;
 mod stored;
 
@@ -16,6 +16,6 @@ pub use deleted::delete_item;
 pub use filled::{fill, keys_from};
 pub use indexed::index;
 pub use iterated::{iterate, range_of};
-pub use places::{clipped, item_at, place_in, short_place};
+pub use positions::{clipped, item_at, position_in, short_position};
 pub use sliced::slice;
 pub use stored::{put, store_item};

@@ -5,7 +5,7 @@ ghost use Rattle.py_meaning.specs.Acts.{run};
 ghost use Rattle.py_meaning.specs.Items as spec;
 
 use crate::indexed::not_indexed;
-use crate::places::clipped;
+use crate::positions::clipped;
 use plain_data::{Items, SharedText, Text};
 use py_heap::Object;
 use py_machine::{Fault, Machine, ValueKind, not_an_index, not_subscriptable};
@@ -27,8 +27,8 @@ fn bound(alloc: Global, machine: &Machine, bound: &Option<Value>) -> Result<Opti
     }
 }
 
-fn from_place(count: usize, bound: &Option<i128>) -> usize
-    ensures value { result ≡ spec.from_place count bound.now }
+fn from_position(count: usize, bound: &Option<i128>) -> usize
+    ensures value { result ≡ spec.from_position count bound.now }
     ensures within { result ≤ count }
 {
     match bound {
@@ -37,8 +37,8 @@ fn from_place(count: usize, bound: &Option<i128>) -> usize
     }
 }
 
-fn to_place(count: usize, bound: &Option<i128>) -> usize
-    ensures value { result ≡ spec.to_place count bound.now }
+fn to_position(count: usize, bound: &Option<i128>) -> usize
+    ensures value { result ≡ spec.to_position count bound.now }
     ensures within { result ≤ count }
 {
     match bound {
@@ -68,8 +68,8 @@ fn cut_text(
     ensures { IfOk result (λ part. part ≡ encode_utf8_all (spec.cut (chars text.now) from.now to.now)) }
 {
     let count = text.len_chars();
-    let from = from_place(count, from);
-    let to = to_place(count, to);
+    let from = from_position(count, from);
+    let to = to_position(count, to);
     Text::new(alloc, characters(text, from, to))
 }
 
@@ -107,8 +107,8 @@ fn cut_items(
     ensures { IfOk result (λ part. part ≡ spec.cut items.now from.now to.now) }
 {
     let count = items.len();
-    let from = from_place(count, from);
-    let to = to_place(count, to);
+    let from = from_position(count, from);
+    let to = to_position(count, to);
     copy_items(alloc, range(items.as_slice(), from, to))
 }
 

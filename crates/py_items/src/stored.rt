@@ -8,7 +8,7 @@ ghost use Rattle.py_meaning.specs.Methods.{items_in, pairs_in};
 ghost use Rattle.py_meaning.specs.Items as spec;
 ghost use Rattle.py_meaning.specs.Meaning as meaning;
 
-use crate::places::{place_in, short_place};
+use crate::positions::{position_in, short_position};
 use py_heap::Object;
 use py_machine::{
     Change, Fault, Machine, ValueKind, no_assigned_index, no_item_assignment, not_an_index,
@@ -23,14 +23,14 @@ fn stored_at(
     machine: &mut Machine,
     address: u32,
     value: Value,
-    place: Option<usize>,
+    position: Option<usize>,
 ) -> Result<(), Fault>
-    ensures runs { Still (run (spec.stored_at address value place)) machine.old result machine.new }
+    ensures runs { Still (run (spec.stored_at address value position)) machine.old result machine.new }
     ensures drawn { machine.new.drawn ≡ machine.old.drawn }
 {
-    match place {
-        Some(place) => {
-            let at = short_place(place)?;
+    match position {
+        Some(position) => {
+            let at = short_position(position)?;
             machine.charge(alloc, weight(&value))?;
             machine.change(address, Change::Set { at, item: value })
         }
@@ -95,7 +95,7 @@ fn list_stored(
     ensures drawn { machine.new.drawn ≡ machine.old.drawn }
 {
     match sign_of(at) {
-        Some(index) => stored_at(alloc, machine, address, value, place_in(count, index)),
+        Some(index) => stored_at(alloc, machine, address, value, position_in(count, index)),
         None => Err(Fault::Raised(not_an_index(alloc)?)),
     }
 }

@@ -83,8 +83,8 @@ impl<
     {
         machine.step(self.alloc)?;
         let container = self.eval(machine, feed, value)?;
-        let place = self.eval(machine, feed, at)?;
-        index(self.alloc, machine, &container, &place)
+        let key = self.eval(machine, feed, at)?;
+        index(self.alloc, machine, &container, &key)
     }
 
     /// The value of an expression that may be left out.

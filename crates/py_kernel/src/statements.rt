@@ -158,8 +158,8 @@ impl<
         machine.step(self.alloc)?;
         let value = self.eval(machine, feed, value)?;
         let container = self.eval(machine, feed, on)?;
-        let place = self.eval(machine, feed, at)?;
-        store_item(self.alloc, machine, &container, &place, value)?;
+        let key = self.eval(machine, feed, at)?;
+        store_item(self.alloc, machine, &container, &key, value)?;
         Ok(Flow::Next)
     }
 
@@ -238,11 +238,11 @@ impl<
         machine.step(self.alloc)?;
         self.as_expression(machine)?;
         let container = self.part(machine, feed, on)?;
-        let place = self.part(machine, feed, at)?;
-        let held = index(self.alloc, machine, &container, &place)?;
+        let key = self.part(machine, feed, at)?;
+        let held = index(self.alloc, machine, &container, &key)?;
         let right = self.eval(machine, feed, value)?;
         let new = augmented(self.alloc, machine, op, &held, &right)?;
-        store_item(self.alloc, machine, &container, &place, new)?;
+        store_item(self.alloc, machine, &container, &key, new)?;
         Ok(Flow::Next)
     }
 
@@ -285,8 +285,8 @@ impl<
     {
         machine.step(self.alloc)?;
         let container = self.eval(machine, feed, on)?;
-        let place = self.eval(machine, feed, at)?;
-        delete_item(self.alloc, machine, &container, &place)?;
+        let key = self.eval(machine, feed, at)?;
+        delete_item(self.alloc, machine, &container, &key)?;
         Ok(Flow::Next)
     }
 

@@ -395,7 +395,7 @@ module _ (c : Setting) where
         next c (item_stored_respects c r s x y v w k m h) λ _ _ _.
         goes c flow.Next flow.Next to_next
 
-    assigned_respects : (place : Target) (e : Expr) → BindsAt Binds c.rules.evals place → c.rules.evals e → Flows c (assigned inner place e) (assigned inner place e)
+    assigned_respects : (into : Target) (e : Expr) → BindsAt Binds c.rules.evals into → c.rules.evals e → Flows c (assigned inner into e) (assigned inner into e)
     assigned_respects (target.Name name) e may r = assign_respects name e may r
     assigned_respects (target.Item on at) e may r = assign_item_respects on at e may r
 
@@ -427,7 +427,7 @@ module _ (c : Setting) where
         next c (item_stored_respects c r s x y new other h k q) λ _ _ _.
         goes c flow.Next flow.Next to_next
 
-    augment_at_respects : (place : Target) (o : Op) (e : Expr) → BindsAt Binds c.rules.evals place → c.rules.evals e → Flows c (augment_at inner place o e) (augment_at inner place o e)
+    augment_at_respects : (into : Target) (o : Op) (e : Expr) → BindsAt Binds c.rules.evals into → c.rules.evals e → Flows c (augment_at inner into o e) (augment_at inner into o e)
     augment_at_respects (target.Name name) o e may r = augment_respects name o e may r
     augment_at_respects (target.Item on at) o e may r = augment_item_respects on at o e may r
 
@@ -440,7 +440,7 @@ module _ (c : Setting) where
         next c (item_deleted_respects c r s x y h k) λ _ _ _.
         goes c flow.Next flow.Next to_next
 
-    deleted_respects : (place : Target) → BindsAt c.rules.known c.rules.evals place → Flows c (deleted inner place) (deleted inner place)
+    deleted_respects : (into : Target) → BindsAt c.rules.known c.rules.evals into → Flows c (deleted inner into) (deleted inner into)
     deleted_respects (target.Name name) known = delete_respects c name known
     deleted_respects (target.Item on at) r = delete_item_respects on at r
 
@@ -536,9 +536,9 @@ module _ (c : Setting) where
     statement_respects Stmt-F.Continue r = one_step flow.Continue continues
     statement_respects (Stmt-F.Return e) r = return_respects e r
     statement_respects (Stmt-F.Global names) r = one_step flow.Next to_next
-    statement_respects (Stmt-F.Delete place) r = deleted_respects place r
-    statement_respects (Stmt-F.Assign place e) r = assigned_respects place e r.0 r.1
-    statement_respects (Stmt-F.Augment place o e) r = augment_at_respects place o e r.0 r.1
+    statement_respects (Stmt-F.Delete into) r = deleted_respects into r
+    statement_respects (Stmt-F.Assign into e) r = assigned_respects into e r.0 r.1
+    statement_respects (Stmt-F.Augment into o e) r = augment_at_respects into o e r.0 r.1
     statement_respects (Stmt-F.Expression e) r = show_respects e r
     statement_respects (Stmt-F.If tests other) r = next c (step_respects c) λ _ _ _. arms_respect tests other r.0 r.1
     statement_respects (Stmt-F.While test body) r = repeat_respects test body r.0 r.1

@@ -19,7 +19,7 @@ use Rattle.py_machine.specs.Errors.{unhashable, not_an_index, not_subscriptable,
 use Rattle.py_meaning.specs.Acts.{Act, fail}
 use Rattle.py_meaning.specs.Numbers.{as_number}
 use Rattle.py_meaning.specs.Operators.{joined}
-use Rattle.py_meaning.specs.Items.{place_in, item_at, item_or, key_or, keyed, list_indexed, dict_indexed, character, text_indexed, object_indexed, not_indexed, indexed, number_or, bound, from_place, to_place, cut, text_sliced, list_sliced, object_sliced, sliced, stored_at, list_stored, pair_units, put_in, dict_stored, object_stored, not_stored, item_stored, deleted_at, list_deleted, pair_deleted, dict_deleted, object_deleted, not_deleted, item_deleted}
+use Rattle.py_meaning.specs.Items.{position_in, item_at, item_or, key_or, keyed, list_indexed, dict_indexed, character, text_indexed, object_indexed, not_indexed, indexed, number_or, bound, from_position, to_position, cut, text_sliced, list_sliced, object_sliced, sliced, stored_at, list_stored, pair_units, put_in, dict_stored, object_stored, not_stored, item_stored, deleted_at, list_deleted, pair_deleted, dict_deleted, object_deleted, not_deleted, item_deleted}
 use Rattle.py_laws.specs.Same.{equal, refs, PairsMatch, BothOrNone}
 use Rattle.py_laws.proofs.Zipped.{zip_length, zip_get, zip_range, under_match}
 use Rattle.py_laws.proofs.Respecting.{Setting, Paired, setting, remove, put, drop, Respects, Any, Equal, next, pure_respects, fail_respects}
@@ -39,12 +39,12 @@ module _ (c : Setting) where
 
   -- ---- positions and keys
 
-  same_place : (vs ws : List Value) (n : ℤ) → AllZip (Values c) vs ws → place_in (length vs) n ≡ place_in (length ws) n
-  same_place vs ws n h = ap (λ (l : ℕ). place_in l n) (zip_length (Values c) vs ws h)
+  same_position : (vs ws : List Value) (n : ℤ) → AllZip (Values c) vs ws → position_in (length vs) n ≡ position_in (length ws) n
+  same_position vs ws n h = ap (λ (l : ℕ). position_in l n) (zip_length (Values c) vs ws h)
 
   item_match : (vs ws : List Value) (p : Option ℕ) → AllZip (Values c) vs ws → Held (item_at vs p) (item_at ws p)
   item_match vs ws None h = tt
-  item_match vs ws (Some place) h = zip_get (Values c) place vs ws h
+  item_match vs ws (Some position) h = zip_get (Values c) position vs ws h
 
   pub items_there : (vs ws : List Value) (p q : Option ℕ) → p ≡ q → AllZip (Values c) vs ws → Held (item_at vs p) (item_at ws q)
   items_there vs ws p q e h = subst (λ z. Held (item_at vs p) (item_at ws z)) e (item_match vs ws p h)
@@ -70,7 +70,7 @@ module _ (c : Setting) where
   -- ---- an index
 
   list_indexed_respects : (vs ws : List Value) (n : Option ℤ) → AllZip (Values c) vs ws → Gives c (list_indexed vs n) (list_indexed ws n)
-  list_indexed_respects vs ws (Some n) h = item_or_respects no_list_index no_list_index _ _ refl (items_there vs ws _ _ (same_place vs ws n h) h)
+  list_indexed_respects vs ws (Some n) h = item_or_respects no_list_index no_list_index _ _ refl (items_there vs ws _ _ (same_position vs ws n h) h)
   list_indexed_respects vs ws None h = fail_respects c (Values c) not_an_index not_an_index refl
 
   dict_indexed_respects : (vs ws : Pairs) (x y : Value) → Entries vs ws → Values c x y → Gives c (dict_indexed vs x) (dict_indexed ws y)
@@ -81,11 +81,11 @@ module _ (c : Setting) where
       (item_or_respects (no_key (key_text key)) (no_key (key_text key)) _ _ refl (under_match (Paired c) vs ws key h))
 
   character_respects : (text : List ℕ) (p : Option ℕ) → Gives c (character text p) (character text p)
-  character_respects text (Some place) = made_text_respects c _ _ refl
+  character_respects text (Some position) = made_text_respects c _ _ refl
   character_respects text None = fail_respects c (Values c) no_text_index no_text_index refl
 
   text_indexed_respects : (text : List ℕ) (n : Option ℤ) → Gives c (text_indexed text n) (text_indexed text n)
-  text_indexed_respects text (Some n) = character_respects text (place_in (length (chars text)) n)
+  text_indexed_respects text (Some n) = character_respects text (position_in (length (chars text)) n)
   text_indexed_respects text None = fail_respects c (Values c) not_an_index not_an_index refl
 
   no_items : (o u : Option Object) → Kinds (Paired c) o u → Gives c (fail (not_subscriptable (object_kind o))) (fail (not_subscriptable (object_kind u)))
@@ -126,8 +126,8 @@ module _ (c : Setting) where
 
   cut_match : (vs ws : List Value) (from to : Option ℤ) → AllZip (Values c) vs ws → AllZip (Values c) (cut vs from to) (cut ws from to)
   cut_match vs ws from to h =
-      subst (λ (l : ℕ). AllZip (Values c) (cut vs from to) (slice_range ws (from_place l from) (to_place l to))) (zip_length (Values c) vs ws h)
-      (zip_range (Values c) (from_place (length vs) from) (to_place (length vs) to) vs ws h)
+      subst (λ (l : ℕ). AllZip (Values c) (cut vs from to) (slice_range ws (from_position l from) (to_position l to))) (zip_length (Values c) vs ws h)
+      (zip_range (Values c) (from_position (length vs) from) (to_position (length vs) to) vs ws h)
 
   text_sliced_respects : (text : List ℕ) (o u o' u' : Option Value) → Held o u → Held o' u' → Gives c (text_sliced text o o') (text_sliced text u u')
   unfolding text_sliced
@@ -162,14 +162,14 @@ module _ (c : Setting) where
   -- ---- what is stored
 
   stored_at_respects : (a b : ℕ) (v w : Value) (p : Option ℕ) → Paired c a b → Values c v w → Does (stored_at a v p) (stored_at b w p)
-  stored_at_respects a b v w (Some place) p h =
+  stored_at_respects a b v w (Some position) p h =
       next c (charge_respects c (weight v) (weight w) (same_weight c v w h)) λ _ _ _.
-      change_respects c a b (changes.Set place v) (changes.Set place w) p (setting place v w h)
+      change_respects c a b (changes.Set position v) (changes.Set position w) p (setting position v w h)
   stored_at_respects a b v w None p h = fail_respects c Any no_assigned_index no_assigned_index refl
 
   list_stored_respects : (a b : ℕ) (vs ws : List Value) (v w : Value) (n : Option ℤ) → Paired c a b → AllZip (Values c) vs ws → Values c v w → Does (list_stored a vs v n) (list_stored b ws w n)
   list_stored_respects a b vs ws v w (Some n) p m h =
-      subst (λ z. Does (stored_at a v (place_in (length vs) n)) (stored_at b w z)) (same_place vs ws n m) (stored_at_respects a b v w (place_in (length vs) n) p h)
+      subst (λ z. Does (stored_at a v (position_in (length vs) n)) (stored_at b w z)) (same_position vs ws n m) (stored_at_respects a b v w (position_in (length vs) n) p h)
   list_stored_respects a b vs ws v w None p m h = fail_respects c Any not_an_index not_an_index refl
 
   same_there : (o u : Option Value) → Held o u → is_some o ≡ is_some u
@@ -222,12 +222,12 @@ module _ (c : Setting) where
   -- ---- what is deleted
 
   deleted_at_respects : (a b : ℕ) (p : Option ℕ) → Paired c a b → Does (deleted_at a p) (deleted_at b p)
-  deleted_at_respects a b (Some place) p = change_respects c a b (changes.Remove place) (changes.Remove place) p (remove place)
+  deleted_at_respects a b (Some position) p = change_respects c a b (changes.Remove position) (changes.Remove position) p (remove position)
   deleted_at_respects a b None p = fail_respects c Any no_assigned_index no_assigned_index refl
 
   list_deleted_respects : (a b : ℕ) (vs ws : List Value) (n : Option ℤ) → Paired c a b → AllZip (Values c) vs ws → Does (list_deleted a vs n) (list_deleted b ws n)
   list_deleted_respects a b vs ws (Some n) p m =
-      subst (λ z. Does (deleted_at a (place_in (length vs) n)) (deleted_at b z)) (same_place vs ws n m) (deleted_at_respects a b (place_in (length vs) n) p)
+      subst (λ z. Does (deleted_at a (position_in (length vs) n)) (deleted_at b z)) (same_position vs ws n m) (deleted_at_respects a b (position_in (length vs) n) p)
   list_deleted_respects a b vs ws None p m = fail_respects c Any not_an_index not_an_index refl
 
   pair_deleted_respects : (a b : ℕ) (key : Key) (o u : Option Value) → Paired c a b → Held o u → Does (pair_deleted a key o) (pair_deleted b key u)

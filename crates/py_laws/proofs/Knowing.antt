@@ -196,22 +196,22 @@ module _ (Known : Name → Type 0) where
   if_evals None h = tt
   if_evals (Some e) h = h
 
-  deletes : (place : Target) → Pass (names_at place) → BindsAt Known Evals place
+  deletes : (into : Target) → Pass (names_at into) → BindsAt Known Evals into
   deletes (target.Name name) h = h.0
   deletes (target.Item on at) h = parts (names_of on) (names_of at) h
 
-  binds : (place : Target) → Pass (names_at place) → BindsAt Binds Evals place
+  binds : (into : Target) → Pass (names_at into) → BindsAt Binds Evals into
   binds (target.Name name) h = (tt, h.0)
   binds (target.Item on at) h = parts (names_of on) (names_of at) h
 
-  assigns : (place : Target) (e : Expr) → Pass (names_at place ++ names_of e) → BindsAt Binds Evals place × Evals e
-  assigns place e h = let w = parts (names_at place) (names_of e) h in (binds place w.0, w.1)
+  assigns : (into : Target) (e : Expr) → Pass (names_at into ++ names_of e) → BindsAt Binds Evals into × Evals e
+  assigns into e h = let w = parts (names_at into) (names_of e) h in (binds into w.0, w.1)
 
   opens_layer : (x : Stmt-F Stmt Arm Def) → Pass (statement_step (map-Stmt Stmt Arm Def Names Names Names names_by names_by_arm names_by_def x)) → Opens Binds Known Fit Evals Runs x
   opens_layer (Stmt-F.Return e) h = if_evals e h
-  opens_layer (Stmt-F.Delete place) h = deletes place h
-  opens_layer (Stmt-F.Assign place e) h = assigns place e h
-  opens_layer (Stmt-F.Augment place o e) h = assigns place e h
+  opens_layer (Stmt-F.Delete into) h = deletes into h
+  opens_layer (Stmt-F.Assign into e) h = assigns into e h
+  opens_layer (Stmt-F.Augment into o e) h = assigns into e h
   opens_layer (Stmt-F.Expression e) h = h
   opens_layer (Stmt-F.If arms other) h =
       let w = parts (joined (map names_by_arm arms)) (joined (map names_by other)) h in

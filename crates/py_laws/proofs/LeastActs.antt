@@ -34,7 +34,7 @@ use Rattle.py_machine.specs.Runs as runs
 use Rattle.py_meaning.specs.Acts.{step, charge, look, seek, bind, unbind, is_local, enter, leave, add, object_at, change, list_at, kind_of, write, draw}
 use Rattle.py_laws.specs.Same.{ValuesMatch, equal, refs, PairsMatch, ObjectsMatch, BothOrNone}
 use Rattle.py_laws.proofs.Members.{same_name, name_itself, name_cases, name_before, looked_newly, number_kept, number_newly, number_before}
-use Rattle.py_laws.proofs.Places.{Named, bound, unbound, bound_other, unbound_other, get_kept, get_new, set_same, set_other}
+use Rattle.py_laws.proofs.Bindings.{Named, bound, unbound, bound_other, unbound_other, get_kept, get_new, set_same, set_other}
 use Rattle.py_laws.proofs.Zipped.{zip_length, zip_append, zip_insert, zip_set, zip_remove, put_match, drop_match}
 use Rattle.py_laws.proofs.Rules.{IfThere}
 use Rattle.py_laws.proofs.Respecting.{Setting, Paired, SlotsMatch, empty, held, FramesMatch, ChangesMatch, push, extends, insert, setting, remove, put, drop, clear, use_, MarksMatch, MayHold, AreFit, AreKnown, Alike, Ends, Stays, Respects, Any, Equal, cond_ends, next, pure_respects}

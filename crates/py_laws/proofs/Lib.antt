@@ -3,7 +3,7 @@ pub mod Matching
 pub mod Pairing
 pub mod Sameness
 pub mod Members
-pub mod Places
+pub mod Bindings
 pub mod Sparing
 pub mod Rules
 pub mod Respecting

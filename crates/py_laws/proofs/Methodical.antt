@@ -26,7 +26,7 @@ use Rattle.py_machine.specs.Errors.{no_attribute, wrong_number, wrong_argument, 
 use Rattle.py_machine.specs.Methods.{list_method_named, dict_method_named, text_method_named, list_method_name, dict_method_name, text_method_name}
 use Rattle.py_machine.specs.Runs.{Name}
 use Rattle.py_meaning.specs.Acts.{Act, fail}
-use Rattle.py_meaning.specs.Items.{place_in, clipped}
+use Rattle.py_meaning.specs.Items.{position_in, clipped}
 use Rattle.py_meaning.specs.Numbers.{as_number}
 use Rattle.py_meaning.specs.Texts.{begins, ends, split_at}
 use Rattle.py_meaning.specs.Methods.{list_bound, dict_bound, text_bound, object_bound, not_bound, method_of, append, items_in, inserted, insert_at, taken_out, popped_at, popped, pop_at, pop_number, extend, extended_by, extended_at, extend_with, clear, list_method, pairs_in, value_or, get, pop_key, dict_method, with_text, texts_of, texts_in, texts_joined, join_at, join, as_texts, split, starts_with, ends_with, text_method, method_called}
@@ -115,20 +115,20 @@ module _ (c : Setting) where
   insert_at_respects a b (Some n) v w p h = next c (object_at_respects c a b p) λ o u k. inserted_respects a b n v w o u p h (kinds c o u k)
   insert_at_respects a b None v w p h = wrong_gives (codes "insert")
 
-  taken_out_respects : (a b : ℕ) (place : Option ℕ) (v w : Value) → Paired c a b → Values c v w → Gives c (taken_out a place v) (taken_out b place w)
-  taken_out_respects a b (Some place) v w p h =
-      next c (change_respects c a b (changes.Remove place) (changes.Remove place) p (remove place)) λ _ _ _. pure_respects c (Values c) v w h
+  taken_out_respects : (a b : ℕ) (position : Option ℕ) (v w : Value) → Paired c a b → Values c v w → Gives c (taken_out a position v) (taken_out b position w)
+  taken_out_respects a b (Some position) v w p h =
+      next c (change_respects c a b (changes.Remove position) (changes.Remove position) p (remove position)) λ _ _ _. pure_respects c (Values c) v w h
   taken_out_respects a b None v w p h = pure_respects c (Values c) v w h
 
-  popped_at_respects : (a b : ℕ) (vs ws : List Value) (place : Option ℕ) → Paired c a b → AllZip (Values c) vs ws → Gives c (popped_at a vs place) (popped_at b ws place)
-  popped_at_respects a b vs ws place p m =
-      next c (item_or_respects c no_popped_index no_popped_index _ _ refl (items_there c vs ws place place refl m)) λ v w h. taken_out_respects a b place v w p h
+  popped_at_respects : (a b : ℕ) (vs ws : List Value) (position : Option ℕ) → Paired c a b → AllZip (Values c) vs ws → Gives c (popped_at a vs position) (popped_at b ws position)
+  popped_at_respects a b vs ws position p m =
+      next c (item_or_respects c no_popped_index no_popped_index _ _ refl (items_there c vs ws position position refl m)) λ v w h. taken_out_respects a b position v w p h
 
   popped_respects : (a b : ℕ) (n : ℤ) (vs ws : List Value) → Paired c a b → AllZip (Values c) vs ws → Gives c (popped a n vs) (popped b n ws)
   popped_respects a b n [] [] p m = fail_respects c (Values c) popped_empty popped_empty refl
   popped_respects a b n (v ∷ vs) (w ∷ ws) p m =
-      subst (λ (l : ℕ). Gives c (popped_at a (v ∷ vs) (place_in (length (v ∷ vs)) n)) (popped_at b (w ∷ ws) (place_in l n))) (zip_length (Values c) (v ∷ vs) (w ∷ ws) m)
-      (popped_at_respects a b (v ∷ vs) (w ∷ ws) (place_in (length (v ∷ vs)) n) p m)
+      subst (λ (l : ℕ). Gives c (popped_at a (v ∷ vs) (position_in (length (v ∷ vs)) n)) (popped_at b (w ∷ ws) (position_in l n))) (zip_length (Values c) (v ∷ vs) (w ∷ ws) m)
+      (popped_at_respects a b (v ∷ vs) (w ∷ ws) (position_in (length (v ∷ vs)) n) p m)
   popped_respects a b n [] (w ∷ ws) p m = absurd m
   popped_respects a b n (v ∷ vs) [] p m = absurd m
 

@@ -7,12 +7,12 @@ use Rattle.py_laws.proofs.Matching.{Through}
 
 -- ---- one pair more
 
-at_place : (p : ℕ × ℕ) (ps : Pairs) (a b k : ℕ) → k < length (p ∷ ps) → get_or (p ∷ ps) k (a, b) ≡ (a, b) → ((a ≡ p.0) × (b ≡ p.1)) ⊎ HasPair ps a b
-at_place p ps a b zero l e = inl (ap (λ (q : ℕ × ℕ). q.0) (sym e), ap (λ (q : ℕ × ℕ). q.1) (sym e))
-at_place p ps a b (suc k) l e = inr (k, omega arith, e)
+at_position : (p : ℕ × ℕ) (ps : Pairs) (a b k : ℕ) → k < length (p ∷ ps) → get_or (p ∷ ps) k (a, b) ≡ (a, b) → ((a ≡ p.0) × (b ≡ p.1)) ⊎ HasPair ps a b
+at_position p ps a b zero l e = inl (ap (λ (q : ℕ × ℕ). q.0) (sym e), ap (λ (q : ℕ × ℕ). q.1) (sym e))
+at_position p ps a b (suc k) l e = inr (k, omega arith, e)
 
 pub pair_cases : (p : ℕ × ℕ) (ps : Pairs) (a b : ℕ) → HasPair (p ∷ ps) a b → ((a ≡ p.0) × (b ≡ p.1)) ⊎ HasPair ps a b
-pair_cases p ps a b h = at_place p ps a b h.0 h.1 h.2
+pair_cases p ps a b h = at_position p ps a b h.0 h.1 h.2
 
 pub no_pair : (a b : ℕ) → HasPair [] a b → ⊥
 no_pair a b h = let l : h.0 < length {A = ℕ × ℕ} [] = h.1 in omega arith

@@ -32,7 +32,7 @@ use Rattle.py_machine.specs.Marked.{IsIn}
 use Rattle.py_machine.specs.Runs.{Name, Outcome, Stop, raised, after}
 use Rattle.py_meaning.specs.Acts.{Act, run, pure, fail, chain, choose}
 use Rattle.py_laws.specs.Same.{IsOneToOne, ValuesMatch, ObjectsMatch, BothOrNone}
-use Rattle.py_laws.proofs.Places.{Named}
+use Rattle.py_laws.proofs.Bindings.{Named}
 use Rattle.py_laws.proofs.Sparing.{Spared, spared}
 use Rattle.py_laws.proofs.Rules.{Rules}
 

@@ -63,9 +63,9 @@ BindsAt Binds Evals (target.Item on at) = Evals on × Evals at
 -- that it deletes deleted, and the function that it defines may be added
 abbrev pub Opens : (Name → Type 0) → (Name → Type 0) → (Object → Type 0) → (Expr → Type 0) → (Stmt → Type 0) → Stmt-F Stmt Arm Def → Type 0
 Opens Binds Known Fit Evals Runs (Stmt-F.Return e) = IfEvals Evals e
-Opens Binds Known Fit Evals Runs (Stmt-F.Delete place) = BindsAt Known Evals place
-Opens Binds Known Fit Evals Runs (Stmt-F.Assign place e) = BindsAt Binds Evals place × Evals e
-Opens Binds Known Fit Evals Runs (Stmt-F.Augment place o e) = BindsAt Binds Evals place × Evals e
+Opens Binds Known Fit Evals Runs (Stmt-F.Delete into) = BindsAt Known Evals into
+Opens Binds Known Fit Evals Runs (Stmt-F.Assign into e) = BindsAt Binds Evals into × Evals e
+Opens Binds Known Fit Evals Runs (Stmt-F.Augment into o e) = BindsAt Binds Evals into × Evals e
 Opens Binds Known Fit Evals Runs (Stmt-F.Expression e) = Evals e
 Opens Binds Known Fit Evals Runs (Stmt-F.If arms other) = AllByRecursion (λ arm. Evals (out-Arm arm).test × AllByRecursion Runs (out-Arm arm).body) arms × AllByRecursion Runs other
 Opens Binds Known Fit Evals Runs (Stmt-F.While test body) = Evals test × AllByRecursion Runs body
@@ -161,19 +161,19 @@ pub any_change : (new : Option Object) → IfThere ObjectAny new
 any_change None = tt
 any_change (Some new) = tt
 
-any_target : (place : Target) → BindsAt BoundAny ExprAny place
+any_target : (into : Target) → BindsAt BoundAny ExprAny into
 any_target (target.Name name) = (tt, tt)
 any_target (target.Item on at) = (tt, tt)
 
-pub any_deleted : (place : Target) → BindsAt NameAny ExprAny place
+pub any_deleted : (into : Target) → BindsAt NameAny ExprAny into
 any_deleted (target.Name name) = tt
 any_deleted (target.Item on at) = (tt, tt)
 
 pub any_opens : (s : Stmt-F Stmt Arm Def) → Opens BoundAny NameAny ObjectAny ExprAny StmtAny s
 any_opens (Stmt-F.Return e) = any_if e
-any_opens (Stmt-F.Delete place) = any_deleted place
-any_opens (Stmt-F.Assign place e) = (any_target place, tt)
-any_opens (Stmt-F.Augment place o e) = (any_target place, tt)
+any_opens (Stmt-F.Delete into) = any_deleted into
+any_opens (Stmt-F.Assign into e) = (any_target into, tt)
+any_opens (Stmt-F.Augment into o e) = (any_target into, tt)
 any_opens (Stmt-F.Expression e) = tt
 any_opens (Stmt-F.If arms other) = (any_arms arms, any_body other)
 any_opens (Stmt-F.While test body) = (tt, any_body body)

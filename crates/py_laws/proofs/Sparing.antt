@@ -19,7 +19,7 @@ use Rattle.py_meaning.specs.Acts.{Act, run}
 use Rattle.py_meaning.specs.Kept.{Keeps, Leaves}
 use Rattle.py_meaning.proofs.Keeping.{IsKept, run_keeps}
 use Rattle.py_laws.proofs.Members.{name_kept, name_newly, looked_kept, number_kept, number_newly}
-use Rattle.py_laws.proofs.Places.{bound_other, unbound_other, get_kept, set_other}
+use Rattle.py_laws.proofs.Bindings.{bound_other, unbound_other, get_kept, set_other}
 
 -- no mark goes
 pub record NoneGoes (k l : Marks) : Type 0 where

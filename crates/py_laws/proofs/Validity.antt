@@ -93,7 +93,7 @@ module _ (IsOfKind : Def → Type 0) where
   abbrev Binds : Name → Type 0
   Binds name = May name × NameAny name
 
-  binds : (place : Target) → MayBindAt place → BindsAt Binds ExprAny place
+  binds : (into : Target) → MayBindAt into → BindsAt Binds ExprAny into
   binds (target.Name name) h = (h, tt)
   binds (target.Item on at) h = (tt, tt)
 
@@ -102,9 +102,9 @@ module _ (IsOfKind : Def → Type 0) where
 
   opens : (y : Stmt-F ThatRuns ArmThatRuns DefThatRuns) → IsAllowedHere IsOfKind (plain y) → OpensHere (plain y)
   opens (Stmt-F.Return e) h = any_if e
-  opens (Stmt-F.Delete place) h = any_deleted place
-  opens (Stmt-F.Assign place e) h = (binds place h, tt)
-  opens (Stmt-F.Augment place o e) h = (binds place h, tt)
+  opens (Stmt-F.Delete into) h = any_deleted into
+  opens (Stmt-F.Assign into e) h = (binds into h, tt)
+  opens (Stmt-F.Augment into o e) h = (binds into h, tt)
   opens (Stmt-F.Expression e) h = tt
   opens (Stmt-F.If arms other) h = (arms_run arms, runs_each other)
   opens (Stmt-F.While condition body) h = (tt, runs_each body)

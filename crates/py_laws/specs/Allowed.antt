@@ -16,8 +16,8 @@ MayBindAt (target.Item on at) = Unit {0}
 
 -- a statement by itself: the name that it binds is one that a program may bind, and the function that it defines is of the kind
 abbrev pub IsAllowedHere : (Def → Type 0) → Stmt-F Stmt Arm Def → Type 0
-IsAllowedHere IsOfKind (Stmt-F.Assign place e) = MayBindAt place
-IsAllowedHere IsOfKind (Stmt-F.Augment place op e) = MayBindAt place
+IsAllowedHere IsOfKind (Stmt-F.Assign into e) = MayBindAt into
+IsAllowedHere IsOfKind (Stmt-F.Augment into op e) = MayBindAt into
 IsAllowedHere IsOfKind (Stmt-F.For name source body) = IsTrue (is_variable name)
 IsAllowedHere IsOfKind (Stmt-F.Function def) = IsTrue (is_variable def.name) × IsOfKind def
 IsAllowedHere IsOfKind _ = Unit {0}

@@ -31,7 +31,7 @@ pub use item_errors::{
 };
 pub use iteration::Iteration;
 pub use kind::{ValueKind, kind_name};
-pub use machine::Machine;
+pub use machine::{MAX_STEPS, Machine};
 pub use marks::Marks;
 pub use method::{
     BoundMethod, DictMethod, ListMethod, TextMethod, dict_method_name, dict_method_named,

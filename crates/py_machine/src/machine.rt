@@ -15,7 +15,7 @@ use std::alloc::{AllocError, Global};
 use std::mem;
 
 /// The most steps of a cell.
-const MAX_STEPS: u32 = 1_000_000;
+pub const MAX_STEPS: u32 = 1_000_000;
 
 /// What a cell works on.
 #[derive(Drop)]
@@ -236,9 +236,9 @@ impl Machine {
         match change {
             Change::Push(item) => self.push(at, item),
             Change::Extend(items) => self.extend(at, items),
-            Change::Insert { at: place, item } => self.insert(at, place, item),
-            Change::Set { at: place, item } => self.set(at, place, item),
-            Change::Remove { at: place } => self.remove(at, place),
+            Change::Insert { at: position, item } => self.insert(at, position, item),
+            Change::Set { at: position, item } => self.set(at, position, item),
+            Change::Remove { at: position } => self.remove(at, position),
             Change::Put { key, value } => self.put(at, key, value),
             Change::Drop(key) => self.drop_key(at, key),
             Change::Clear => self.clear(at),
@@ -271,37 +271,37 @@ impl Machine {
     }
 
     #[tactic(auto, unfolding(crate::specs::Runs::change))]
-    fn insert(&mut self, at: u32, place: u32, item: Value) -> Result<(), Fault>
-        ensures runs { Is (spec.change at (Change.Insert place item) self.old) result self.new }
+    fn insert(&mut self, at: u32, position: u32, item: Value) -> Result<(), Fault>
+        ensures runs { Is (spec.change at (Change.Insert position item) self.old) result self.new }
         ensures drawn { self.new.drawn ≡ self.old.drawn }
     {
-        if self.state.is_list(at) && place as usize <= self.state.list(at).len() {
+        if self.state.is_list(at) && position as usize <= self.state.list(at).len() {
             self.marks.change(at)?;
-            self.state.insert_item(at, place, item)?;
+            self.state.insert_item(at, position, item)?;
         }
         Ok(())
     }
 
     #[tactic(auto, unfolding(crate::specs::Runs::change))]
-    fn set(&mut self, at: u32, place: u32, item: Value) -> Result<(), Fault>
-        ensures runs { Is (spec.change at (Change.Set place item) self.old) result self.new }
+    fn set(&mut self, at: u32, position: u32, item: Value) -> Result<(), Fault>
+        ensures runs { Is (spec.change at (Change.Set position item) self.old) result self.new }
         ensures drawn { self.new.drawn ≡ self.old.drawn }
     {
-        if self.state.is_list(at) && (place as usize) < self.state.list(at).len() {
+        if self.state.is_list(at) && (position as usize) < self.state.list(at).len() {
             self.marks.change(at)?;
-            self.state.set_item(at, place, item);
+            self.state.set_item(at, position, item);
         }
         Ok(())
     }
 
     #[tactic(auto, unfolding(crate::specs::Runs::change))]
-    fn remove(&mut self, at: u32, place: u32) -> Result<(), Fault>
-        ensures runs { Is (spec.change at (Change.Remove place) self.old) result self.new }
+    fn remove(&mut self, at: u32, position: u32) -> Result<(), Fault>
+        ensures runs { Is (spec.change at (Change.Remove position) self.old) result self.new }
         ensures drawn { self.new.drawn ≡ self.old.drawn }
     {
-        if self.state.is_list(at) && (place as usize) < self.state.list(at).len() {
+        if self.state.is_list(at) && (position as usize) < self.state.list(at).len() {
             self.marks.change(at)?;
-            let _item = self.state.remove_item(at, place);
+            let _item = self.state.remove_item(at, position);
         }
         Ok(())
     }

@@ -22,13 +22,13 @@ use Rattle.py_meaning.specs.Operators.{made_text, joined}
 -- ---- positions and keys
 
 -- the position of an index among this many items: below 0 it counts from the end
-abbrev pub place_in : ℕ → ℤ → Option ℕ
-place_in n (pos i) = cond (nat_lt i n) (Some i) None
-place_in n (negsuc i) = cond (nat_lt i n) (Some (n - suc i)) None
+abbrev pub position_in : ℕ → ℤ → Option ℕ
+position_in n (pos i) = cond (nat_lt i n) (Some i) None
+position_in n (negsuc i) = cond (nat_lt i n) (Some (n - suc i)) None
 
 abbrev pub item_at : List Value → Option ℕ → Option Value
 item_at items None = None
-item_at items (Some place) = slice_get items place
+item_at items (Some position) = slice_get items position
 
 abbrev pub item_or : PyError → Option Value → Act Value
 item_or error (Some held) = pure held
@@ -45,18 +45,18 @@ keyed held = key_or held (key_of held)
 -- ---- an index
 
 abbrev pub list_indexed : List Value → Option ℤ → Act Value
-list_indexed items (Some n) = item_or no_list_index (item_at items (place_in (length items) n))
+list_indexed items (Some n) = item_or no_list_index (item_at items (position_in (length items) n))
 list_indexed items None = fail not_an_index
 
 unfoldable pub dict_indexed : Pairs → Value → Act Value
 dict_indexed pairs at = keyed at >>= (λ key. item_or (no_key (key_text key)) (value_under pairs key))
 
 abbrev pub character : List ℕ → Option ℕ → Act Value
-character text (Some place) = made_text (encode_utf8 (slice_index (chars text) place))
+character text (Some position) = made_text (encode_utf8 (slice_index (chars text) position))
 character text None = fail no_text_index
 
 abbrev pub text_indexed : List ℕ → Option ℤ → Act Value
-text_indexed text (Some n) = character text (place_in (length (chars text)) n)
+text_indexed text (Some n) = character text (position_in (length (chars text)) n)
 text_indexed text None = fail not_an_index
 
 abbrev pub object_indexed : Value → Option Object → Act Value
@@ -88,16 +88,16 @@ abbrev pub clipped : ℕ → ℤ → ℕ
 clipped n (pos i) = min i n
 clipped n (negsuc i) = n - suc i
 
-abbrev pub from_place : ℕ → Option ℤ → ℕ
-from_place n None = 0
-from_place n (Some z) = clipped n z
+abbrev pub from_position : ℕ → Option ℤ → ℕ
+from_position n None = 0
+from_position n (Some z) = clipped n z
 
-abbrev pub to_place : ℕ → Option ℤ → ℕ
-to_place n None = n
-to_place n (Some z) = clipped n z
+abbrev pub to_position : ℕ → Option ℤ → ℕ
+to_position n None = n
+to_position n (Some z) = clipped n z
 
 abbrev pub cut : {A : Type 0} → List A → Option ℤ → Option ℤ → List A
-cut xs from to = slice_range xs (from_place (length xs) from) (to_place (length xs) to)
+cut xs from to = slice_range xs (from_position (length xs) from) (to_position (length xs) to)
 
 unfoldable pub text_sliced : List ℕ → Option Value → Option Value → Act Value
 text_sliced text from to = do
@@ -123,11 +123,11 @@ sliced held from to = not_indexed held
 -- ---- what is stored: the charge comes after the index or the key has been found good
 
 abbrev pub stored_at : ℕ → Value → Option ℕ → Act (Unit {0})
-stored_at a held (Some place) = charge (weight held) >> change a (changes.Set place held)
+stored_at a held (Some position) = charge (weight held) >> change a (changes.Set position held)
 stored_at a held None = fail no_assigned_index
 
 abbrev pub list_stored : ℕ → List Value → Value → Option ℤ → Act (Unit {0})
-list_stored a items held (Some n) = stored_at a held (place_in (length items) n)
+list_stored a items held (Some n) = stored_at a held (position_in (length items) n)
 list_stored a items held None = fail not_an_index
 
 -- a new key is charged beside its value
@@ -156,11 +156,11 @@ item_stored container at held = not_stored container
 -- ---- what is deleted
 
 abbrev pub deleted_at : ℕ → Option ℕ → Act (Unit {0})
-deleted_at a (Some place) = change a (changes.Remove place)
+deleted_at a (Some position) = change a (changes.Remove position)
 deleted_at a None = fail no_assigned_index
 
 abbrev pub list_deleted : ℕ → List Value → Option ℤ → Act (Unit {0})
-list_deleted a items (Some n) = deleted_at a (place_in (length items) n)
+list_deleted a items (Some n) = deleted_at a (position_in (length items) n)
 list_deleted a items None = fail not_an_index
 
 abbrev pub pair_deleted : ℕ → Key → Option Value → Act (Unit {0})

@@ -361,8 +361,8 @@ module _ (inner : Inner) where
   index e at = do
     step
     container ← inner.eval e
-    place ← inner.eval at
-    indexed container place
+    key ← inner.eval at
+    indexed container key
 
   abbrev pub if_there : Option Expr → Act (Option Value)
   if_there None = pure None
@@ -496,8 +496,8 @@ module _ (inner : Inner) where
     step
     held ← inner.eval e
     container ← inner.eval on
-    place ← inner.eval at
-    item_stored container place held
+    key ← inner.eval at
+    item_stored container key held
     pure flow.Next
 
   abbrev pub assigned : Target → Expr → Act Flow
@@ -523,11 +523,11 @@ module _ (inner : Inner) where
     step
     as_expression
     container ← inner.part on
-    place ← inner.part at
-    held ← indexed container place
+    key ← inner.part at
+    held ← indexed container key
     right ← inner.eval e
     new ← augmented o held right
-    item_stored container place new
+    item_stored container key new
     pure flow.Next
 
   abbrev pub augment_at : Target → Op → Expr → Act Flow
@@ -538,8 +538,8 @@ module _ (inner : Inner) where
   delete_item on at = do
     step
     container ← inner.eval on
-    place ← inner.eval at
-    item_deleted container place
+    key ← inner.eval at
+    item_deleted container key
     pure flow.Next
 
   abbrev pub deleted : Target → Act Flow

@@ -23,7 +23,7 @@ use Rattle.py_machine.specs.Errors.{no_attribute, wrong_number, wrong_argument, 
 use Rattle.py_machine.specs.Methods.{list_method_named, dict_method_named, text_method_named, list_method_name, dict_method_name, text_method_name}
 use Rattle.py_machine.specs.Runs.{Name}
 use Rattle.py_meaning.specs.Acts.{Act, ◌>>=◌, ◌>>◌, pure, fail, charge, object_at, change, kind_of}
-use Rattle.py_meaning.specs.Items.{place_in, item_at, item_or, keyed, clipped}
+use Rattle.py_meaning.specs.Items.{position_in, item_at, item_or, keyed, clipped}
 use Rattle.py_meaning.specs.Numbers.{as_number}
 use Rattle.py_meaning.specs.Operators.{steps, made_text, joined}
 use Rattle.py_meaning.specs.Texts.{begins, ends, split_at}
@@ -79,15 +79,15 @@ insert_at a (Some n) held = object_at a >>= inserted a n held
 insert_at a None held = fail (wrong_argument (codes "insert"))
 
 abbrev pub taken_out : ℕ → Option ℕ → Value → Act Value
-taken_out a (Some place) held = change a (changes.Remove place) >> pure held
+taken_out a (Some position) held = change a (changes.Remove position) >> pure held
 taken_out a None held = pure held
 
 abbrev pub popped_at : ℕ → List Value → Option ℕ → Act Value
-popped_at a items place = item_or no_popped_index (item_at items place) >>= taken_out a place
+popped_at a items position = item_or no_popped_index (item_at items position) >>= taken_out a position
 
 abbrev pub popped : ℕ → ℤ → List Value → Act Value
 popped a n [] = fail popped_empty
-popped a n (item ∷ items) = popped_at a (item ∷ items) (place_in (length (item ∷ items)) n)
+popped a n (item ∷ items) = popped_at a (item ∷ items) (position_in (length (item ∷ items)) n)
 
 unfoldable pub pop_at : ℕ → ℤ → Act Value
 pop_at a n = object_at a >>= (λ object. popped a n (items_in object))

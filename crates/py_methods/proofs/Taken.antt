@@ -8,5 +8,5 @@ use Rattle.py_machine.specs.Runs.{Outcome}
 use Rattle.py_meaning.specs.Acts.{run}
 use Rattle.py_meaning.specs.Methods.{popped_at, taken_out}
 
-pub popped_item : (a place : ℕ) (items : List Value) (held : Value) (draws : List Drawn) (m : Machine) (o : Outcome Value) → slice_get items place ≡ Some held → run (taken_out a (Some place) held) draws m ≡ o → run (popped_at a items (Some place)) draws m ≡ o
-popped_item a place items held draws m o e h = rw e h
+pub popped_item : (a position : ℕ) (items : List Value) (held : Value) (draws : List Drawn) (m : Machine) (o : Outcome Value) → slice_get items position ≡ Some held → run (taken_out a (Some position) held) draws m ≡ o → run (popped_at a items (Some position)) draws m ≡ o
+popped_item a position items held draws m o e h = rw e h

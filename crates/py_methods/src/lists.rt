@@ -9,7 +9,7 @@ ghost use Rattle.py_meaning.specs.Methods as spec;
 
 use plain_data::Items;
 use py_heap::Object;
-use py_items::{clipped, place_in, short_place};
+use py_items::{clipped, position_in, short_position};
 use py_machine::{Change, Fault, Machine, no_popped_index, popped_empty, wrong_argument};
 use py_objects::{copy_items, take_steps};
 use py_ops::{Signed, charge_items, sign_of};
@@ -52,10 +52,10 @@ fn inserted(
     ensures runs { Still (run (spec.insert_at at (Some (number_of index)) value.now)) machine.old result machine.new }
     ensures drawn { machine.new.drawn ≡ machine.old.drawn }
 {
-    let place = short_place(clipped(count_at(machine, at), index))?;
+    let position = short_position(clipped(count_at(machine, at), index))?;
     machine.charge(alloc, weight(value))?;
     let item = value.copy()?;
-    machine.change(at, Change::Insert { at: place, item })?;
+    machine.change(at, Change::Insert { at: position, item })?;
     Ok(Value::Nothing)
 }
 
@@ -77,11 +77,11 @@ pub(crate) fn insert_at(
 }
 
 /// A copy of the item at a position of the list at an address, if it is there.
-fn item_in(machine: &Machine, at: u32, place: usize) -> Result<Option<Value>, AllocError>
-    ensures { IfOk result (λ item. item ≡ slice_get (spec.items_in (slice_get machine.now.state.heap at)) place) }
+fn item_in(machine: &Machine, at: u32, position: usize) -> Result<Option<Value>, AllocError>
+    ensures { IfOk result (λ item. item ≡ slice_get (spec.items_in (slice_get machine.now.state.heap at)) position) }
 {
     match machine.object_at(at) {
-        Some(Object::List(items)) => match items.get(place) {
+        Some(Object::List(items)) => match items.get(position) {
             Some(item) => Ok(Some(item.copy()?)),
             None => Ok(None),
         },
@@ -89,22 +89,22 @@ fn item_in(machine: &Machine, at: u32, place: usize) -> Result<Option<Value>, Al
     }
 }
 
-fn taken_out(machine: &mut Machine, at: u32, place: usize, item: Value) -> Result<Value, Fault>
-    ensures runs { Still (run (spec.taken_out at (Some place) item)) machine.old result machine.new }
+fn taken_out(machine: &mut Machine, at: u32, position: usize, item: Value) -> Result<Value, Fault>
+    ensures runs { Still (run (spec.taken_out at (Some position) item)) machine.old result machine.new }
     ensures drawn { machine.new.drawn ≡ machine.old.drawn }
 {
-    let short = short_place(place)?;
+    let short = short_position(position)?;
     machine.change(at, Change::Remove { at: short })?;
     Ok(item)
 }
 
-fn popped_at(alloc: Global, machine: &mut Machine, at: u32, place: usize) -> Result<Value, Fault>
-    ensures runs { Still (run (spec.popped_at at (spec.items_in (slice_get machine.old.state.heap at)) (Some place))) machine.old result machine.new }
+fn popped_at(alloc: Global, machine: &mut Machine, at: u32, position: usize) -> Result<Value, Fault>
+    ensures runs { Still (run (spec.popped_at at (spec.items_in (slice_get machine.old.state.heap at)) (Some position))) machine.old result machine.new }
     ensures drawn { machine.new.drawn ≡ machine.old.drawn }
 {
-    let found = item_in(machine, at, place)?;
+    let found = item_in(machine, at, position)?;
     match found {
-        Some(item) => taken_out(machine, at, place, item),
+        Some(item) => taken_out(machine, at, position, item),
         None => Err(Fault::Raised(no_popped_index(alloc)?)),
     }
 }
@@ -124,8 +124,8 @@ pub(crate) fn pop_at(
     if count == 0 {
         return Err(Fault::Raised(popped_empty(alloc)?));
     }
-    match place_in(count, index) {
-        Some(place) => popped_at(alloc, machine, at, place),
+    match position_in(count, index) {
+        Some(position) => popped_at(alloc, machine, at, position),
         None => Err(Fault::Raised(no_popped_index(alloc)?)),
     }
 }

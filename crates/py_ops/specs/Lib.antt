@@ -1,2 +1,2 @@
 pub mod Signs
-pub mod Places
+pub mod Positions

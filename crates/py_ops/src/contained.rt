@@ -6,9 +6,9 @@ ghost use Rattle.py_meaning.specs.Acts.{run, chain, pure};
 ghost use Rattle.py_meaning.specs.Compared as spec;
 ghost use Rattle.py_meaning.specs.Items.{keyed as keyed_of};
 
+use crate::affixes::occurs;
 use crate::equal::pair_equal;
-use crate::parts::occurs;
-use crate::places::item_of;
+use crate::positions::item_of;
 use plain_data::SharedText;
 use py_heap::{Dict, Object};
 use py_machine::{Fault, Machine, ValueKind, not_in_text, not_searched};
@@ -52,8 +52,8 @@ fn in_items(
     ensures runs { Still (run (spec.in_items (spec.pair_equal left) value.now (items_at machine.old.state.heap at))) machine.old result machine.new }
     ensures drawn { machine.new.drawn ≡ machine.old.drawn }
 {
-    for place in 0..count {
-        let item = item_of(machine, at, place)?;
+    for position in 0..count {
+        let item = item_of(machine, at, position)?;
         if pair_equal(alloc, left, machine, value, &item)? {
             return Ok(true);
         }

@@ -5,7 +5,7 @@ ghost use Rattle.py_meaning.specs.Acts.{run};
 ghost use Rattle.py_meaning.specs.Compared as spec;
 
 use crate::numbers::as_number;
-use crate::places::{item_of, values_of};
+use crate::positions::{item_of, values_of};
 use py_heap::Object;
 use py_machine::{Fault, Machine, recursion_error};
 use py_value::{Builtin, Value};
@@ -53,9 +53,9 @@ fn items_equal(
     ensures drawn { machine.new.drawn ≡ machine.old.drawn }
     ensures same { OnOk result (machine.new.state ≡ machine.old.state) }
 {
-    for place in 0..count {
-        let item = item_of(machine, a, place)?;
-        let other = item_of(machine, b, place)?;
+    for position in 0..count {
+        let item = item_of(machine, a, position)?;
+        let other = item_of(machine, b, position)?;
         if !pair_equal(alloc, left, machine, &item, &other)? {
             return Ok(false);
         }
@@ -97,8 +97,8 @@ fn pairs_equal(
     ensures drawn { machine.new.drawn ≡ machine.old.drawn }
     ensures same { OnOk result (machine.new.state ≡ machine.old.state) }
 {
-    for place in 0..count {
-        let (value, other) = values_of(machine, a, b, place)?;
+    for position in 0..count {
+        let (value, other) = values_of(machine, a, b, position)?;
         if !with_equal(alloc, left, machine, &value, &other)? {
             return Ok(false);
         }

@@ -1,19 +1,19 @@
 //! What operators give, and what comparisons say. (Python reference: arithmetic operations, comparisons.)
 #![tactic(auto)]
 
+mod affixes;
 mod comparing;
 mod contained;
 mod equal;
 mod numbers;
 mod operators;
 mod order;
-mod parts;
-mod places;
+mod positions;
 mod repetition;
 mod signs;
 
+pub use affixes::{begins, ends, occurs};
 pub use comparing::compare;
 pub use numbers::as_number;
 pub use operators::{binary, charge, charge_items, charge_list, joined, made_text, signed};
-pub use parts::{begins, ends, occurs};
 pub use signs::{Signed, by_sign, sign_of};

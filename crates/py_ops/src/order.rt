@@ -6,7 +6,7 @@ ghost use Rattle.py_meaning.specs.Compared as spec;
 
 use crate::equal::pair_equal;
 use crate::numbers::as_number;
-use crate::places::item_of;
+use crate::positions::item_of;
 use py_heap::Object;
 use py_machine::{Fault, Machine, not_ordered, recursion_error};
 use py_objects::kind_of;
@@ -62,9 +62,9 @@ fn items_ordered(
     ensures runs { Still (run (spec.items_ordered (spec.pair_equal left) (spec.pair_ordered left) op (items_at machine.old.state.heap a) (items_at machine.old.state.heap b))) machine.old result machine.new }
     ensures drawn { machine.new.drawn ≡ machine.old.drawn }
 {
-    for place in 0..count.min(others) {
-        let item = item_of(machine, a, place)?;
-        let other = item_of(machine, b, place)?;
+    for position in 0..count.min(others) {
+        let item = item_of(machine, a, position)?;
+        let other = item_of(machine, b, position)?;
         if !pair_equal(alloc, left, machine, &item, &other)? {
             return pair_ordered(alloc, left, machine, op, &item, &other);
         }

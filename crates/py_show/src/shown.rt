@@ -9,12 +9,9 @@ use crate::limited::Limited;
 use crate::plain::{object_on, open_text, put_function, put_handle, put_plain};
 use plain_data::Items;
 use py_heap::{Dict, Object, State};
-use py_machine::{Fault, recursion_error, step_limit_error};
+use py_machine::{Fault, MAX_STEPS, recursion_error, step_limit_error};
 use py_value::{Key, Value};
 use std::alloc::Global;
-
-/// The most steps of a cell.
-const MAX_STEPS: u32 = 1_000_000;
 
 /// Counts a step.
 #[tactic(auto, unfolding(crate::specs::OnState::one_step))]

@@ -1,5 +1,7 @@
 //! Values of the language: what a name may hold and what may be a key, with the numbers that texts spell and the
 //! texts that keys show.
+//!
+//! The contracts leave open what a fault shows. Of `same_key` they show that it is symmetric, so its arguments may be swapped.
 #![tactic(auto)]
 
 mod key;

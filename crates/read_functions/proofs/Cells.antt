@@ -98,8 +98,8 @@ module _ (code : List ℕ) (utf8 : IsUtf8 code) (short : length code ≤ 262144)
       let w = split_kinds tokens before.tokens (spell_statement x rest) (spelled ∙ before.spelled (spell_statement x rest)) in
       let begins : begins_line true (kinds w.0) ≡ true = ap (begins_line true) w.3 ∙ ending_begins (statements-ends xs) true in
       let top : level 0 (kinds w.0) ≡ 0 = ap (level 0) (w.3 ∙ sym (append-nil before.tokens)) ∙ before.level 0 [] in
-      let behind = long_of s rest in
-      let more : length (spell_statement x rest) ≡ 1 + (length s.tokens + k) = omega (arith, behind, long) in
+      let after = long_of s rest in
+      let more : length (spell_statement x rest) ≡ 1 + (length s.tokens + k) = omega (arith, after, long) in
       let first = long_of before [] in
       let last = long_of before (spell_statement x []) in
       let own = long_of s [] in

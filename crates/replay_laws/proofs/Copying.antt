@@ -19,7 +19,7 @@ use Rattle.py_machine.specs.Runs.{Name}
 use Rattle.py_laws.specs.Same.{HasPair, ValuesMatch, equal, refs, PairsMatch, ObjectsMatch, BothOrNone, Both, SameBy}
 use Rattle.py_laws.proofs.Matching.{Turned}
 use Rattle.py_laws.proofs.Pairing.{new_pairs, to_new, from_new}
-use Rattle.py_laws.proofs.Places.{bound, unbound, bound_other, unbound_other}
+use Rattle.py_laws.proofs.Bindings.{bound, unbound, bound_other, unbound_other}
 use Rattle.py_laws.proofs.Members.{name_itself}
 use Rattle.py_laws.proofs.Partners.{none_in, first_in, later_in, reach_partner}
 use Rattle.py_laws.proofs.Sameness.{same_by_turned}

@@ -8,7 +8,7 @@ use Rattle.py_heap.proofs.Closed.{unbind_closed}
 use Rattle.py_machine.specs.Runs.{Name}
 use Rattle.py_laws.proofs.Members.{name_itself}
 use Rattle.py_laws.proofs.Partners.{one_in, first_in}
-use Rattle.py_laws.proofs.Places.{unbound, unbound_other}
+use Rattle.py_laws.proofs.Bindings.{unbound, unbound_other}
 use Rattle.linked_parts.specs.Parts.{HasNone}
 use Rattle.linked_parts.proofs.Names.{none_reaches}
 use Rattle.run_graph.proofs.Reached.{reach_from_one}

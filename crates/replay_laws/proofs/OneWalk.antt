@@ -17,7 +17,7 @@ use Rattle.py_laws.proofs.Joining.{reached_only}
 use Rattle.py_laws.proofs.Matching.{BothOrNone-more, Both-more, more_value, more_object}
 use Rattle.py_laws.proofs.Members.{name_cases, name_itself}
 use Rattle.py_laws.proofs.Partners.{one_in, first_in}
-use Rattle.py_laws.proofs.Places.{unbound, unbound_other}
+use Rattle.py_laws.proofs.Bindings.{unbound, unbound_other}
 use Rattle.py_laws.proofs.Sameness.{same_through, same_turned, states_themselves}
 use Rattle.graph_model.specs.declared.graph.CellRecord.{CellRecord}
 use Rattle.graph_model.specs.declared.graph.Version.{Version}

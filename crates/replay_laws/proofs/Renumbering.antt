@@ -28,7 +28,7 @@ use Rattle.py_machine.specs.Runs.{Name}
 use Rattle.py_laws.specs.Same.{ValuesMatch, equal, refs, PairsMatch, ObjectsMatch, BothOrNone, Both}
 use Rattle.py_laws.proofs.Members.{name_cases, name_itself}
 use Rattle.py_laws.proofs.Partners.{none_in, first_in, later_in}
-use Rattle.py_laws.proofs.Places.{bound, bound_other}
+use Rattle.py_laws.proofs.Bindings.{bound, bound_other}
 use Rattle.py_laws.proofs.Reached.{reached_live}
 use Rattle.graph_model.specs.Faults.{TextBelow, Ascends}
 use Rattle.linked_parts.specs.Parts.{HasValue}

@@ -23,30 +23,30 @@ use Rattle.replay_laws.specs.Tidied.{AtPlace, IsTidied, AreObjectsOf}
 
 -- ---- the pairs of a list with its indices
 
-pub from_place : ℕ → List ℕ → Pairs
-from_place k [] = []
-from_place k (a ∷ order) = (a, k) ∷ from_place (suc k) order
+pub from_position : ℕ → List ℕ → Pairs
+from_position k [] = []
+from_position k (a ∷ order) = (a, k) ∷ from_position (suc k) order
 
-to_pair : (k : ℕ) (order : List ℕ) (a j : ℕ) → slice_get order j ≡ Some a → (i : ℕ) → i ≡ k + j → HasPair (from_place k order) a i
-unfolding from_place
+to_pair : (k : ℕ) (order : List ℕ) (a j : ℕ) → slice_get order j ≡ Some a → (i : ℕ) → i ≡ k + j → HasPair (from_position k order) a i
+unfolding from_position
 to_pair k [] a j e i f = absurd (none-some a e)
 to_pair k (b ∷ order) a zero e i f =
     let g : i ≡ k = omega (arith, f) in
-    subst (λ z. HasPair ((b, k) ∷ from_place (suc k) order) a z) (sym g) (subst (λ z. HasPair ((b, k) ∷ from_place (suc k) order) z k) (same_Some b a e) (first_pair b k (from_place (suc k) order)))
-to_pair k (b ∷ order) a (suc j) e i f = later_pair (b, k) (from_place (suc k) order) a i (to_pair (suc k) order a j e i (omega (arith, f)))
+    subst (λ z. HasPair ((b, k) ∷ from_position (suc k) order) a z) (sym g) (subst (λ z. HasPair ((b, k) ∷ from_position (suc k) order) z k) (same_Some b a e) (first_pair b k (from_position (suc k) order)))
+to_pair k (b ∷ order) a (suc j) e i f = later_pair (b, k) (from_position (suc k) order) a i (to_pair (suc k) order a j e i (omega (arith, f)))
 
-from_pair : (k : ℕ) (order : List ℕ) (a i : ℕ) → HasPair (from_place k order) a i → (j : ℕ) × (i ≡ k + j) × (slice_get order j ≡ Some a)
-unfolding from_place
+from_pair : (k : ℕ) (order : List ℕ) (a i : ℕ) → HasPair (from_position k order) a i → (j : ℕ) × (i ≡ k + j) × (slice_get order j ≡ Some a)
+unfolding from_position
 from_pair k [] a i h = absurd (no_pair a i h)
-from_pair k (b ∷ order) a i h = elim (pair_cases (b, k) (from_place (suc k) order) a i h) [
+from_pair k (b ∷ order) a i h = elim (pair_cases (b, k) (from_position (suc k) order) a i h) [
   | inl e ↦ (0, let f : i ≡ k = e.1 in omega (arith, f), ap (λ z. Some z) (sym e.0))
   | inr q ↦ let w = from_pair (suc k) order a i q in (suc w.0, omega (arith, w.1), w.2)
 ]
 
-pub to_zero : (order : List ℕ) → IsWithin (AtPlace order) (HasPair (from_place 0 order))
+pub to_zero : (order : List ℕ) → IsWithin (AtPlace order) (HasPair (from_position 0 order))
 to_zero order a k e = to_pair 0 order a k e k (omega arith)
 
-pub from_zero : (order : List ℕ) → IsWithin (HasPair (from_place 0 order)) (AtPlace order)
+pub from_zero : (order : List ℕ) → IsWithin (HasPair (from_position 0 order)) (AtPlace order)
 from_zero order a k h =
     let w = from_pair 0 order a k h in
     let e : k ≡ w.0 = omega (arith, w.1) in
@@ -54,7 +54,7 @@ from_zero order a k h =
 
 pub tidied_same : (t u : State) → IsTidied t u → SameStates t u
 tidied_same t u h = record {
-  names = record { by = from_place 0 h.order; same = same_by_agreeing (AtPlace h.order) (HasPair (from_place 0 h.order)) Every t u (to_zero h.order) (from_zero h.order) h.same };
+  names = record { by = from_position 0 h.order; same = same_by_agreeing (AtPlace h.order) (HasPair (from_position 0 h.order)) Every t u (to_zero h.order) (from_zero h.order) h.same };
   count = sym h.count;
   meter = sym h.meter;
 }

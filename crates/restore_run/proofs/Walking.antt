@@ -20,7 +20,7 @@ use Rattle.graph_model.proofs.Lookups.{same_version, version_within}
 use Rattle.plan_model.proofs.Ascents.{Rises, rises-tail, rises-head, rises-at, rises-upto}
 use Rattle.linked_parts.proofs.Lists.{cons_cases}
 use Rattle.part_bytes.specs.declared.part.PartValue.{PartValue}
-use Rattle.part_bytes.proofs.Places.{there}
+use Rattle.part_bytes.proofs.ByAddress.{there}
 use Rattle.checkpoint_reader.specs.declared.checkpoint.Checkpoint.{Checkpoint}
 use Rattle.checkpoint_reader.specs.Fields.{is_same, is_otherwise, is_unlike}
 use Rattle.checkpoint_reader.specs.Numbered.{IsCopyAt}

@@ -148,10 +148,10 @@ module _ (r : Run) (run : IsRun r) (g : Graph) (h : IsHistory r g) where
       → IsNextWith g v name u → VersionAt g u y → y.writer ≡ x.replaced
   good_next v x at name u y p next bt =
       let q : Contains y.names name = subst (λ (z : Version). Contains z.names name) (same_version g u _ y next.0.1.1 bt) next.0.1.2 in
-      let behind : v < u = next.0.0 in
-      let le : x.writer ≤ y.writer = writers_go_on v u x y at bt behind in
+      let after : v < u = next.0.0 in
+      let le : x.writer ≤ y.writer = writers_go_on v u x y at bt after in
       let later : x.writer < y.writer = elim (cases_eq x.writer y.writer) [
-        | inl e ↦ absurd (not_before r run g h v u x y behind at bt e name p q)
+        | inl e ↦ absurd (not_before r run g h v u x y after at bt e name p q)
         | inr other ↦ omega (arith, le, other)
       ] in
       let again : Rewrites g x y.writer = (later, u, y, name, bt, refl, p, q) in

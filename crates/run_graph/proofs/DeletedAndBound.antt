@@ -14,7 +14,7 @@ use Rattle.py_heap.proofs.Closed.{empty_closed, bind_closed, unbind_closed}
 use Rattle.py_machine.specs.Runs.{Name}
 use Rattle.py_laws.proofs.Members.{name_cases}
 use Rattle.py_laws.proofs.Partners.{none_in, one_in, first_in, later_in}
-use Rattle.py_laws.proofs.Places.{unbound_other}
+use Rattle.py_laws.proofs.Bindings.{unbound_other}
 use Rattle.py_laws.proofs.Reached.{reached_live}
 use Rattle.graph_model.specs.declared.graph.CellRecord.{CellRecord}
 use Rattle.graph_model.specs.declared.graph.Version.{Version}

@@ -12,7 +12,7 @@ use Rattle.py_machine.specs.Marked.{IsIn}
 use Rattle.py_machine.specs.Runs.{Name}
 use Rattle.py_laws.proofs.Members.{name_cases, name_kept, name_newly, name_before, no_name}
 use Rattle.py_laws.proofs.Partners.{one_in, first_in, later_in}
-use Rattle.py_laws.proofs.Places.{bound_other}
+use Rattle.py_laws.proofs.Bindings.{bound_other}
 use Rattle.graph_model.specs.declared.graph.Version.{Version}
 use Rattle.graph_model.specs.declared.graph.Graph.{Graph}
 use Rattle.graph_model.specs.Graphs.{VersionAt}

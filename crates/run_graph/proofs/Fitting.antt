@@ -379,8 +379,8 @@ module _ (r : Run) (c : ℕ) (g k : Graph) (next : IsNext r c g k) (good : IsGra
   ]
 
   -- a version by the cell that replaced one comes after it
-  behind : (v w : ℕ) (y z : Version) → VersionAt g v y → VersionAt g w z → y.replaced ≢ 0 → z.writer ≡ y.replaced → v < w
-  behind v w y z at bt some e =
+  after : (v w : ℕ) (y z : Version) → VersionAt g v y → VersionAt g w z → y.replaced ≢ 0 → z.writer ≡ y.replaced → v < w
+  after v w y z at bt some e =
       let less = later_replaced v y at some in
       elim (cases_lt v w) [
         | inl l ↦ l
@@ -437,7 +437,7 @@ module _ (r : Run) (c : ℕ) (g k : Graph) (next : IsNext r c g k) (good : IsGra
                         let j = to_old r c g k next w z ct in
                         let l = (version_within g w z ct).1 in
                         let f = n.1 in
-                        first.1 w (omega (arith, l, f)) (behind v w x0 z o.1 ct s.0 e, (j.0, j.1, subst (λ ns. Contains ns name) (sym j.2.names) q2)),
+                        first.1 w (omega (arith, l, f)) (after v w x0 z o.1 ct s.0 e, (j.0, j.1, subst (λ ns. Contains ns name) (sym j.2.names) q2)),
                   )),
                 )
                 | inr (inl s) ↦ differs (newer u y n ∙ sym s.2)

@@ -283,10 +283,10 @@ module _ (r : Run) (c : ℕ) (g k : Graph) (next : IsNext r c g k) where
         | inr m ↦
             let e = n.1 in
             let f = m.1 in
-            let behind : m.0 ≡ suc n.0 = omega (arith, e, f) in
+            let after : m.0 ≡ suc n.0 = omega (arith, e, f) in
             inr (
               new_writer v x n ∙ sym (new_writer (suc v) w m),
-              ascends_at (λ y z. TextBelow (least_name y.names) (least_name z.names)) next.news next.ascend n.0 x w n.2 (subst (λ j. slice_get next.news j ≡ Some w) behind m.2),
+              ascends_at (λ y z. TextBelow (least_name y.names) (least_name z.names)) next.news next.ascend n.0 x w n.2 (subst (λ j. slice_get next.news j ≡ Some w) after m.2),
             )
       ]
     ]

@@ -15,12 +15,12 @@ use Rattle.run_graph.specs.Histories.{Run, Binds}
 -- ---- what a list has
 
 module _ {X : Type 0} where
-  at_place : (y : X) (ys : List X) (x : X) (k : ℕ) → k < length (y ∷ ys) → get_or (y ∷ ys) k x ≡ x → (y ≡ x) ⊎ Contains ys x
-  at_place y ys x zero l e = inl e
-  at_place y ys x (suc k) l e = inr (k, omega arith, e)
+  at_position : (y : X) (ys : List X) (x : X) (k : ℕ) → k < length (y ∷ ys) → get_or (y ∷ ys) k x ≡ x → (y ≡ x) ⊎ Contains ys x
+  at_position y ys x zero l e = inl e
+  at_position y ys x (suc k) l e = inr (k, omega arith, e)
 
   pub cons_cases : (y : X) (ys : List X) (x : X) → Contains (y ∷ ys) x → (y ≡ x) ⊎ Contains ys x
-  cons_cases y ys x h = at_place y ys x h.0 h.1 h.2
+  cons_cases y ys x h = at_position y ys x h.0 h.1 h.2
 
 module _ {A X : Type 0} where
   pub in_flat : (f : A → List X) (bs : List A) (a : A) (x : X) → Contains bs a → Contains (f a) x → Contains (flat_map f bs) x

@@ -12,7 +12,7 @@ use Rattle.notebook_meaning.specs.Notebooks.{notebooks}
 use Rattle.node_run.specs.declared.end.RunEnd.{RunEnd}
 use Rattle.node_run.specs.declared.end.RunEnd.TheVariants.{Whole, Broken, SourceFailed, TooManyReads}
 use Rattle.node_run.specs.Ends.{status_of}
-use Rattle.node_run.specs.Journals.{Run, journals_of, AreRuns, AreJournals}
+use Rattle.node_run.specs.Journals.{Answers, Run, journals_of, AreRuns, AreJournals}
 use Rattle.node_run.specs.Streams.{HasRun}
 use Rattle.save_command.specs.Saved.{Took, Saves, SavesTold, WritesFirst}
 
@@ -65,28 +65,28 @@ Adds-none : (old : Option (List ℕ)) → Adds old old []
 Adds-none None = refl
 Adds-none (Some had) = ap Some (sym (append-nil had))
 
-are_journals : (meaning : Meaning) (hosts : ℕ) (ss : List Taken) (runs : List Run) → AreRuns meaning hosts ss runs → AreJournals meaning hosts ss (journals_of runs)
-are_journals meaning hosts [] [] are = tt
-are_journals meaning hosts [] (r ∷ runs) are = absurd are
-are_journals meaning hosts (s ∷ ss) [] are = absurd are
-are_journals meaning hosts (s ∷ ss) (r ∷ runs) are = (are.0.1, are_journals meaning hosts ss runs are.1)
+are_journals : (meaning : Meaning) (hosts : ℕ) (gives : Answers) (ss : List Taken) (runs : List Run) → AreRuns meaning hosts gives ss runs → AreJournals meaning hosts gives ss (journals_of runs)
+are_journals meaning hosts gives [] [] are = tt
+are_journals meaning hosts gives [] (r ∷ runs) are = absurd are
+are_journals meaning hosts gives (s ∷ ss) [] are = absurd are
+are_journals meaning hosts gives (s ∷ ss) (r ∷ runs) are = (are.0.1, are_journals meaning hosts gives ss runs are.1)
 
-took : (end : RunEnd) (bytes rest : List ℕ) (errors : List NodeError) (runs : List Run) (Holds : List (List Entry) → Type 0) → HasRun notebooks 1 end bytes (Some rest) errors runs → Holds (journals_of runs)
-    → Took end bytes rest Holds
-took end bytes rest errors runs Holds run holds = record {
+took : (gives : Answers) (end : RunEnd) (bytes rest : List ℕ) (errors : List NodeError) (runs : List Run) (Holds : List (List Entry) → Type 0) → HasRun notebooks 1 gives end bytes (Some rest) errors runs → Holds (journals_of runs)
+    → Took gives end bytes rest Holds
+took gives end bytes rest errors runs Holds run holds = record {
   node = run.node;
   journals = journals_of runs;
   is_node = run.is_node;
-  are_journals = are_journals notebooks 1 run.node.sessions runs run.are_runs;
+  are_journals = are_journals notebooks 1 gives run.node.sessions runs run.are_runs;
   holds = holds;
 }
 
 -- the input wasn't read to its end, or isn't frames alone
-pub told_ended : (w : Weights) (status : ℕ) (end : RunEnd) (old new a : Option (List ℕ)) (bytes : List ℕ) (errors : List NodeError) (runs : List Run) → status ≡ status_of end → end ≢ Whole → Takes old new bytes
-    → HasRun notebooks 1 end bytes new errors runs → SavesTold w status old new a a
-told_ended w status end None new a bytes errors runs same isnt t run = t
-told_ended w status end (Some had) new a bytes errors runs same isnt (rest, parts, is) run =
-    let told = subst (λ (l : Option (List ℕ)). HasRun notebooks 1 end bytes l errors runs) is run in (
+pub told_ended : (gives : Answers) (w : Weights) (status : ℕ) (end : RunEnd) (old new a : Option (List ℕ)) (bytes : List ℕ) (errors : List NodeError) (runs : List Run) → status ≡ status_of end → end ≢ Whole → Takes old new bytes
+    → HasRun notebooks 1 gives end bytes new errors runs → SavesTold gives w status old new a a
+told_ended gives w status end None new a bytes errors runs same isnt t run = t
+told_ended gives w status end (Some had) new a bytes errors runs same isnt (rest, parts, is) run =
+    let told = subst (λ (l : Option (List ℕ)). HasRun notebooks 1 gives end bytes l errors runs) is run in (
       bytes,
       rest,
       parts,
@@ -94,29 +94,29 @@ told_ended w status end (Some had) new a bytes errors runs same isnt (rest, part
       record {
         said = λ h. absurd (not_said end isnt (subst (λ (n : ℕ). (n ≡ 0) ⊎ (n ≡ 6)) same h));
         cut = λ e. absurd (not_four end (sym same ∙ e));
-        ended = λ other wasnt e. subst (λ (n : RunEnd). Took n bytes rest (λ journals. Adds a a [])) (same_end end other (sym same ∙ e))
-            (took end bytes rest errors runs (λ journals. Adds a a []) told (Adds-none a));
+        ended = λ other wasnt e. subst (λ (n : RunEnd). Took gives n bytes rest (λ journals. Adds a a [])) (same_end end other (sym same ∙ e))
+            (took gives end bytes rest errors runs (λ journals. Adds a a []) told (Adds-none a));
         short = λ e. absurd (not_five end (sym same ∙ e));
       },
     )
 
 -- ---- what was written of the first session
 
-saves_whole : (w : Weights) (status : ℕ) (bytes rest : List ℕ) (a b : Option (List ℕ)) (errors : List NodeError) (runs : List Run) → HasRun notebooks 1 Whole bytes (Some rest) errors runs
-    → WritesFirst w (journals_of runs) status a b → Saves w status bytes rest a b
-saves_whole w status bytes rest a b errors runs told (inl (is, text, saves, adds)) = record {
-  said = λ h. took Whole bytes rest errors runs _ told (text, saves, adds);
+saves_whole : (gives : Answers) (w : Weights) (status : ℕ) (bytes rest : List ℕ) (a b : Option (List ℕ)) (errors : List NodeError) (runs : List Run) → HasRun notebooks 1 gives Whole bytes (Some rest) errors runs
+    → WritesFirst w (journals_of runs) status a b → Saves gives w status bytes rest a b
+saves_whole gives w status bytes rest a b errors runs told (inl (is, text, saves, adds)) = record {
+  said = λ h. took gives Whole bytes rest errors runs _ told (text, saves, adds);
   cut = λ e. absurd (unlike status 4 is e (inl refl));
   ended = λ end isnt e. absurd (not_said end isnt (subst (λ (n : ℕ). (n ≡ 0) ⊎ (n ≡ 6)) e is));
   short = λ e. absurd (unlike status 5 is e (inr refl));
 }
-saves_whole w status bytes rest a b errors runs told (inr (inl (is, text, saves, adds))) = record {
+saves_whole gives w status bytes rest a b errors runs told (inr (inl (is, text, saves, adds))) = record {
   said = λ h. absurd (unlike status 4 h is (inl refl));
-  cut = λ e. took Whole bytes rest errors runs _ told (text, saves, adds);
+  cut = λ e. took gives Whole bytes rest errors runs _ told (text, saves, adds);
   ended = λ end isnt e. absurd (not_four end (sym e ∙ is));
   short = λ e. absurd (omega (arith, e, is));
 }
-saves_whole w status bytes rest a b errors runs told (inr (inr (is, adds))) = record {
+saves_whole gives w status bytes rest a b errors runs told (inr (inr (is, adds))) = record {
   said = λ h. absurd (unlike status 5 h is (inr refl));
   cut = λ e. absurd (omega (arith, e, is));
   ended = λ end isnt e. absurd (not_five end (sym e ∙ is));
@@ -124,8 +124,8 @@ saves_whole w status bytes rest a b errors runs told (inr (inr (is, adds))) = re
 }
 
 -- the input was read to its end, and this was written of the first session
-pub told_whole : (w : Weights) (status : ℕ) (old new a b : Option (List ℕ)) (bytes : List ℕ) (errors : List NodeError) (runs : List Run) → Takes old new bytes → HasRun notebooks 1 Whole bytes new errors runs
-    → WritesFirst w (journals_of runs) status a b → SavesTold w status old new a b
-told_whole w status None new a b bytes errors runs t run writes = t
-told_whole w status (Some had) new a b bytes errors runs (rest, parts, is) run writes =
-    (bytes, rest, parts, is, saves_whole w status bytes rest a b errors runs (subst (λ (l : Option (List ℕ)). HasRun notebooks 1 Whole bytes l errors runs) is run) writes)
+pub told_whole : (gives : Answers) (w : Weights) (status : ℕ) (old new a b : Option (List ℕ)) (bytes : List ℕ) (errors : List NodeError) (runs : List Run) → Takes old new bytes → HasRun notebooks 1 gives Whole bytes new errors runs
+    → WritesFirst w (journals_of runs) status a b → SavesTold gives w status old new a b
+told_whole gives w status None new a b bytes errors runs t run writes = t
+told_whole gives w status (Some had) new a b bytes errors runs (rest, parts, is) run writes =
+    (bytes, rest, parts, is, saves_whole gives w status bytes rest a b errors runs (subst (λ (l : Option (List ℕ)). HasRun notebooks 1 gives Whole bytes l errors runs) is run) writes)

@@ -49,7 +49,7 @@ pub fn save<S: Source, K: Sink, D: Feeds>(
     feeds: &mut D,
     weights: &Weights,
 ) -> u8
-    ensures saved { SavesTold weights.now result (S.left source.old) (S.left source.new) (K.written sink.old) (K.written sink.new) }
+    ensures saved { SavesTold (D.gives feeds.old) weights.now result (S.left source.old) (S.left source.new) (K.written sink.old) (K.written sink.new) }
     ensures answered { IsSaveStatus result }
     ensures source_fault { result ≡ 3 → HasRisen (S.faults source.old) (S.faults source.new) }
     ensures sink_fault { result ≡ 4 → HasRisen (K.faults sink.old) (K.faults sink.new) }

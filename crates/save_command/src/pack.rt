@@ -58,7 +58,8 @@ fn died_of_memory(entries: &[Entry]) -> bool
 
 /// Why a session with these entries has no checkpoint, if it is dead.
 fn fault_of_death(entries: &[Entry]) -> SaveFault
-    ensures { result ≡ SaveFault.CantBeSaved → ¬ DiedOfMemory entries.now }
+    ensures memory { result ≡ SaveFault.OutOfMemory → DiedOfMemory entries.now }
+    ensures cant { result ≡ SaveFault.CantBeSaved → ¬ DiedOfMemory entries.now }
 {
     if died_of_memory(entries) {
         SaveFault::OutOfMemory

@@ -4,3 +4,4 @@ pub mod Once
 pub mod Headline
 pub mod Stepping
 pub mod Going
+pub mod Feeding

@@ -8,3 +8,4 @@ pub mod Engines
 pub mod Answering
 pub mod Stepping
 pub mod Aloneness
+pub mod Feeding

@@ -1,9 +1,11 @@
-ghost use Rattle.std.specs.Prelude.{◌≡◌, ◌<◌, ◌≤◌, ◌++◌, [], ◌∷◌, true, false, IfOk, MatchOption};
+ghost use Rattle.std.specs.Prelude.{◌≡◌, ◌<◌, ◌≤◌, List, ◌++◌, [], ◌∷◌, true, false, Option, IfOk, MatchOption};
+ghost use Rattle.nb_outside.specs.declared.feed.Drawn.{Drawn};
 ghost use Rattle.session_core.specs.Asks.{IsWork};
 ghost use Rattle.session_core.specs.Engines.{Packs};
 ghost use Rattle.session_core.specs.Legal.{progress_of, asked, IsLegal};
 ghost use Rattle.session_core.specs.Stepping.{GoesOn};
 ghost use Rattle.session_core.specs.Aloneness.{IsAlone};
+ghost use Rattle.session_core.specs.Feeding.{HasFed};
 
 use crate::engine::{Engine, PackFault, Packed};
 use crate::entry::Entry;
@@ -94,11 +96,12 @@ impl<E: Engine + Drop> Alone<E> {
     }
 
     /// Answers one request. A cell ran, died or found the session dead; a move was adopted, refused or, for want of memory,
-    /// resumed. The journal goes on by the entries that say so.
+    /// resumed. The journal goes on by the entries that say so. The draws that it records are what the feed gave.
     pub fn answer<F: Feed>(self, alloc: Global, feed: &mut F, request: Request) -> Alone<E>
         requires { 3 ≤ self.spare }
         ensures goes_on { GoesOn self.entries result.entries }
         ensures answered { asked result.entries ≡ asked self.entries ++ request ∷ [] }
+        ensures fed { (answers : Option (List Drawn)) → HasFed answers self.entries (F.seen feed.old) → HasFed answers result.entries (F.seen feed.new) }
         ensures hosts { result.hosts ≡ self.hosts }
     {
         let Alone {
@@ -146,6 +149,7 @@ fn served<E: Engine + Drop, F: Feed>(
     requires alone { IsAlone E.meaning (E.stands_for engine) (E.host_of engine) hosts false 0 journal.entries }
     ensures goes_on { GoesOn journal.entries result.entries }
     ensures answered { asked result.entries ≡ asked journal.entries ++ request ∷ [] }
+    ensures fed { (answers : Option (List Drawn)) → HasFed answers journal.entries (F.seen feed.old) → HasFed answers result.entries (F.seen feed.new) }
     ensures hosts { result.hosts ≡ hosts }
 {
     let mut engine = engine;

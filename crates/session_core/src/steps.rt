@@ -1,6 +1,8 @@
 //! The steps of a session on one thread. Each puts at the journal's end entries that may come there.
 
-ghost use Rattle.std.specs.Prelude.{◌≡◌, ℕ, ◌+◌, ◌≤◌, ◌<◌, true, false, [], ◌∷◌, ◌++◌, Some, IfSome, IfNone, MatchOption, Ok, Err};
+ghost use Rattle.std.specs.Prelude.{◌≡◌, ℕ, ◌+◌, ◌≤◌, ◌<◌, true, false, List, [], ◌∷◌, ◌++◌, Some, IfSome, IfNone, MatchOption, Ok, Err};
+ghost use Rattle.nb_outside.specs.declared.feed.Drawn.{Drawn};
+ghost use Rattle.nb_outside.specs.Feeds.{Fed};
 ghost use Rattle.graph_model.specs.declared.plan.Weights.{Weights};
 ghost use Rattle.session_core.specs.declared.request.Ask.TheVariants as asks;
 ghost use Rattle.session_core.specs.declared.entry.Entry.{Entry};
@@ -10,6 +12,7 @@ ghost use Rattle.session_core.specs.Legal.{settled, progress_of, CanGo, IsReason
 ghost use Rattle.session_core.specs.Machine.{IsNoted};
 ghost use Rattle.session_core.specs.Stepping.{cause_of, IsEarly, IsFree, IsPackOf, HasGone, HasEnded, reason_of};
 ghost use Rattle.session_core.specs.Engines.{Packs};
+ghost use Rattle.session_core.specs.Feeding.{drawn_in};
 
 use crate::engine::{Engine, PackFault, Packed, RunFault};
 use crate::entry::{DiedCause, Entry, MoveRefusal};
@@ -47,6 +50,8 @@ pub fn serve<E: Engine, F: Feed>(
     ensures ends { result ≡ true → (progress_of journal.new.entries).dead ≡ is_end request.ask }
     ensures dead { result ≡ false → (progress_of journal.new.entries).dead ≡ true }
     ensures served { result ≡ false → (progress_of journal.new.entries).served ≡ (progress_of journal.old.entries).served }
+    ensures fed { (draws : List Drawn) × Fed (F.seen feed.old) draws (F.seen feed.new)
+        × (result ≡ true → (drawn_in journal.new.entries ≡ drawn_in journal.old.entries ++ draws)) }
     ensures spare { journal.old.spare ≡ journal.new.spare + 1 }
 {
     let host = settled_owner(journal);
@@ -212,7 +217,7 @@ fn reason_against(fault: PackFault) -> Option<MoveRefusal>
 }
 
 /// A move that can't be packed: it is refused or, for want of memory, resumed.
-fn stay_behind<E: Engine>(
+fn stay<E: Engine>(
     _engine: &E,
     journal: &mut Journal,
     hosts: u32,
@@ -285,7 +290,7 @@ fn plan_and_go<E: Engine + Drop>(
     match engine.pack(alloc, weights) {
         Ok(packed) => depart(alloc, journal, engine, hosts, to, weights, request, packed),
         Err(fault) => {
-            stay_behind(&engine, journal, hosts, to, weights, request, fault);
+            stay(&engine, journal, hosts, to, weights, request, fault);
             engine
         }
     }

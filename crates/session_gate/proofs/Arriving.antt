@@ -8,7 +8,7 @@ use Rattle.session_gate.specs.Answered.{IsAnswered}
 use Rattle.session_core.specs.Legal.{arriving, moved, progress_of}
 use Rattle.session_core.proofs.Progressing.{progress_more}
 use Rattle.session_gate.specs.Facts.{Away, HasNoted}
-use Rattle.session_gate.specs.Places.{IsSealedUp, IsCollected}
+use Rattle.session_gate.specs.Custodies.{IsSealedUp, IsCollected}
 use Rattle.session_gate.proofs.Noting.{answered_more}
 
 pub arrived : {E F : Type 0} → (hosts : ℕ) (queues : List SharedQueues) (p q : Away E F) → IsSealedUp hosts queues p → HasNoted p.held q.held (Moved p.to) → q ≡ record p { held = q.held } → IsCollected hosts queues q

@@ -4,4 +4,4 @@ pub mod Going
 pub mod Gathered
 pub mod Arriving
 pub mod Beginning
-pub mod Standing
+pub mod Keeping

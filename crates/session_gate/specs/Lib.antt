@@ -2,4 +2,4 @@ pub mod Answered
 pub mod Drawing
 pub mod Facts
 pub mod Slots
-pub mod Places
+pub mod Custodies

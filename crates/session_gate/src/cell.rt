@@ -5,7 +5,7 @@ ghost use Rattle.session_queues.specs.declared.items.MainItem.{MainItem};
 ghost use Rattle.session_queues.specs.Passes.{IsPassOf, HoldsAll, admitted_by, parted, next_pass, taking_in};
 ghost use Rattle.session_queues.specs.Ends.{first_pass, nothing_on, gathered};
 ghost use Rattle.session_gate.specs.Facts.{OwesNone, IsBare, IsWhole, owner_of};
-ghost use Rattle.session_gate.specs.Places.{OnTaken, IsFinished};
+ghost use Rattle.session_gate.specs.Custodies.{OnTaken, IsFinished};
 
 use crate::lease::Lease;
 use crate::parcel::Parcel;

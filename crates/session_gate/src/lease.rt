@@ -7,7 +7,7 @@ ghost use Rattle.session_queues.specs.Passes.{IsPassOf};
 ghost use Rattle.session_queues.specs.Ends.{FoundNothing, TookRequest, admitted_main, admitted_control, gathered, all_of, GoesOn};
 ghost use Rattle.session_gate.specs.Facts.{OwesNone, Owes, IsSettled, IsWhole, IsIn, HasSame, HasNoted, owner_of};
 ghost use Rattle.session_gate.specs.Slots.{IsServed};
-ghost use Rattle.session_gate.specs.Places.{is_of, IsFree};
+ghost use Rattle.session_gate.specs.Custodies.{is_of, IsFree};
 
 use crate::parcel::Parcel;
 use crate::resident::Resident;

@@ -3,7 +3,7 @@ ghost use Rattle.nb_outside.specs.Feeds.{HasAll};
 ghost use Rattle.session_queues.specs.declared.items.MainItem.{MainItem};
 ghost use Rattle.session_queues.specs.Ends.{first_pass, nothing_on};
 ghost use Rattle.session_gate.specs.Facts.{IsResident};
-ghost use Rattle.session_gate.specs.Places.{IsNew};
+ghost use Rattle.session_gate.specs.Custodies.{IsNew};
 
 use crate::resident::Resident;
 use nb_outside::Feed;

@@ -2,7 +2,7 @@ ghost use Rattle.std.specs.Prelude.{◌≡◌, ◌≤◌, ◌+◌, [], ◌∷◌
 ghost use Rattle.session_core.specs.declared.entry.Entry.{Entry};
 ghost use Rattle.session_core.specs.Legal.{progress_of, sealed, arriving};
 ghost use Rattle.session_gate.specs.Facts.{OwesNone, IsIn, HasSame, HasNoted};
-ghost use Rattle.session_gate.specs.Places.{is_of, IsFree};
+ghost use Rattle.session_gate.specs.Custodies.{is_of, IsFree};
 
 use crate::lease::Lease;
 use crate::resident::Resident;

@@ -3,7 +3,7 @@ ghost use Rattle.nb_outside.specs.Feeds.{HasAll};
 ghost use Rattle.session_queues.specs.declared.items.MainItem.{MainItem};
 ghost use Rattle.session_queues.specs.Ends.{first_pass, nothing_on};
 ghost use Rattle.session_gate.specs.Facts.{OwesNone, IsBare, IsIn, IsSettled, owner_of};
-ghost use Rattle.session_gate.specs.Places.{took, is_of, HasQueues, OnTaken, Stands, StandsIn, Collects, Finishes, IsFree, IsAtRest, IsSealedUp, IsCollected, IsPassHere, IsNew};
+ghost use Rattle.session_gate.specs.Custodies.{took, is_of, HasQueues, OnTaken, IsInOrder, HasOwner, Collects, Finishes, IsFree, IsAtRest, IsSealedUp, IsCollected, IsPassHere, IsNew};
 ghost use Rattle.session_gate.specs.declared.slot.Custody.TheVariants.{Unopened, In, Out, Sealed};
 
 use crate::lease::Lease;
@@ -67,11 +67,11 @@ impl<E: Engine, F: Feed, N: Name> Model for Slot<E, F, N> {
 
     ghost Value = { Custody E F };
 
-    ghost use Rattle.session_gate.specs.Places.{Stands};
+    ghost use Rattle.session_gate.specs.Custodies.{IsInOrder};
 
     ghost view = { λ s. s.state };
 
-    ghost invariant = { λ s. Stands N.hosts N.queues s.state };
+    ghost invariant = { λ s. IsInOrder N.hosts N.queues s.state };
 }
 
 impl<E: Engine, F: Feed, N: Name> Slot<E, F, N> {
@@ -84,7 +84,7 @@ impl<E: Engine, F: Feed, N: Name> Slot<E, F, N> {
 
     /// A slot with this in it.
     fn of(state: Custody<E, F>) -> Slot<E, F, N>
-        requires { Stands N.hosts N.queues state }
+        requires { IsInOrder N.hosts N.queues state }
         ensures { result ≡ state }
     {
         Slot {
@@ -172,7 +172,7 @@ impl<E: Engine, F: Feed, N: Name> Slot<E, F, N> {
     pub fn finish(self, pass: Pass) -> Result<Resident<E, F>, (Slot<E, F, N>, Pass)>
         requires { IsPassHere self pass }
         ensures finishes { Finishes self pass result }
-        ensures rest { IfOk result (λ _. StandsIn (IsAtRest N.hosts N.queues) self) }
+        ensures rest { IfOk result (λ _. HasOwner (IsAtRest N.hosts N.queues) self) }
     {
         let Slot { state, name: _ } = self;
         match state {
@@ -215,11 +215,11 @@ impl<E: Engine, F: Feed, N: Name> Slot<E, F, N> {
 }
 
 /// Puts something in a free slot.
-fn put<E: Engine, F: Feed>(place: &mut Custody<E, F>, state: Custody<E, F>)
-    requires { IsFree place.old }
-    ensures { place.new ≡ state }
+fn put<E: Engine, F: Feed>(custody: &mut Custody<E, F>, state: Custody<E, F>)
+    requires { IsFree custody.old }
+    ensures { custody.new ≡ state }
 {
-    match mem::replace(place, state) {
+    match mem::replace(custody, state) {
         Custody::Unopened | Custody::Out => (),
         Custody::In(_other) => unreachable!(),
         Custody::Sealed(_other) => unreachable!(),
@@ -248,7 +248,7 @@ impl<E: Engine + Drop, F: Feed, N: Name> Slot<E, F, N> {
         requires engine { E.stands_for engine [] × (E.host_of engine ≡ host) }
         requires feed { HasAll (F.seen feed) }
         ensures { MatchResult result
-            (λ made. StandsIn (IsNew engine feed queues number hosts host request channel) self.new × (made.0 ≡ first_pass queues (MainItem.Opening host request channel)) × (made.1 ≡ nothing_on queues))
+            (λ made. HasOwner (IsNew engine feed queues number hosts host request channel) self.new × (made.0 ≡ first_pass queues (MainItem.Opening host request channel)) × (made.1 ≡ nothing_on queues))
             (λ back. (back ≡ queues) × (self.new ≡ self.old)) }
     {
         match Resident::open(

@@ -69,11 +69,7 @@ fn reason_against(fault: PackFault) -> Option<MoveRefusal>
 }
 
 /// A move that can't be packed: it is refused or, for want of memory, resumed.
-fn stay_behind<E: Engine, F: Feed>(
-    lease: Lease<E, F>,
-    request: Request,
-    fault: PackFault,
-) -> Lease<E, F>
+fn stay<E: Engine, F: Feed>(lease: Lease<E, F>, request: Request, fault: PackFault) -> Lease<E, F>
     requires owes { Owes lease request }
     requires spare { 1 ≤ lease.spare }
     requires fault { IsMove (λ to weights. IsFree lease.hosts (progress_of lease.entries) to × Packs E.meaning (progress_of lease.entries).served weights (Err fault)) request.ask }
@@ -122,7 +118,7 @@ pub fn start_move<E: Engine, F: Feed>(
     }
     match lease.pack(alloc, &weights) {
         Ok(packed) => depart(alloc, lease, request, packed),
-        Err(fault) => Started::Stayed(stay_behind(lease, request, fault)),
+        Err(fault) => Started::Stayed(stay(lease, request, fault)),
     }
 }
 

@@ -136,19 +136,19 @@ escape_more [] more e h = cc
 escape_more (c ∷ front) more e h = escape_by (eqb c 92 || is_quote c) (eqb c 110) (eqb c 114) (eqb c 116) (eqb c 120) _ _ _ _ (hexadecimal front) (hexadecimal (front ++ more)) e (hexadecimal_more front more e) h
 
 -- a list that begins with a shorter one goes on after it
-behind : (xs ys front back : List ℕ) → xs ++ ys ≡ front ++ back → length front ≤ length xs → (more : List ℕ) × (xs ≡ front ++ more)
-behind xs ys [] back e h = (xs, refl)
-behind [] ys (f ∷ front) back e h = absurd (omega arith)
-behind (x ∷ xs) ys (f ∷ front) back e h =
+beyond : (xs ys front back : List ℕ) → xs ++ ys ≡ front ++ back → length front ≤ length xs → (more : List ℕ) × (xs ≡ front ++ more)
+beyond xs ys [] back e h = (xs, refl)
+beyond [] ys (f ∷ front) back e h = absurd (omega arith)
+beyond (x ∷ xs) ys (f ∷ front) back e h =
     let head : x ≡ f = cc in
     let tail : xs ++ ys ≡ front ++ back = cc in
-    let w = behind xs ys front back tail (omega arith) in
+    let w = beyond xs ys front back tail (omega arith) in
     (w.0, ap (λ y. y ∷ xs) head ∙ ap (◌∷◌ f) w.1)
 
 escape_cut : (xs ys : List ℕ) (e : Escape) → escape (xs ++ ys) ≡ Some e → e.width ≤ length xs → escape xs ≡ Some e
 escape_cut xs ys e h fits =
     let i = escape_is (xs ++ ys) e h in
-    let w = behind xs ys i.front i.back i.parts (omega (arith, i.width, fits)) in
+    let w = beyond xs ys i.front i.back i.parts (omega (arith, i.width, fits)) in
     subst (λ bytes. escape bytes ≡ Some e) (sym w.1) (escape_more i.front w.0 e i.spelled)
 
 after_closed : (written : List ℕ) (b : Body) (v : List ℕ) (w : ℕ) → after written b ≡ Closed v w → (u : List ℕ) × (n : ℕ) × (b ≡ Closed u n) × (written ++ u ≡ v) × (suc n ≡ w)

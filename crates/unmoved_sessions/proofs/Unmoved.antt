@@ -1,5 +1,5 @@
 -- The answers of a notebook to cells are those of a session that never moves.
-use Rattle.std.proofs.Common.{◌≡◌, ℕ, suc, true, false, List, [], ◌∷◌, ◌++◌, length, length-append, Ok, Err, inl, inr, refl, sym, ap, ◌∙◌, subst, arith}
+use Rattle.std.proofs.Common.{◌≡◌, ℕ, suc, true, false, List, [], ◌∷◌, ◌++◌, length, length-append, Ok, Err, Option, inl, inr, refl, sym, ap, ◌∙◌, subst, arith}
 use Rattle.std.specs.Str.{IsUtf8}
 use Rattle.std.specs.List.{AllByRecursion}
 use Rattle.nb_outside.specs.declared.feed.Drawn.{Drawn}
@@ -123,9 +123,9 @@ none_later host header channel es entries is none = (subst (AllByRecursion IsNoD
 
 -- ---- a session
 
-pub session_answered : (hosts : ℕ) (s : Taken) (es : List journal.Entry) → IsJournalOf notebooks hosts s es → AllByRecursion IsCell s.requests
+pub session_answered : (hosts : ℕ) (answers : Option (List Drawn)) (s : Taken) (es : List journal.Entry) → IsJournalOf notebooks hosts answers s es → AllByRecursion IsCell s.requests
     → (entries : List journal.Entry) × (es ≡ Opened s.host s.request s.channel ∷ entries) × AreAnsweredUntilDeath s.host empty s.requests entries
-session_answered hosts s es is cells =
+session_answered hosts answers s es is cells =
     let begins = is.begins in (
       begins.0,
       begins.1,

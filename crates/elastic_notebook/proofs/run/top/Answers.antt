@@ -15,12 +15,12 @@ use Rattle.elastic_notebook.proofs.run.top.Goals as goal
 
 pub returns-in-Some-Run-clause-streams : goal.returns-in-Some-Run-clause-streams
 returns-in-Some-Run-clause-streams g c = λ hosts workers is.
-    subst (λ (n : ℕ). StreamsTold notebooks n c.run_stream.result (g.S.Source.left c.args.source.now) (g.S.Source.left c.run_stream.new.source) (g.K.Sink.written c.args.sink.now) (g.K.Sink.written c.run_stream.new.sink))
+    subst (λ (n : ℕ). StreamsTold notebooks n (g.D.Feeds.gives c.args.feeds.now) c.run_stream.result (g.S.Source.left c.args.source.now) (g.S.Source.left c.run_stream.new.source) (g.K.Sink.written c.args.sink.now) (g.K.Sink.written c.run_stream.new.sink))
     (one_count (map string_bytes c.args.words.now) c.in-Some-Run.hosts c.in-Some-Run.field-0-1 hosts workers (subst (IsCommand (map string_bytes c.args.words.now)) c.in-Some-Run.field-0-is c.in-Some-Run.ensures) is) c.run_stream.ensures.streams
 
 pub returns-in-Some-Save-clause-saved : goal.returns-in-Some-Save-clause-saved
 returns-in-Some-Save-clause-saved g c = λ w is.
-    subst (λ (v : Weights). SavesTold v c.save.result (g.S.Source.left c.args.source.now) (g.S.Source.left c.save.new.source) (g.K.Sink.written c.args.sink.now) (g.K.Sink.written c.save.new.sink))
+    subst (λ (v : Weights). SavesTold (g.D.Feeds.gives c.args.feeds.now) v c.save.result (g.S.Source.left c.args.source.now) (g.S.Source.left c.save.new.source) (g.K.Sink.written c.args.sink.now) (g.K.Sink.written c.save.new.sink))
     (one_save (map string_bytes c.args.words.now) c.in-Some-Save.weights w (subst (IsCommand (map string_bytes c.args.words.now)) c.in-Some-Save.field-0-is c.in-Some-Save.ensures) is) c.save.ensures.saved
 
 pub returns-in-Some-Plan-clause-planned : goal.returns-in-Some-Plan-clause-planned

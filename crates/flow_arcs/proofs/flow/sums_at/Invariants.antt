@@ -6,11 +6,11 @@ use Rattle.flow_arcs.proofs.flow.sums_at.Given as goal
 
 abbrev pub invariant-arcs : goal.invariant-arcs
 invariant-arcs l = record {
-  given : l.given + below l.place (tails l.net.arcs) (outs l.on) l.node ≡ given l.net.arcs l.on l.node;
-  taken : l.taken + below l.place (tails l.net.arcs) (ins l.on) l.node ≡ taken l.net.arcs l.on l.node;
-  low : l.place ≤ length (tails l.net.arcs);
-  leaves : (e : ℕ) → l.place ≡ e + 1 → get_or (tails l.net.arcs) e 0 ≡ l.node;
+  given : l.given + below l.position (tails l.net.arcs) (outs l.on) l.node ≡ given l.net.arcs l.on l.node;
+  taken : l.taken + below l.position (tails l.net.arcs) (ins l.on) l.node ≡ taken l.net.arcs l.on l.node;
+  low : l.position ≤ length (tails l.net.arcs);
+  leaves : (e : ℕ) → l.position ≡ e + 1 → get_or (tails l.net.arcs) e 0 ≡ l.node;
 }
 
 abbrev pub decreases-arcs : goal.decreases-arcs
-decreases-arcs l = l.place
+decreases-arcs l = l.position

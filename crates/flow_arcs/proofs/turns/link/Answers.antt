@@ -30,8 +30,8 @@ index-requires c =
     let s = ap length c.requires.turns.ends in
     omega (arith, c.args.turns.now.to.ok.0)
 
-pub index-place-requires : goal.index-place-requires
-index-place-requires c =
+pub index-position-requires : goal.index-position-requires
+index-position-requires c =
     let w = within c.args.net.now c.args.turns.now.to.items c.args.turns.now.first.items c.args.turns.now.next.items c.args.arc c.partner.result c.index.result.now c.requires.net c.requires.turns c.requires.arc c.partner.ensures c.index.ensures in
     omega (arith, c.args.turns.now.first.ok.0)
 
@@ -43,7 +43,7 @@ index_mut-requires-2 c =
 pub returns : goal.returns
 returns c =
     let w = within c.args.net.now c.args.turns.now.to.items c.args.turns.now.first.items c.args.turns.now.next.items c.args.arc c.partner.result c.index.result.now c.requires.net c.requires.turns c.requires.arc c.partner.ensures c.index.ensures in
-    linked c.args.net.now c.args.turns.now.to.items c.args.turns.now.first.items c.args.turns.now.next.items c.args.arc c.index.result.now c.index-place.result.now
+    linked c.args.net.now c.args.turns.now.to.items c.args.turns.now.first.items c.args.turns.now.next.items c.args.arc c.index.result.now c.index-position.result.now
     c.requires.net c.requires.turns c.requires.arc
     (leaves c.args.net.now c.args.turns.now.to.items c.args.turns.now.first.items c.args.turns.now.next.items c.args.arc c.partner.result c.index.result.now c.requires.turns c.requires.arc c.partner.ensures c.index.ensures)
-    (get_or_read c.args.turns.now.first.items c.index.result.now c.index-place.result.now w c.index-place.ensures 0)
+    (get_or_read c.args.turns.now.first.items c.index.result.now c.index-position.result.now w c.index-position.ensures 0)

@@ -11,7 +11,7 @@ returns-in-Ok-clause-told g c =
       t.0,
       t.1,
       if_ok_three c.serve_taken.result c.serve_taken.ensures.errors c.serve_taken.ensures.runs c.serve_taken.ensures.end
-          (λ ran errors runs end. has_run g.E.Engine.meaning c.args.hosts t.0 (g.S.Source.left c.take_in.new.source) c.in-Ok.taken c.in-Ok.end ran.end ran.errors ran.runs.items t.2.0 t.2.1 end errors runs),
+          (λ ran errors runs end. has_run g.E.Engine.meaning c.args.hosts (g.Q.Feeds.gives c.args.feeds.now) t.0 (g.S.Source.left c.take_in.new.source) c.in-Ok.taken c.in-Ok.end ran.end ran.errors ran.runs.items t.2.0 t.2.1 end errors runs),
     )
 
 pub returns-in-Ok-clause-failed : goal.returns-in-Ok-clause-failed

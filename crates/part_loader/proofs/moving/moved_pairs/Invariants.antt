@@ -3,4 +3,4 @@ use Rattle.part_bytes.specs.Parts.{numbered_pair}
 use Rattle.part_loader.proofs.moving.moved_pairs.Given as goal
 
 abbrev pub invariant-loop-index : goal.invariant-loop-index
-invariant-loop-index g l = l.moved ≡ map (numbered_pair (g.P.Places.goes_to l.places)) (take l.index l.dict)
+invariant-loop-index g l = l.moved ≡ map (numbered_pair (g.P.Addresses.goes_to l.addresses)) (take l.index l.dict)

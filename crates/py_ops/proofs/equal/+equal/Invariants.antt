@@ -32,18 +32,18 @@ decreases-elements_equal l = 9 * l.left + 6
 abbrev pub decreases-one_equal : goal.decreases-one_equal
 decreases-one_equal l = 9 * l.left + 7
 
-abbrev pub invariant-items_equal-loop-place : goal.invariant-items_equal-loop-place
-invariant-items_equal-loop-place l = record {
+abbrev pub invariant-items_equal-loop-position : goal.invariant-items_equal-loop-position
+invariant-items_equal-loop-position l = record {
   runs : (draws : List Drawn) → run (spec.items_equal (spec.pair_equal l.left) (items_at l.initial.machine.state.heap l.a) (items_at l.initial.machine.state.heap l.b)) draws l.initial.machine
-      ≡ run (spec.items_equal (spec.pair_equal l.left) (drop l.place (items_at l.initial.machine.state.heap l.a)) (drop l.place (items_at l.initial.machine.state.heap l.b))) draws l.machine;
+      ≡ run (spec.items_equal (spec.pair_equal l.left) (drop l.position (items_at l.initial.machine.state.heap l.a)) (drop l.position (items_at l.initial.machine.state.heap l.b))) draws l.machine;
   drawn : l.machine.drawn ≡ l.initial.machine.drawn;
   same : l.machine.state ≡ l.initial.machine.state;
 }
 
-abbrev pub invariant-pairs_equal-loop-place : goal.invariant-pairs_equal-loop-place
-invariant-pairs_equal-loop-place l = record {
+abbrev pub invariant-pairs_equal-loop-position : goal.invariant-pairs_equal-loop-position
+invariant-pairs_equal-loop-position l = record {
   runs : (draws : List Drawn) → run (spec.pairs_equal (spec.pair_equal l.left) (pairs_at l.initial.machine.state.heap l.a) (pairs_at l.initial.machine.state.heap l.b)) draws l.initial.machine
-      ≡ run (spec.pairs_equal (spec.pair_equal l.left) (drop l.place (pairs_at l.initial.machine.state.heap l.a)) (pairs_at l.initial.machine.state.heap l.b)) draws l.machine;
+      ≡ run (spec.pairs_equal (spec.pair_equal l.left) (drop l.position (pairs_at l.initial.machine.state.heap l.a)) (pairs_at l.initial.machine.state.heap l.b)) draws l.machine;
   drawn : l.machine.drawn ≡ l.initial.machine.drawn;
   same : l.machine.state ≡ l.initial.machine.state;
 }

@@ -24,8 +24,8 @@ pair_ordered-returns-then-left-eq0-clause-runs t c = λ draws told.
 pub items_ordered-returns-clause-runs : goal.items_ordered-returns-clause-runs
 items_ordered-returns-clause-runs t c = λ draws told.
     let m = c.args.machine.now in
-    let k : c.loop-place.place ≡ min (length (items_at m.state.heap c.args.a)) (length (items_at m.state.heap c.args.b)) = omega arith in
-    c.loop-place.invariant.runs draws ∙ rw (c.order_holds.ensures, c.cmp.ensures, ← c.requires.first, ← c.requires.second) (ordered_end (pair_equal c.args.left) (pair_ordered c.args.left) c.args.op draws c.loop-place.machine (items_at m.state.heap c.args.a) (items_at m.state.heap c.args.b) c.loop-place.place k)
+    let k : c.loop-position.position ≡ min (length (items_at m.state.heap c.args.a)) (length (items_at m.state.heap c.args.b)) = omega arith in
+    c.loop-position.invariant.runs draws ∙ rw (c.order_holds.ensures, c.cmp.ensures, ← c.requires.first, ← c.requires.second) (ordered_end (pair_equal c.args.left) (pair_ordered c.args.left) c.args.op draws c.loop-position.machine (items_at m.state.heap c.args.a) (items_at m.state.heap c.args.b) c.loop-position.position k)
 
 pub refs_ordered-returns-in-Some-List-object_at-clause-runs : goal.refs_ordered-returns-in-Some-List-object_at-clause-runs
 refs_ordered-returns-in-Some-List-object_at-clause-runs t c = λ draws told.

@@ -20,10 +20,10 @@ decreases-others_ordered l = 5 * l.left + 3
 abbrev pub decreases-values_ordered : goal.decreases-values_ordered
 decreases-values_ordered l = 5 * l.left + 4
 
-abbrev pub invariant-items_ordered-loop-place : goal.invariant-items_ordered-loop-place
-invariant-items_ordered-loop-place l = record {
+abbrev pub invariant-items_ordered-loop-position : goal.invariant-items_ordered-loop-position
+invariant-items_ordered-loop-position l = record {
   runs : (draws : List Drawn) → run (spec.items_ordered (spec.pair_equal l.left) (spec.pair_ordered l.left) l.op (items_at l.initial.machine.state.heap l.a) (items_at l.initial.machine.state.heap l.b)) draws l.initial.machine
-      ≡ run (spec.items_ordered (spec.pair_equal l.left) (spec.pair_ordered l.left) l.op (drop l.place (items_at l.initial.machine.state.heap l.a)) (drop l.place (items_at l.initial.machine.state.heap l.b))) draws l.machine;
+      ≡ run (spec.items_ordered (spec.pair_equal l.left) (spec.pair_ordered l.left) l.op (drop l.position (items_at l.initial.machine.state.heap l.a)) (drop l.position (items_at l.initial.machine.state.heap l.b))) draws l.machine;
   drawn : l.machine.drawn ≡ l.initial.machine.drawn;
   same : l.machine.state ≡ l.initial.machine.state;
 }

@@ -13,12 +13,12 @@ returns-in-Whole-clause-saved g c =
     let left = g.S.Source.left c.run_sessions.new.source in
     let a = g.K.Sink.written c.args.sink.now in
     let b = g.K.Sink.written c.save_first.new.sink in
-    told_whole c.args.weights.now c.save_first.result (g.S.Source.left c.args.source.now) left a b told.0 c.in-Ok.ran.errors c.in-Ok.ran.runs.items told.1
-    (subst (λ (end : RunEnd). HasRun notebooks 1 end told.0 left c.in-Ok.ran.errors c.in-Ok.ran.runs.items) c.in-Whole.is told.2)
+    told_whole (g.D.Feeds.gives c.args.feeds.now) c.args.weights.now c.save_first.result (g.S.Source.left c.args.source.now) left a b told.0 c.in-Ok.ran.errors c.in-Ok.ran.runs.items told.1
+    (subst (λ (end : RunEnd). HasRun notebooks 1 (g.D.Feeds.gives c.args.feeds.now) end told.0 left c.in-Ok.ran.errors c.in-Ok.ran.runs.items) c.in-Whole.is told.2)
     (subst (λ (runs : List Run). WritesFirst c.args.weights.now (journals_of runs) c.save_first.result a b) c.as_slice.ensures.value c.save_first.ensures.written)
 
 pub returns-clause-saved : goal.returns-clause-saved
 returns-clause-saved g c =
     let told = c.in-Ok.ensures.told in
-    told_ended c.args.weights.now c.status_of.result c.in-Ok.ran.end (g.S.Source.left c.args.source.now) (g.S.Source.left c.run_sessions.new.source) (g.K.Sink.written c.args.sink.now) told.0
+    told_ended (g.D.Feeds.gives c.args.feeds.now) c.args.weights.now c.status_of.result c.in-Ok.ran.end (g.S.Source.left c.args.source.now) (g.S.Source.left c.run_sessions.new.source) (g.K.Sink.written c.args.sink.now) told.0
     c.in-Ok.ran.errors c.in-Ok.ran.runs.items c.status_of.ensures c.in_default-end.not-Whole told.1 told.2

@@ -8,11 +8,11 @@ depart-requires-clause-packed g c =
     let es = c.args.journal.now.entries in
     c.in-Ok.ensures (progress_of es).served c.requires.stands.0 (alive_has_no_end es c.requires.free.0)
 
-pub stay_behind-requires-clause-fault : goal.stay_behind-requires-clause-fault
-stay_behind-requires-clause-fault g c =
+pub stay-requires-clause-fault : goal.stay-requires-clause-fault
+stay-requires-clause-fault g c =
     let es = c.args.journal.now.entries in
     c.in-Err.ensures (progress_of es).served c.requires.stands.0 (alive_has_no_end es c.requires.free.0)
 
 pub returns-in-Err-clause-stands : goal.returns-in-Err-clause-stands
 returns-in-Err-clause-stands g c =
-    (subst (g.E.Engine.stands_for c.args.engine) (sym c.stay_behind.ensures.ended.served) c.requires.stands.0, c.requires.stands.1 ∙ sym c.stay_behind.ensures.owner)
+    (subst (g.E.Engine.stands_for c.args.engine) (sym c.stay.ensures.ended.served) c.requires.stands.0, c.requires.stands.1 ∙ sym c.stay.ensures.owner)

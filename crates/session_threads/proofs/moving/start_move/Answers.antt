@@ -18,7 +18,7 @@ depart-requires-clause-packed g c = let m = g.E.Engine.meaning in let a = c.args
     is_move_of (λ t w. CanGo m a.lease.hosts p t × Packs m p.served w (Ok c.in-Ok.packed)) a.request.ask c.aim_of-to.result.0 c.aim_of-to.result.1 c.aim_of-to.ensures
     (c.in_default.ensures, c.in-Ok.ensures)
 
-pub stay_behind-requires-clause-fault : goal.stay_behind-requires-clause-fault
-stay_behind-requires-clause-fault g c = let m = g.E.Engine.meaning in let a = c.args in let p = progress_of a.lease.entries in
+pub stay-requires-clause-fault : goal.stay-requires-clause-fault
+stay-requires-clause-fault g c = let m = g.E.Engine.meaning in let a = c.args in let p = progress_of a.lease.entries in
     is_move_of (λ t w. IsFree a.lease.hosts p t × Packs m p.served w (Err c.in-Err.fault)) a.request.ask c.aim_of-to.result.0 c.aim_of-to.result.1 c.aim_of-to.ensures
     (c.in_default.ensures, c.in-Err.ensures)

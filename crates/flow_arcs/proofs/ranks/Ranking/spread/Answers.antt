@@ -3,4 +3,4 @@ use Rattle.flow_arcs.proofs.Partners.{partner_near}
 use Rattle.flow_arcs.proofs.ranks.Ranking.spread.Goals as goal
 
 pub partner-requires : goal.partner-requires
-partner-requires c = let n = partner_near (c.arcs.place - 1) in omega arith
+partner-requires c = let n = partner_near (c.arcs.position - 1) in omega arith

@@ -17,23 +17,23 @@ told s names name found items one x r e i m at = subst (λ (ns : List ℕ). Cont
 
 pub meet-requires-clause-owner : goal.meet-requires-clause-owner
 meet-requires-clause-owner c = λ owner e.
-    let o = (c.loop-place.invariant.classes.owned _ owner e).0 in
-    omega (arith, o, c.loop-place.invariant.classes.size)
+    let o = (c.loop-position.invariant.classes.owned _ owner e).0 in
+    omega (arith, o, c.loop-position.invariant.classes.size)
 
-pub loop-place-preserved : goal.loop-place-preserved
-loop-place-preserved c =
+pub loop-position-preserved : goal.loop-position-preserved
+loop-position-preserved c =
     let items = c.as_slice-items.result.now in
-    let index = c.loop-place.place-index in
+    let index = c.loop-position.position-index in
     let l : index < length items = omega arith in
     let known = told c.args.state.now c.args.names.now c.args.name c.in_ok-found.found items c.from_ref.result.now c.index-names-name.result c.from_ref.ensures.value
     (get_or_read c.args.names.now c.args.name _ c.requires.within c.index-names-name.is []) c.as_slice-items.ensures c.in_ok-found.ensures.members in
     let live = subst (λ (ns : List ℕ). (k d : ℕ) → k < length ns → get_or ns k d < length c.args.state.now.heap) (sym c.as_slice-items.ensures) c.in_ok-found.ensures.live in
-    noted_more c.args.state.now c.args.names.now c.loop-place.self.labels c.loop-place.self.owners c.args.name items index c.loop-place.invariant c.requires.within
-    ((known (get_or items index 0)).0 (Contains-get_or items index 0 l)) (omega (arith, live index 0 l, c.loop-place.invariant.classes.room)) _ _ c.meet.ensures
+    noted_more c.args.state.now c.args.names.now c.loop-position.self.labels c.loop-position.self.owners c.args.name items index c.loop-position.invariant c.requires.within
+    ((known (get_or items index 0)).0 (Contains-get_or items index 0 l)) (omega (arith, live index 0 l, c.loop-position.invariant.classes.room)) _ _ c.meet.ensures
 
 pub returns-clause-met : goal.returns-clause-met
 returns-clause-met c =
     let items = c.as_slice-items.result.now in
-    noted_all c.args.state.now c.args.names.now c.loop-place.self.labels c.loop-place.self.owners c.args.name items c.loop-place.place-index c.loop-place.invariant (omega arith)
+    noted_all c.args.state.now c.args.names.now c.loop-position.self.labels c.loop-position.self.owners c.args.name items c.loop-position.position-index c.loop-position.invariant (omega arith)
     (told c.args.state.now c.args.names.now c.args.name c.in_ok-found.found items c.from_ref.result.now c.index-names-name.result c.from_ref.ensures.value
     (get_or_read c.args.names.now c.args.name _ c.requires.within c.index-names-name.is []) c.as_slice-items.ensures c.in_ok-found.ensures.members)

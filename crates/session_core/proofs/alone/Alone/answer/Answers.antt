@@ -2,6 +2,8 @@ use Rattle.std.proofs.Common.{◌≡◌, true, false, ◌++◌, ◌∷◌, [], s
 use Rattle.session_core.specs.Legal.{asked}
 use Rattle.session_core.specs.Stepping.{GoesOn}
 use Rattle.session_core.proofs.Stepping.{ends_legal, ends_goes_on, ends_phase, ends_asked, dead_stays, dead_served}
+use Rattle.session_core.specs.Feeding.{HasFed}
+use Rattle.session_core.proofs.Feeding.{fed_still}
 use Rattle.session_core.proofs.alone.Alone.answer.Goals as goal
 
 pub invariant_of-result-then-dead : goal.invariant_of-result-then-dead
@@ -28,3 +30,13 @@ pub returns-then-dead-clause-goes_on : goal.returns-then-dead-clause-goes_on
 returns-then-dead-clause-goes_on g c =
     subst (λ z. GoesOn z.entries c.answer_dead.new.journal.entries) c.self.view_is
     (ends_goes_on g.E.Engine.meaning c.self.inside.hosts c.self.inside.journal.entries c.answer_dead.new.journal.entries c.args.request (c.answer_dead.ensures.noted c.self.inside.hosts))
+
+pub returns-then-dead-clause-fed : goal.returns-then-dead-clause-fed
+returns-then-dead-clause-fed g c = λ answers h.
+    let old = c.self.inside.journal.entries in
+    let new = c.answer_dead.new.journal.entries in
+    let ends = c.answer_dead.ensures.noted c.self.inside.hosts in
+    let was = sym c.self.invariant.dead ∙ c.if-dead.true in
+    fed_still answers old new _ (dead_served g.E.Engine.meaning c.self.inside.hosts old new c.args.request ends was)
+    (dead_stays g.E.Engine.meaning c.self.inside.hosts old new c.args.request ends was ∙ sym was)
+    (subst (λ z. HasFed answers z.entries (g.F.Feed.seen c.args.feed.now)) (sym c.self.view_is) h)

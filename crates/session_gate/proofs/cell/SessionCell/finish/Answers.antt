@@ -1,4 +1,4 @@
-use Rattle.session_gate.proofs.Standing.{whole_here}
+use Rattle.session_gate.proofs.Keeping.{whole_here}
 use Rattle.session_gate.proofs.cell.SessionCell.finish.Goals as goal
 
 pub returns-in-Ok-clause-whole : goal.returns-in-Ok-clause-whole

@@ -1,7 +1,7 @@
 use Rattle.std.proofs.Common.{sym, ap, ◌∙◌, subst}
 use Rattle.session_queues.specs.Ends.{gathered}
 use Rattle.session_gate.specs.Facts.{Holds, IsWhole}
-use Rattle.session_gate.proofs.Standing.{whole}
+use Rattle.session_gate.proofs.Keeping.{whole}
 use Rattle.session_gate.proofs.cell.SessionCell.gather.Goals as goal
 
 pub returns-clause-whole : goal.returns-clause-whole

@@ -1,4 +1,4 @@
-use Rattle.session_gate.proofs.Standing.{free_once_taken}
+use Rattle.session_gate.proofs.Keeping.{free_once_taken}
 use Rattle.session_gate.proofs.cell.SessionCell.take.Goals as goal
 
 pub give-requires-clause-free : goal.give-requires-clause-free

@@ -1,7 +1,7 @@
 use Rattle.std.proofs.Common.{◌≡◌, true, Some, slice_get, subst}
 use Rattle.session_gate.specs.declared.slot.Custody.{Custody}
-use Rattle.session_gate.specs.Places.{is_of, HasQueues}
-use Rattle.session_gate.proofs.Standing.{queues_here}
+use Rattle.session_gate.specs.Custodies.{is_of, HasQueues}
+use Rattle.session_gate.proofs.Keeping.{queues_here}
 use Rattle.session_gate.proofs.slot.Slot.has_queues.Goals as goal
 
 pub returns : goal.returns

@@ -23,11 +23,11 @@ module _ {E F : Type 0} where
   abbrev pub IsSealedUp : ℕ → List SharedQueues → Away E F → Type 0
   IsSealedUp hosts queues p = IsIn hosts queues p.held × ((progress_of p.held.entries).phase ≡ sealed p.again p.to) × OwesNone p.held × IsBare p.held
 
-  abbrev pub Stands : ℕ → List SharedQueues → Custody E F → Type 0
-  Stands hosts queues Unopened = ⊤
-  Stands hosts queues (In h) = IsAtRest hosts queues h
-  Stands hosts queues Out = ⊤
-  Stands hosts queues (Sealed p) = IsSealedUp hosts queues p
+  abbrev pub IsInOrder : ℕ → List SharedQueues → Custody E F → Type 0
+  IsInOrder hosts queues Unopened = ⊤
+  IsInOrder hosts queues (In h) = IsAtRest hosts queues h
+  IsInOrder hosts queues Out = ⊤
+  IsInOrder hosts queues (Sealed p) = IsSealedUp hosts queues p
 
   -- the session of this number is there, sealed or not
   abbrev pub is_of : Custody E F → ℕ → Bool
@@ -44,11 +44,11 @@ module _ {E F : Type 0} where
   HasQueues P (Sealed p) = P p.held.ends.queues
 
   -- an owner is there, and this holds of it
-  abbrev pub StandsIn : (Holds E F → Type 0) → Custody E F → Type 0
-  StandsIn P Unopened = ⊥
-  StandsIn P (In h) = P h
-  StandsIn P Out = ⊥
-  StandsIn P (Sealed p) = ⊥
+  abbrev pub HasOwner : (Holds E F → Type 0) → Custody E F → Type 0
+  HasOwner P Unopened = ⊥
+  HasOwner P (In h) = P h
+  HasOwner P Out = ⊥
+  HasOwner P (Sealed p) = ⊥
 
   -- if an owner is there, the pass is of its session
   abbrev pub IsPassHere : Custody E F → Producer → Type 0

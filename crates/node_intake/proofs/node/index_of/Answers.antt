@@ -1,5 +1,5 @@
 use Rattle.node_intake.proofs.Admitting.{found_at}
-use Rattle.node_intake.proofs.node.place_of.Goals as goal
+use Rattle.node_intake.proofs.node.index_of.Goals as goal
 
 pub returns-then-session-kernel : goal.returns-then-session-kernel
 returns-then-session-kernel c =

@@ -1,6 +1,6 @@
 use Rattle.std.proofs.Common.{sym, ◌∙◌}
 use Rattle.py_ops.proofs.Substrings.{begins_pointwise}
-use Rattle.py_ops.proofs.parts.begins.Goals as goal
+use Rattle.py_ops.proofs.affixes.begins.Goals as goal
 
 pub returns : goal.returns
 returns c =

@@ -9,9 +9,9 @@ use py_value::Value;
 use std::alloc::AllocError;
 
 /// The position of an index among `count` items, if it is there: below 0 it counts from the end.
-pub fn place_in(count: usize, index: Signed) -> Option<usize>
-    ensures value { result ≡ spec.place_in count (number_of index) }
-    ensures within { IfSome result (λ place. place < count) }
+pub fn position_in(count: usize, index: Signed) -> Option<usize>
+    ensures value { result ≡ spec.position_in count (number_of index) }
+    ensures within { IfSome result (λ position. position < count) }
 {
     match index {
         Signed::Natural(n) => {
@@ -50,20 +50,20 @@ pub fn clipped(count: usize, index: Signed) -> usize
 
 /// The item at an index, if it is there.
 pub fn item_at(items: &Items<Value>, index: Signed) -> Option<&Value>
-    ensures { option_copied result ≡ spec.item_at items.now (spec.place_in (length items.now) (number_of index)) }
+    ensures { option_copied result ≡ spec.item_at items.now (spec.position_in (length items.now) (number_of index)) }
 {
-    match place_in(items.len(), index) {
-        Some(place) => items.get(place),
+    match position_in(items.len(), index) {
+        Some(position) => items.get(position),
         None => None,
     }
 }
 
 /// A position as changes name it. One past 32 bits is want of memory: the meter lets no list get that long.
-pub fn short_place(place: usize) -> Result<u32, AllocError>
-    ensures { IfOk result (λ short. short ≡ place) }
+pub fn short_position(position: usize) -> Result<u32, AllocError>
+    ensures { IfOk result (λ short. short ≡ position) }
 {
-    if place > u32::MAX as usize {
+    if position > u32::MAX as usize {
         return Err(AllocError);
     }
-    Ok(place as u32)
+    Ok(position as u32)
 }

@@ -7,7 +7,7 @@ use Rattle.session_queues.specs.declared.shared.SharedQueues.{SharedQueues}
 use Rattle.session_queues.specs.Passes.{Producer, KeepsAll, HoldsAll}
 use Rattle.session_queues.specs.Ends.{gathered}
 use Rattle.session_gate.specs.Facts.{Holds, IsWhole, IsBare, owner_of}
-use Rattle.session_gate.specs.Places.{IsAtRest, Stands, StandsIn, HasQueues, IsFinished, IsFree, is_of, took, Finishes}
+use Rattle.session_gate.specs.Custodies.{IsAtRest, IsInOrder, HasOwner, HasQueues, IsFinished, IsFree, is_of, took, Finishes}
 use Rattle.session_gate.specs.declared.slot.Take.{Take}
 use Rattle.session_gate.specs.declared.slot.Take.TheVariants as take
 use Rattle.session_gate.specs.declared.slot.Custody.{Custody}
@@ -43,7 +43,7 @@ finished hosts all queues number pass h listed same rest = let bare = rest.3 in 
 )
 
 module _ {E F : Type 0} where
-  pub whole_here : (hosts : ℕ) (all : List SharedQueues) (pass : Producer) (s : Custody E F) (r : Holds E F) → StandsIn (IsAtRest hosts all) s → Finishes s pass (Ok r) → HoldsAll pass → IsWhole r
+  pub whole_here : (hosts : ℕ) (all : List SharedQueues) (pass : Producer) (s : Custody E F) (r : Holds E F) → HasOwner (IsAtRest hosts all) s → Finishes s pass (Ok r) → HoldsAll pass → IsWhole r
   whole_here hosts all pass Unopened r rest is holds = absurd rest
   whole_here hosts all pass (In h) r rest is holds =
       let now : r ≡ record h { ends = gathered h.ends pass } = cc in
@@ -51,7 +51,7 @@ module _ {E F : Type 0} where
   whole_here hosts all pass Out r rest is holds = absurd rest
   whole_here hosts all pass (Sealed p) r rest is holds = absurd rest
 
-  pub queues_here : (hosts : ℕ) (all : List SharedQueues) (number : ℕ) (s : Custody E F) → Stands hosts all s → is_of s number ≡ true → HasQueues (λ q. slice_get all number ≡ Some q) s
+  pub queues_here : (hosts : ℕ) (all : List SharedQueues) (number : ℕ) (s : Custody E F) → IsInOrder hosts all s → is_of s number ≡ true → HasQueues (λ q. slice_get all number ≡ Some q) s
   queues_here hosts all number Unopened rest same = tt
   queues_here hosts all number (In h) rest same = ap (slice_get all) (sym (eqb-true h.number number same)) ∙ rest.0.0
   queues_here hosts all number Out rest same = tt

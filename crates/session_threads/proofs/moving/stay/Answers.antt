@@ -4,7 +4,7 @@ use Rattle.session_core.specs.Engines.{Packs}
 use Rattle.session_core.specs.Stepping.{IsFree}
 use Rattle.session_core.proofs.Going.{against, no_memory}
 use Rattle.session_threads.proofs.Starting.{move_more}
-use Rattle.session_threads.proofs.moving.stay_behind.Goals as goal
+use Rattle.session_threads.proofs.moving.stay.Goals as goal
 
 pub refuse-requires-clause-reason : goal.refuse-requires-clause-reason
 refuse-requires-clause-reason g c = let m = g.E.Engine.meaning in let a = c.args in let p = progress_of a.lease.entries in

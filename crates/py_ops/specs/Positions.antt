@@ -9,8 +9,8 @@ use Rattle.py_heap.specs.Objects.{items_at, pairs_at}
 
 -- the item at an index of the list at an address, and None past its end
 abbrev pub item_of : List Object → ℕ → ℕ → Value
-item_of heap at place = slice_index_or (items_at heap at) place value.Nothing
+item_of heap at position = slice_index_or (items_at heap at) position value.Nothing
 
 -- the pair at an index of the dict at an address, and a pair of None past its end
 abbrev pub pair_of : List Object → ℕ → ℕ → Key × Value
-pair_of heap at place = slice_index_or (pairs_at heap at) place (key.Nothing, value.Nothing)
+pair_of heap at position = slice_index_or (pairs_at heap at) position (key.Nothing, value.Nothing)

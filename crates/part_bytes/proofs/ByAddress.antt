@@ -4,8 +4,8 @@ use Rattle.std.specs.Prelude.{slice_get}
 use Rattle.part_bytes.specs.Parts.{number_in}
 
 -- the number at each address, as far as the objects from one index on tell it
-abbrev pub ArePlaced : List ℕ → List ℕ → ℕ → ℕ → Type 0
-ArePlaced places order total next = (at : ℕ) → get_or places at total ≡ number_in (drop next order) at + next
+abbrev pub AreNumbered : List ℕ → List ℕ → ℕ → ℕ → Type 0
+AreNumbered by_address order total next = (at : ℕ) → get_or by_address at total ≡ number_in (drop next order) at + next
 
 -- if an index has no item, a read answers the default
 pub none_there : {X : Type 0} (xs : List X) (i : ℕ) (d : X) → slice_get xs i ≡ None → get_or xs i d ≡ d

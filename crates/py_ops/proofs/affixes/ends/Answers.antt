@@ -1,5 +1,5 @@
 use Rattle.py_ops.proofs.Substrings.{ends_same}
-use Rattle.py_ops.proofs.parts.ends.Goals as goal
+use Rattle.py_ops.proofs.affixes.ends.Goals as goal
 
 pub returns : goal.returns
 returns c =

@@ -2,7 +2,7 @@ use Rattle.std.proofs.Common.{◌++◌, ◌∷◌, [], refl, sym, ap, ◌∙◌}
 use Rattle.session_core.specs.declared.entry.Entry.TheVariants.{Refused, Resumed}
 use Rattle.session_core.specs.Legal.{progress_of}
 use Rattle.session_core.proofs.Going.{refused, resumed, against, no_memory, owner_stays}
-use Rattle.session_core.proofs.steps.stay_behind.Goals as goal
+use Rattle.session_core.proofs.steps.stay.Goals as goal
 
 pub returns-in-Some-clause-ended : goal.returns-in-Some-clause-ended
 returns-in-Some-clause-ended g c =
