@@ -1,6 +1,7 @@
 //! Cells of one session that doesn't move, and faults of the outside.
 
 use crate::test_streams::{answered, cells_of, count_of, wrong};
+use nb_outside::Drawn;
 use std::alloc::{AllocError, Global};
 use std::test::Fail;
 
@@ -239,11 +240,12 @@ static ROWS: [Row; 12] = [
             "t = \\\"y\\\" * 4000000",
             "t = 0",
             "u = \\\"z\\\" * 388608",
+            "[]",
             "v = \\\"a\\\" + \\\"b\\\"",
         ],
         frames: &[
-            ("[\"MemoryError: meter spent\"]", 2),
-            ("\"status\":\"error\"", 1),
+            ("[\"MemoryError: meter spent\"]", 4),
+            ("\"status\":\"error\"", 2),
         ],
     },
     Row {
@@ -252,11 +254,14 @@ static ROWS: [Row; 12] = [
     },
 ];
 
+/// What the feed of a session gives.
+const DRAWS: [Drawn; 2] = [Drawn::Failed, Drawn::Word(7)];
+
 #[test]
 fn worked_rows(rt: HostRuntime) -> Result<(), Fail> {
     for row in &ROWS {
         let input = cells_of(rt.alloc(), row.codes)?;
-        let found = wrong(&rt, &["run"], input.as_slice(), row.frames)?;
+        let found = wrong(&rt, &["run"], input.as_slice(), &DRAWS, row.frames)?;
         assert_eq!(rt; found.as_str(), "");
     }
     Ok(())
@@ -294,7 +299,7 @@ fn levels_and_steps_end(rt: HostRuntime) -> Result<(), Fail> {
         ("\"text\":\"5\\n\"", 1),
     ];
     let input = cells_of(alloc, &codes)?;
-    let found = wrong(&rt, &["run"], input.as_slice(), &frames)?;
+    let found = wrong(&rt, &["run"], input.as_slice(), &[], &frames)?;
     assert_eq!(rt; found.as_str(), "");
     Ok(())
 }

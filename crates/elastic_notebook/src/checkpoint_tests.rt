@@ -1,6 +1,7 @@
 //! Checkpoints: planned, restored and saved.
 
-use crate::test_streams::{Asked, answered, frames_of};
+use crate::test_streams::{Asked, answered, answered_drawing, frames_of};
+use nb_outside::Drawn;
 use std::alloc::{AllocError, Global};
 use std::test::Fail;
 
@@ -52,6 +53,9 @@ fn a_checkpoint_is_restored(rt: HostRuntime) -> Result<(), Fail> {
         let told = answered(&rt, &["restore"], &TWO[..size], &[], &[])?;
         assert_eq!(rt; told.0, status);
         assert_eq!(rt; told.1.as_slice(), text.as_bytes());
+    }
+    for size in 0..96 {
+        assert_eq!(rt; answered(&rt, &["restore"], &TWO[..size], &[], &[])?.0, 7);
     }
     let mut longer = TWO.to_vec(rt.alloc())?;
     longer.push(0)?;
@@ -134,12 +138,13 @@ fn a_session_is_saved(rt: HostRuntime) -> Result<(), Fail> {
     assert_eq!(rt; none.1.len(), 0);
     let stuck = [
         Asked::Open(0),
-        Asked::Cell("draw()"),
         Asked::Cell("n = draw()"),
         Asked::Cell("h = handle(\\\"g\\\" + str(n))"),
         Asked::Cell("n = 0"),
+        Asked::Cell("tell(h)"),
     ];
-    let told = answered(&rt, &words, frames_of(alloc, &stuck)?.as_slice(), &[], &[])?;
+    let stuck = frames_of(alloc, &stuck)?;
+    let told = answered_drawing(&rt, &words, stuck.as_slice(), &[Drawn::Word(7)])?;
     assert_eq!(rt; told.0, 6);
     assert_eq!(rt; told.1.len(), 0);
     Ok(())

@@ -1,12 +1,14 @@
 //! Sessions that move, and errors of the node.
 
 use crate::test_streams::{Asked, frames_of, wrong};
+use nb_outside::Drawn;
 use std::test::Fail;
 
-/// Some asks of sessions, and what is written for them, and how often.
+/// Some asks of sessions, what their feeds give, and what is written for them, and how often.
 struct Moves {
     shows: &'static str,
     hosts: &'static str,
+    draws: &'static [Drawn],
     asked: &'static [Asked],
     texts: &'static [(&'static str, usize)],
 }
@@ -17,6 +19,7 @@ static MOVES: [Moves; 13] = [
     Moves {
         shows: "two names share a list after a move",
         hosts: "3",
+        draws: &[],
         asked: &[
             Asked::Open(0),
             Asked::Cell("a = [1]"),
@@ -40,6 +43,7 @@ static MOVES: [Moves; 13] = [
     Moves {
         shows: "a list that holds itself",
         hosts: "3",
+        draws: &[],
         asked: &[
             Asked::Open(0),
             Asked::Cell("a = []"),
@@ -55,6 +59,7 @@ static MOVES: [Moves; 13] = [
     Moves {
         shows: "a cell that missed a name runs again before the name is bound",
         hosts: "3",
+        draws: &[],
         asked: &[
             Asked::Open(0),
             Asked::Cell("x = 1"),
@@ -84,6 +89,7 @@ static MOVES: [Moves; 13] = [
     Moves {
         shows: "a part that splits is two parts",
         hosts: "3",
+        draws: &[],
         asked: &[
             Asked::Open(0),
             Asked::Cell("x = [1]"),
@@ -102,9 +108,9 @@ static MOVES: [Moves; 13] = [
     Moves {
         shows: "a handle is opened again on the new host",
         hosts: "3",
+        draws: &[Drawn::Word(7)],
         asked: &[
             Asked::Open(0),
-            Asked::Cell("draw()"),
             Asked::Cell("n = draw()"),
             Asked::Cell("h = handle(\\\"g\\\" + str(n))"),
             Asked::Move(1, BY_STEPS),
@@ -123,9 +129,9 @@ static MOVES: [Moves; 13] = [
     Moves {
         shows: "a handle that needs a draw is stuck",
         hosts: "3",
+        draws: &[Drawn::Word(7)],
         asked: &[
             Asked::Open(0),
-            Asked::Cell("draw()"),
             Asked::Cell("n = draw()"),
             Asked::Cell("h = handle(\\\"g\\\" + str(n))"),
             Asked::Cell("n = 0"),
@@ -134,7 +140,7 @@ static MOVES: [Moves; 13] = [
         ],
         texts: &[
             (
-                "{\"cell\":2,\"ename\":\"Stuck\",\"evalue\":\"neither copied nor recomputed\",\"names\":[\"h\"],\"size\":1,\"status\":\"error\",\"version\":2}",
+                "{\"cell\":1,\"ename\":\"Stuck\",\"evalue\":\"neither copied nor recomputed\",\"names\":[\"h\"],\"size\":1,\"status\":\"error\",\"version\":2}",
                 1,
             ),
             ("\"text/plain\":\"1\"", 1),
@@ -143,6 +149,7 @@ static MOVES: [Moves; 13] = [
     Moves {
         shows: "a key keeps its spelling through two moves, and a cell that is too long goes along",
         hosts: "3",
+        draws: &[],
         asked: &[
             Asked::Open(0),
             Asked::Cell("d = {True: 1}"),
@@ -163,6 +170,7 @@ static MOVES: [Moves; 13] = [
     Moves {
         shows: "the meter goes along",
         hosts: "3",
+        draws: &[],
         asked: &[
             Asked::Open(0),
             Asked::Cell("t = 'x' * 4000000"),
@@ -171,17 +179,19 @@ static MOVES: [Moves; 13] = [
             Asked::Move(1, BY_STEPS),
             Asked::Move(0, BY_STEPS),
             Asked::Cell("u = 'z' * 388608"),
+            Asked::Cell("[]"),
             Asked::Cell("v = 'a' + 'b'"),
         ],
         texts: &[
-            ("[\"MemoryError: meter spent\"]", 2),
-            ("\"status\":\"error\"", 1),
+            ("[\"MemoryError: meter spent\"]", 4),
+            ("\"status\":\"error\"", 2),
             ("\"from\":1,\"objects\":0", 1),
         ],
     },
     Moves {
         shows: "a draw that failed isn't drawn again",
         hosts: "3",
+        draws: &[Drawn::Failed],
         asked: &[
             Asked::Open(0),
             Asked::Cell("a = 1\\nb = draw()\\nc = 2"),
@@ -202,6 +212,7 @@ static MOVES: [Moves; 13] = [
     Moves {
         shows: "moves that are refused",
         hosts: "64",
+        draws: &[],
         asked: &[
             Asked::Open(0),
             Asked::Cell("x = 1"),
@@ -229,6 +240,7 @@ static MOVES: [Moves; 13] = [
     Moves {
         shows: "a silent cell raises no count",
         hosts: "3",
+        draws: &[],
         asked: &[
             Asked::Open(0),
             Asked::SilentCell("print(1)"),
@@ -236,6 +248,7 @@ static MOVES: [Moves; 13] = [
         ],
         texts: &[
             ("\"msg_type\":\"stream\"", 0),
+            ("\"msg_type\":\"execute_input\"", 1),
             (
                 "{\"execution_count\":0,\"status\":\"ok\",\"user_expressions\":{}}",
                 1,
@@ -246,6 +259,7 @@ static MOVES: [Moves; 13] = [
     Moves {
         shows: "a kernel begins anew, and then it is dead",
         hosts: "3",
+        draws: &[],
         asked: &[
             Asked::Open(0),
             Asked::Cell("x = 1"),
@@ -267,6 +281,7 @@ static MOVES: [Moves; 13] = [
     Moves {
         shows: "errors of the node, and a move on the control channel, which comes first",
         hosts: "3",
+        draws: &[],
         asked: &[
             Asked::Elsewhere,
             Asked::Open(3),
@@ -292,7 +307,7 @@ fn sessions_move(rt: HostRuntime) -> Result<(), Fail> {
     for row in &MOVES {
         let input = frames_of(rt.alloc(), row.asked)?;
         let words = ["run", "--hosts", row.hosts, "--workers=2"];
-        let found = wrong(&rt, &words, input.as_slice(), row.texts)?;
+        let found = wrong(&rt, &words, input.as_slice(), row.draws, row.texts)?;
         assert_eq!(rt; found.as_str(), "", "{}", row.shows);
     }
     Ok(())

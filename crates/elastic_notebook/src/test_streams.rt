@@ -119,16 +119,13 @@ pub fn cells_of(alloc: Global, codes: &[&str]) -> Result<Vec<u8>, AllocError> {
     Ok(out)
 }
 
-/// Feeds whose first draw fails, and whose second gives 7.
-fn feeds(alloc: Global) -> Result<MemFeeds, AllocError> {
-    Ok(MemFeeds::new(vec![in alloc; Drawn::Failed, Drawn::Word(7)]?))
-}
-
-/// What a command answers and writes for these bytes, if the calls with these numbers fail.
-pub fn answered(
+/// What a command answers and writes for these bytes, if a session's feed gives these draws and then fails, and the calls of the
+/// source and of the sink with these numbers fail.
+fn answered_by(
     rt: &HostRuntime,
     words: &[&str],
     input: &[u8],
+    draws: &[Drawn],
     source_fails: &[u64],
     sink_fails: &[u64],
 ) -> Result<(u8, Vec<u8>), AllocError> {
@@ -139,15 +136,31 @@ pub fn answered(
     }
     let mut source = MemSource::new(input.to_vec(alloc)?, source_fails.to_vec(alloc)?);
     let mut sink = MemSink::new(alloc, 65_536, sink_fails.to_vec(alloc)?);
-    let status = top(
-        rt,
-        all.as_slice(),
-        &mut source,
-        &mut sink,
-        &mut feeds(alloc)?,
-    );
+    let mut feeds = MemFeeds::new(draws.to_vec(alloc)?);
+    let status = top(rt, all.as_slice(), &mut source, &mut sink, &mut feeds);
     let written = sink.written().to_vec(alloc)?;
     Ok((status, written))
+}
+
+/// The same of a command that draws nothing.
+pub fn answered(
+    rt: &HostRuntime,
+    words: &[&str],
+    input: &[u8],
+    source_fails: &[u64],
+    sink_fails: &[u64],
+) -> Result<(u8, Vec<u8>), AllocError> {
+    answered_by(rt, words, input, &[], source_fails, sink_fails)
+}
+
+/// The same of a command whose calls don't fail.
+pub fn answered_drawing(
+    rt: &HostRuntime,
+    words: &[&str],
+    input: &[u8],
+    draws: &[Drawn],
+) -> Result<(u8, Vec<u8>), AllocError> {
+    answered_by(rt, words, input, draws, &[], &[])
 }
 
 /// How often the text comes in the bytes.
@@ -161,16 +174,17 @@ pub fn count_of(bytes: &[u8], text: &str) -> usize {
         .count()
 }
 
-/// What is wrong with what a command answers and writes: the status, if it isn't 0, and each text that doesn't come in it this
-/// number of times.
+/// What is wrong with what a command answers and writes, if a session's feed gives these draws: the status, if it isn't 0, and each
+/// text that doesn't come in it this number of times.
 pub fn wrong(
     rt: &HostRuntime,
     words: &[&str],
     input: &[u8],
+    draws: &[Drawn],
     texts: &[(&str, usize)],
 ) -> Result<String, AllocError> {
     let alloc = rt.alloc();
-    let (status, written) = answered(rt, words, input, &[], &[])?;
+    let (status, written) = answered_drawing(rt, words, input, draws)?;
     let mut all = String::new(alloc);
     if status != 0 {
         all.push_str(format!(in alloc; "status {status}\n")?.as_str())?;

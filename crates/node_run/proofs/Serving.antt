@@ -75,6 +75,7 @@ is_journal meaning hosts h answers seen s opened mid es control main is_legal sa
       begins = (more.0, more.1 ∙ ap (λ z. z ++ more.0) is);
       main = ap (filter is_main) all ∙ main_of_both s.requests;
       control = ap (filter is_control) all ∙ control_of_both s.requests;
+      order = all;
       fed = first_answers answers es seen fed;
     }
 

@@ -70,7 +70,11 @@ full_passes n served code silent store draws counted tally.Count is stands full 
     let e = stands.1.session.same.count in
     let l = full.1 in
     rw is_counted (omega (arith, e, l))
-full_passes n served code silent store draws counted tally.Cells is stands full = let e = stands.1.session.history.cells in omega (arith, e, full)
+full_passes n served code silent store draws counted tally.Cells is stands full =
+    let same = stands.1.session.same.count in
+    let cells = stands.1.session.history.cells in
+    let many = full.1 in
+    (λ is_counted. let few = full.0 (is ∙ is_counted) in rw is_counted (omega (arith, same, few)), omega (arith, cells, many))
 full_passes n served code silent store draws counted tally.Versions is stands full = full
 full_passes n served code silent store draws counted tally.Names is stands full = full
 full_passes n served code silent store draws counted tally.Texts is stands full = full

@@ -39,10 +39,10 @@ IsUsable n = (cells : List Entry) × HoldsCells n cells
 abbrev pub IsImage : Notebook → List ℕ → ℕ → Type 0
 IsImage n bytes host = IsRestoredOn bytes host (record { kernel = n.kernel; history = n.history; objects = length n.kernel.state.heap })
 
--- one of its numbers has no room for a cell more
+-- this is the first of its numbers that has no room for a cell more
 abbrev pub IsFull : Notebook → Bool → Tally → Type 0
 IsFull n counted tally.Count = (counted ≡ true) × (4294967295 ≤ n.kernel.state.count)
-IsFull n counted tally.Cells = 4294967295 ≤ length n.history.graph.cells
+IsFull n counted tally.Cells = (counted ≡ true → n.kernel.state.count < 4294967295) × (4294967295 ≤ length n.history.graph.cells)
 IsFull n counted tally.Versions = ⊥
 IsFull n counted tally.Names = ⊥
 IsFull n counted tally.Texts = ⊥

@@ -28,7 +28,7 @@ is_graph cells g a = checks (run_of read size_of cells) (is_run read cells size_
 
 none_passes : (cells : List Entry) (e : Entry) (which : Tally) → MayRun cells e → PassesWith cells e which → ⊥
 none_passes cells e tally.Count may p = let l = may.count in omega (arith, l, p)
-none_passes cells e tally.Cells may p = let l = may.few in omega (arith, l, p)
+none_passes cells e tally.Cells may p = let l = may.few in let many = p.1 in omega (arith, l, many)
 none_passes cells e tally.Versions may p = p
 none_passes cells e tally.Names may p = p
 none_passes cells e tally.Texts may p = p

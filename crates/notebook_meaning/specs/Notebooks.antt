@@ -1,5 +1,5 @@
 -- What a notebook is: the lists of asks that it may serve, what it answers, and what such a list leaves.
-use Rattle.std.specs.Prelude.{◌≡◌, ℕ, ◌+◌, ◌<◌, ◌≤◌, ◌^◌, List, length}
+use Rattle.std.specs.Prelude.{◌≡◌, ℕ, ◌+◌, ◌<◌, ◌≤◌, ◌^◌, true, List, length}
 use Rattle.nb_outside.specs.declared.feed.Drawn.{Drawn}
 use Rattle.graph_model.specs.declared.graph.Graph.{Graph}
 use Rattle.graph_model.specs.declared.plan.Plan.{Plan}
@@ -36,10 +36,10 @@ pub record IsTextOf (cells : List Entry) (plan : Plan) (bytes : List ℕ) : Type
   pub has_text : HasText (unmoved cells) graph plan
   pub text : bytes ≡ checkpoint_text (unmoved cells) graph plan
 
--- The count, or else the number of cells, would reach 2^32 with this cell, which then doesn't run.
+-- The count is the first number that would reach 2^32 with this cell, or the number of cells is. The cell then doesn't run.
 abbrev pub PassesWith : List Entry → Entry → Tally → Type 0
 PassesWith cells e tally.Count = 2 ^ 32 ≤ (raised e (unmoved cells)).count
-PassesWith cells e tally.Cells = 2 ^ 32 ≤ length cells + 1
+PassesWith cells e tally.Cells = (e.counted ≡ true → (raised e (unmoved cells)).count < 2 ^ 32) × (2 ^ 32 ≤ length cells + 1)
 PassesWith cells e tally.Versions = ⊥
 PassesWith cells e tally.Names = ⊥
 PassesWith cells e tally.Texts = ⊥

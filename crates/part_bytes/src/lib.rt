@@ -8,6 +8,7 @@ mod laws;
 mod numbers;
 mod objects;
 mod part;
+pub mod tag;
 #[cfg(test)]
 mod tests;
 mod values;

@@ -6,6 +6,7 @@ ghost use Rattle.part_bytes.specs.Texts as spec;
 ghost use Rattle.part_bytes.specs.Plain.{IsPlain, IsPlainPair, IsPlainObject, IsPlainAt};
 
 use crate::numbers::Numbers;
+use crate::tag;
 use crate::values::{write_count, write_key, write_text, write_value};
 use plain_data::Items;
 use py_heap::{Dict, Function, Object, State};
@@ -44,7 +45,7 @@ fn write_list(
     ensures bytes { OnOk result (out.new ≡ out.old ++ spec.object_bytes (numbered_object (number_in numbers.now.order) (Object.List items.now))) }
     ensures plain { OnOk result (IsPlainObject (Object.List items.now)) }
 {
-    out.push(16)?;
+    out.push(tag::LIST)?;
     write_count(out, items.len())?;
     write_items(out, numbers, items.as_slice())
 }
@@ -53,7 +54,7 @@ fn write_dict(out: &mut Items<u8>, numbers: &Numbers, dict: &Dict) -> Result<(),
     ensures bytes { OnOk result (out.new ≡ out.old ++ spec.object_bytes (numbered_object (number_in numbers.now.order) (Object.Dict dict.now))) }
     ensures plain { OnOk result (IsPlainObject (Object.Dict dict.now)) }
 {
-    out.push(17)?;
+    out.push(tag::DICT)?;
     write_count(out, dict.len())?;
     write_pairs(out, numbers, dict)
 }
@@ -63,7 +64,7 @@ fn write_function(out: &mut Items<u8>, function: &Function) -> Result<(), AllocE
     ensures bytes { OnOk result (out.new ≡ out.old ++ spec.object_bytes (Object.Function function.now)) }
     ensures plain { OnOk result (IsPlainObject (Object.Function function.now)) }
 {
-    out.push(18)?;
+    out.push(tag::FUNCTION)?;
     let def = function.def();
     write_text(out, def.source.as_str())
 }

@@ -7,6 +7,7 @@ ghost use Rattle.part_bytes.specs.Texts as spec;
 ghost use Rattle.part_bytes.specs.Plain.{IsText, IsPlain};
 
 use crate::numbers::{Numbers, count_of};
+use crate::tag;
 use byteorder::{BigEndian, ByteOrder};
 use plain_data::{Items, SharedText};
 use py_value::{Builtin, Key, Value};
@@ -54,14 +55,14 @@ pub fn write_text(out: &mut Items<u8>, text: &str) -> Result<(), AllocError>
 fn write_truth(out: &mut Items<u8>, truth: bool) -> Result<(), AllocError>
     ensures { OnOk result (out.new ≡ out.old ++ spec.value_bytes (Value.Bool truth)) }
 {
-    out.push(if truth { 2 } else { 1 })
+    out.push(if truth { tag::TRUE } else { tag::FALSE })
 }
 
 fn write_number(out: &mut Items<u8>, number: i128) -> Result<(), AllocError>
     ensures bytes { OnOk result (out.new ≡ out.old ++ spec.value_bytes (Value.Number number)) }
     ensures plain { FitsSigned w128 number }
 {
-    out.push(3)?;
+    out.push(tag::NUMBER)?;
     write_sixteen(out, number)
 }
 
@@ -69,14 +70,14 @@ fn write_text_value(out: &mut Items<u8>, text: &SharedText) -> Result<(), AllocE
     ensures bytes { OnOk result (out.new ≡ out.old ++ spec.value_bytes (Value.Text text.now)) }
     ensures plain { OnOk result (IsText text.now) }
 {
-    out.push(4)?;
+    out.push(tag::TEXT)?;
     write_text(out, text.as_str())
 }
 
 fn write_reference(out: &mut Items<u8>, number: u32) -> Result<(), AllocError>
     ensures { OnOk result (out.new ≡ out.old ++ spec.value_bytes (Value.Ref number)) }
 {
-    out.push(5)?;
+    out.push(tag::REFERENCE)?;
     write_four(out, number)
 }
 
@@ -99,7 +100,7 @@ fn builtin_byte(builtin: Builtin) -> u8
 fn write_builtin(out: &mut Items<u8>, builtin: Builtin) -> Result<(), AllocError>
     ensures { OnOk result (out.new ≡ out.old ++ spec.value_bytes (Value.Builtin builtin)) }
 {
-    out.push(6)?;
+    out.push(tag::BUILTIN)?;
     out.push(builtin_byte(builtin))
 }
 
@@ -109,7 +110,7 @@ pub(crate) fn write_key(out: &mut Items<u8>, key: &Key) -> Result<(), AllocError
     ensures plain { OnOk result (IsPlain (value_of key.now)) }
 {
     match key {
-        Key::Nothing => out.push(0),
+        Key::Nothing => out.push(tag::NOTHING),
         Key::Bool(truth) => write_truth(out, *truth),
         Key::Number(number) => write_number(out, *number),
         Key::Text(text) => write_text_value(out, text),
@@ -126,7 +127,7 @@ pub(crate) fn write_value(
     ensures plain { OnOk result (IsPlain value.now) }
 {
     match value {
-        Value::Nothing => out.push(0),
+        Value::Nothing => out.push(tag::NOTHING),
         Value::Bool(truth) => write_truth(out, *truth),
         Value::Number(number) => write_number(out, *number),
         Value::Text(text) => write_text_value(out, text),

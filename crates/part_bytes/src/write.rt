@@ -8,6 +8,7 @@ ghost use Rattle.part_bytes.specs.Plain.{IsPlainIn, IsPlainPart};
 
 use crate::numbers::Numbers;
 use crate::objects::write_objects;
+use crate::tag;
 use crate::values::{write_count, write_value};
 use plain_data::{Items, Text};
 use py_heap::State;
@@ -15,9 +16,6 @@ use std::alloc::{AllocError, Global};
 
 /// The most bytes of a name: its length is one byte.
 const LONGEST_NAME: usize = 255;
-
-/// The byte of a name without a value.
-const NO_VALUE: u8 = 7;
 
 /// A name after its length. One of more than 255 bytes is want of memory.
 fn write_name(out: &mut Items<u8>, name: &Text) -> Result<(), AllocError>
@@ -54,7 +52,7 @@ fn write_held(
 {
     match state.look(name) {
         Some(value) => write_value(out, numbers, value),
-        None => out.push(NO_VALUE),
+        None => out.push(tag::ABSENT),
     }
 }
 

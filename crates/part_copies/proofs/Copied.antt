@@ -29,7 +29,7 @@ use Rattle.part_bytes.specs.Parts.{order, number_in, numbered, numbered_object, 
 use Rattle.part_bytes.proofs.Orders.{order_lists, order_first}
 use Rattle.part_bytes.proofs.Pieces.{as_many}
 use Rattle.part_loader.specs.Loading.{Globals, globals_of, state_of}
-use Rattle.replay_laws.specs.Tidied.{AtPlace}
+use Rattle.replay_laws.specs.Tidied.{AtPosition}
 use Rattle.replay_laws.proofs.Renumbering.{value_moved, object_moved, moved_at}
 use Rattle.replay_laws.proofs.Tidying.{from_position, to_zero, from_zero, held_live, object_live}
 
@@ -124,8 +124,8 @@ module _ (s : State) (names : List Name) (closed : IsClosed s) where
   not_twice : (a b c : ℕ) → b < c → slice_get Found b ≡ Some a → slice_get Found c ≡ Some a → ⊥
   not_twice a b c l e f = apart b c a l (slice_get_within Found c a f) (get_or_from_slice_get Found b a a e ∙ sym (get_or_from_slice_get Found c a a f))
 
-  one_place : (a b c : ℕ) → AtPlace Found a b → AtPlace Found a c → b ≡ c
-  one_place a b c e f = elim (cases_eq b c) [
+  one_position : (a b c : ℕ) → AtPosition Found a b → AtPosition Found a c → b ≡ c
+  one_position a b c e f = elim (cases_eq b c) [
     | inl same ↦ same
     | inr other ↦ elim (cases_lt b c) [ inl l ↦ absurd (not_twice a b c l e f) | inr l ↦ absurd (not_twice a c b (omega (arith, l, other)) f e) ]
   ]
@@ -142,7 +142,7 @@ module _ (s : State) (names : List Name) (closed : IsClosed s) where
   named_out : (x : Name) → ¬ Contains names x → finite.get Alone.globals x ≡ None
   named_out x out = put_out (held_of s (number_in Found)) names x out
 
-  names_match : (x : Name) → Contains names x → BothOrNone (ValuesMatch (AtPlace Found)) (finite.get s.globals x) (finite.get Alone.globals x)
+  names_match : (x : Name) → Contains names x → BothOrNone (ValuesMatch (AtPosition Found)) (finite.get s.globals x) (finite.get Alone.globals x)
   names_match x here = elim (has_value s x) [
     | inl v ↦
         let e : finite.get Alone.globals x ≡ Some (Mapped v.0) = named_in x here ∙ ap (option_map Mapped) v.1 in
@@ -152,7 +152,7 @@ module _ (s : State) (names : List Name) (closed : IsClosed s) where
         rw (none, e) tt
   ]
 
-  objects_match : (a k : ℕ) → AtPlace Found a k → Both (ObjectsMatch (AtPlace Found)) (slice_get s.heap a) (slice_get Alone.heap k)
+  objects_match : (a k : ℕ) → AtPosition Found a k → Both (ObjectsMatch (AtPosition Found)) (slice_get s.heap a) (slice_get Alone.heap k)
   objects_match a k e =
       let d : Object = object.List [] in
       let there : Contains Found a = (k, slice_get_within Found k a e, get_or_from_slice_get Found k a a e) in
@@ -161,39 +161,39 @@ module _ (s : State) (names : List Name) (closed : IsClosed s) where
       let h : slice_get Alone.heap k ≡ Some (numbered_object (number_in Found) (get_or s.heap a d)) = moved_at Found s Found live k a (get_or s.heap a d) e f in
       rw (f, h) (object_moved Found (get_or s.heap a d) (λ b c. (reached b).1 (reaching.held a b near (subst (λ o. Contains (held_refs object_refs o) b) (sym f) c))))
 
-  by_place : SameBy (AtPlace Found) (Contains names) s Alone
-  by_place = record {
-    pairs = record { left = one_place; right = λ a b c e f. same_Some a b (sym e ∙ f) };
+  by_position : SameBy (AtPosition Found) (Contains names) s Alone
+  by_position = record {
+    pairs = record { left = one_position; right = λ a b c e f. same_Some a b (sym e ∙ f) };
     names = names_match;
     objects = objects_match;
   }
 
   pub copy_same : Same (Contains names) s Alone
-  copy_same = record { by = from_position 0 Found; same = same_by_agreeing (AtPlace Found) (HasPair (from_position 0 Found)) (Contains names) s Alone (to_zero Found) (from_zero Found) by_place }
+  copy_same = record { by = from_position 0 Found; same = same_by_agreeing (AtPosition Found) (HasPair (from_position 0 Found)) (Contains names) s Alone (to_zero Found) (from_zero Found) by_position }
 
-  abbrev Places : ℕ → ℕ → Type 0
-  Places = Turned (AtPlace Found)
+  abbrev Positions : ℕ → ℕ → Type 0
+  Positions = Turned (AtPosition Found)
 
-  turned : SameBy Places (Contains names) Alone s
-  turned = same_by_turned (AtPlace Found) (Contains names) s Alone by_place
+  turned : SameBy Positions (Contains names) Alone s
+  turned = same_by_turned (AtPosition Found) (Contains names) s Alone by_position
 
   size : length Alone.heap ≡ length Found
   size = as_many s (number_in Found) Found (λ i d l. live (get_or Found i d) (Contains-get_or Found i d l))
 
-  below : (a b : ℕ) → Places a b → a < length Alone.heap
+  below : (a b : ℕ) → Positions a b → a < length Alone.heap
   below a b p = let l = slice_get_within Found a b p in let z = size in omega (arith, l, z)
 
   pub copy_closed : IsClosed Alone
   copy_closed = record {
     names = λ name held e. elim (has_name names name) [
-      | inl c ↦ held_live Places (length Alone.heap) below held (finite.get s.globals name)
-          (subst (λ o. BothOrNone (ValuesMatch Places) o (finite.get s.globals name)) e (turned.names name c))
+      | inl c ↦ held_live Positions (length Alone.heap) below held (finite.get s.globals name)
+          (subst (λ o. BothOrNone (ValuesMatch Positions) o (finite.get s.globals name)) e (turned.names name c))
       | inr out ↦ absurd (none-some held (sym (named_out name out) ∙ e))
     ];
     objects = λ k d l.
         let at : ℕ = get_or Found k 0 in
         let z = size in
-        let place : AtPlace Found at k = slice_get-get_or Found k 0 (omega (arith, l, z)) in
-        object_live Places (length Alone.heap) below (get_or Alone.heap k d) (slice_get s.heap at)
-        (subst (λ o. Both (ObjectsMatch Places) o (slice_get s.heap at)) (slice_get-get_or Alone.heap k d l) (turned.objects k at place));
+        let position : AtPosition Found at k = slice_get-get_or Found k 0 (omega (arith, l, z)) in
+        object_live Positions (length Alone.heap) below (get_or Alone.heap k d) (slice_get s.heap at)
+        (subst (λ o. Both (ObjectsMatch Positions) o (slice_get s.heap at)) (slice_get-get_or Alone.heap k d l) (turned.objects k at position));
   }

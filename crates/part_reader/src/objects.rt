@@ -8,6 +8,7 @@ use crate::bytes::{read_byte, read_four, read_text};
 use crate::fault::PartFault;
 use crate::spot::Spot;
 use crate::values::{read_key, read_value, read_values};
+use part_bytes::tag::{DICT, FUNCTION, LIST};
 use plain_data::Items;
 use py_heap::{Dict, Function, Object};
 use py_reader::{ReadError, read_def};
@@ -89,7 +90,7 @@ fn read_function(alloc: Global, bytes: &[u8], spot: &mut Spot) -> Result<Object,
 fn is_object_tag(tag: u8) -> bool
     ensures { result ≡ spec.is_object_tag tag }
 {
-    tag == 16 || (tag == 17 || tag == 18)
+    tag == LIST || (tag == DICT || tag == FUNCTION)
 }
 
 /// An object with this tag.
@@ -97,10 +98,10 @@ fn is_object_tag(tag: u8) -> bool
 fn read_content(alloc: Global, bytes: &[u8], spot: &mut Spot, tag: u8) -> Result<Object, PartFault>
     ensures { Is (spec.content bytes.now tag spot.old) result spot.new }
 {
-    if tag == 16 {
+    if tag == LIST {
         return read_list(alloc, bytes, spot);
     }
-    if tag == 17 {
+    if tag == DICT {
         return read_dict(alloc, bytes, spot);
     }
     read_function(alloc, bytes, spot)

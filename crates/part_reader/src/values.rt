@@ -5,6 +5,7 @@ ghost use Rattle.part_reader.specs.Reading as spec;
 use crate::bytes::{read_byte, read_four, read_sixteen, read_text};
 use crate::fault::PartFault;
 use crate::spot::Spot;
+use part_bytes::tag::{ABSENT, BUILTIN, FALSE, NOTHING, NUMBER, REFERENCE, TEXT, TRUE};
 use plain_data::{Items, SharedText};
 use py_value::{Builtin, Key, Value};
 use std::alloc::Global;
@@ -21,14 +22,14 @@ pub(crate) fn read_key(
     ensures { Is (spec.key_by bytes.now at tag spot.old) result spot.new }
 {
     match tag {
-        0 => Ok(Key::Nothing),
-        1 => Ok(Key::Bool(false)),
-        2 => Ok(Key::Bool(true)),
-        3 => {
+        NOTHING => Ok(Key::Nothing),
+        FALSE => Ok(Key::Bool(false)),
+        TRUE => Ok(Key::Bool(true)),
+        NUMBER => {
             let number = read_sixteen(bytes, spot)?;
             Ok(Key::Number(number))
         }
-        4 => {
+        TEXT => {
             let text = read_text(bytes, spot)?;
             Ok(Key::Text(SharedText::from_str(alloc, text)?))
         }
@@ -94,10 +95,10 @@ pub(crate) fn read_value_by(
 ) -> Result<Value, PartFault>
     ensures { Is (spec.value_by bytes.now at tag spot.old) result spot.new }
 {
-    if tag == 5 {
+    if tag == REFERENCE {
         return read_reference(bytes, spot, at);
     }
-    if tag == 6 {
+    if tag == BUILTIN {
         return read_builtin(bytes, spot);
     }
     let key = read_key(alloc, bytes, spot, at, tag)?;
@@ -125,7 +126,7 @@ pub(crate) fn read_held(
 {
     let at = spot.at;
     let tag = read_byte(bytes, spot)?;
-    if tag == 7 && alone {
+    if tag == ABSENT && alone {
         return Ok(None);
     }
     let value = read_value_by(alloc, bytes, spot, at, tag)?;

@@ -96,8 +96,8 @@ fn refusal(alloc: Global, count: u32, fault: SyntaxFault) -> Result<Answered, Al
 }
 
 /// Runs a cell with this code as the next of the session, which draws from the feed, and gives the reply to it and what it
-/// drew. Code that has no tree, or one that isn't of the supported form, doesn't run, and is answered by a SyntaxError. After
-/// an `Err`, which is want of memory, the kernel may only be dropped. (Jupyter messaging 5.3, `execute_request`.)
+/// drew. Code that has no tree doesn't run, and is answered by a SyntaxError. After an `Err`, which is want of memory, the kernel
+/// may only be dropped. (Jupyter messaging 5.3, `execute_request`.)
 #[tactic(auto, unfolding(py_session::specs::Session::answer, py_session::specs::Session::next_state, py_session::specs::Session::Takes), using(crate::proofs::Counted::cell_counts))]
 pub fn answer<F: Feed>(
     alloc: Global,
@@ -111,6 +111,7 @@ pub fn answer<F: Feed>(
     ensures reply { IfOk result (λ done. done.reply ≡ spec.answer code.now done.draws kernel.old.state) }
     ensures state { IfOk result (λ done. kernel.new.state ≡ spec.next_state code.now done.draws kernel.old.state) }
     ensures counted { OnOk result (kernel.new.state.count ≡ kernel.old.state.count + 1) }
+    ensures host { OnOk result (kernel.new.host ≡ kernel.old.host) }
 
     // These are what the feed gave in this call, and it gave no others.
     ensures fed { IfOk result (λ done. Fed (F.seen feed.old) done.draws (F.seen feed.new)) }

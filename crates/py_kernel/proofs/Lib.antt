@@ -1,3 +1,4 @@
 pub mod Deeper
 pub mod Turning
 pub mod Ending
+pub mod Extending

@@ -1,6 +1,7 @@
-ghost use Rattle.std.specs.Prelude.{◌≡◌, ◌+◌, length};
+ghost use Rattle.std.specs.Prelude.{◌≡◌, ◌+◌, List, Some, length, is_some, slice_get};
+ghost use Rattle.py_machine.specs.Changes.{list_in};
 ghost use Rattle.py_machine.specs.Runs.{Runs, Still, Grows, Feeding};
-ghost use Rattle.py_meaning.specs.Acts.{run};
+ghost use Rattle.py_meaning.specs.Acts.{run, chain, list_at as list_act};
 ghost use Rattle.py_tree.specs.declared.statements.Stmt.{out-Stmt};
 ghost use Rattle.py_meaning.specs.Meaning.{level};
 ghost use Rattle.py_meaning.specs.Meaning as spec;
@@ -47,20 +48,36 @@ pub(crate) fn store(
     }
 }
 
-/// Extends a list itself by the items of another as they are, or adds what isn't two lists.
-#[tactic(auto, unfolding(py_meaning::specs::Meaning::refs_added))]
+/// Whether a list is at the address.
+fn is_list(machine: &Machine, at: u32) -> bool
+    ensures { result ≡ is_some (list_in (slice_get machine.now.state.heap at)) }
+{
+    matches!(machine.object_at(at), Some(Object::List(_)))
+}
+
+/// Extends the list at `a` itself by the items of the list at `b` as they are. If that isn't a list, adds it.
+fn list_added(alloc: Global, machine: &mut Machine, a: u32, b: u32) -> Result<Value, Fault>
+    ensures runs { (items : List Value) → Still (run (chain (list_act b) (spec.extended a b (Some items)))) machine.old result machine.new }
+    ensures drawn { machine.new.drawn ≡ machine.old.drawn }
+{
+    match list_at(alloc, machine, b)? {
+        Some(more) => {
+            extend(alloc, machine, a, more)?;
+            Ok(Value::Ref(a))
+        }
+        None => binary(alloc, machine, Op::Plus, &Value::Ref(a), &Value::Ref(b)),
+    }
+}
+
+/// Extends a list itself by the items of another as they are, or adds what isn't two lists. The list isn't copied.
 fn refs_added(alloc: Global, machine: &mut Machine, a: u32, b: u32) -> Result<Value, Fault>
     ensures runs { Still (run (spec.refs_added a b)) machine.old result machine.new }
     ensures drawn { machine.new.drawn ≡ machine.old.drawn }
 {
-    let items = list_at(alloc, machine, a)?;
-    let more = list_at(alloc, machine, b)?;
-    match (items, more) {
-        (Some(_), Some(more)) => {
-            extend(alloc, machine, a, more)?;
-            Ok(Value::Ref(a))
-        }
-        _ => binary(alloc, machine, Op::Plus, &Value::Ref(a), &Value::Ref(b)),
+    if is_list(machine, a) {
+        list_added(alloc, machine, a, b)
+    } else {
+        binary(alloc, machine, Op::Plus, &Value::Ref(a), &Value::Ref(b))
     }
 }
 

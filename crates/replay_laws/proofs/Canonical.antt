@@ -20,7 +20,7 @@ use Rattle.py_laws.proofs.Sameness.{same_by_turned, same_turned}
 use Rattle.graph_model.specs.Faults.{TextBelow}
 use Rattle.linked_parts.proofs.Lists.{below_on, never_below_itself}
 use Rattle.run_graph.proofs.Only.{same_list}
-use Rattle.replay_laws.specs.Tidied.{AtPlace, IsTidied}
+use Rattle.replay_laws.specs.Tidied.{AtPosition, IsTidied}
 use Rattle.replay_laws.proofs.Ending.{value_on}
 use Rattle.replay_laws.proofs.Ordering.{in_one_order}
 
@@ -110,35 +110,35 @@ module _ (s t u w : State) (h : SameStates s t) (a : IsTidied s u) (b : IsTidied
   orders = in_one_order s t a.names P over_names a.order b.order (λ at c. (a.reached at).0 c) (λ at c. (reached_there at).0 c) a.in_order order_there
 
   -- index by index
-  abbrev Places : ℕ → ℕ → Type 0
-  Places = Through (Turned (AtPlace a.order)) (Through P (AtPlace b.order))
+  abbrev Positions : ℕ → ℕ → Type 0
+  Positions = Through (Turned (AtPosition a.order)) (Through P (AtPosition b.order))
 
-  one_place : (k l : ℕ) → Places k l → k ≡ l
-  one_place k l (at, left, (bt, p, right)) =
+  one_position : (k l : ℕ) → Positions k l → k ≡ l
+  one_position k l (at, left, (bt, p, right)) =
       let z = zip_at P a.order b.order orders k at left in
       let same : z.0 ≡ bt = h.names.same.pairs.left at z.0 bt z.2 p in
-      b.same.pairs.left bt k l (subst (λ n. AtPlace b.order n k) same z.1) right
+      b.same.pairs.left bt k l (subst (λ n. AtPosition b.order n k) same z.1) right
 
-  turned : SameBy (Turned (AtPlace a.order)) Every u s
-  turned = same_by_turned (AtPlace a.order) Every s u a.same
+  turned : SameBy (Turned (AtPosition a.order)) Every u s
+  turned = same_by_turned (AtPosition a.order) Every s u a.same
 
-  names_match : (x : Name) → BothOrNone (ValuesMatch Places) (finite.get u.globals x) (finite.get w.globals x)
+  names_match : (x : Name) → BothOrNone (ValuesMatch Positions) (finite.get u.globals x) (finite.get w.globals x)
   names_match x =
-      BothOrNone-through (ValuesMatch (Turned (AtPlace a.order))) (ValuesMatch (Through P (AtPlace b.order))) (ValuesMatch Places)
-      (value_through (Turned (AtPlace a.order)) (Through P (AtPlace b.order))) _ (finite.get s.globals x) _ (turned.names x tt)
-      (BothOrNone-through (ValuesMatch P) (ValuesMatch (AtPlace b.order)) (ValuesMatch (Through P (AtPlace b.order))) (value_through P (AtPlace b.order)) _ (finite.get t.globals x) _
+      BothOrNone-through (ValuesMatch (Turned (AtPosition a.order))) (ValuesMatch (Through P (AtPosition b.order))) (ValuesMatch Positions)
+      (value_through (Turned (AtPosition a.order)) (Through P (AtPosition b.order))) _ (finite.get s.globals x) _ (turned.names x tt)
+      (BothOrNone-through (ValuesMatch P) (ValuesMatch (AtPosition b.order)) (ValuesMatch (Through P (AtPosition b.order))) (value_through P (AtPosition b.order)) _ (finite.get t.globals x) _
       (h.names.same.names x tt) (b.same.names x tt))
 
-  objects_match : (k at bt : ℕ) → AtPlace a.order at k → P at bt → AtPlace b.order bt k → Both (ObjectsMatch Places) (slice_get u.heap k) (slice_get w.heap k)
+  objects_match : (k at bt : ℕ) → AtPosition a.order at k → P at bt → AtPosition b.order bt k → Both (ObjectsMatch Positions) (slice_get u.heap k) (slice_get w.heap k)
   objects_match k at bt left p right =
-      Both-through (ObjectsMatch (Turned (AtPlace a.order))) (ObjectsMatch (Through P (AtPlace b.order))) (ObjectsMatch Places)
-      (object_through (Turned (AtPlace a.order)) (Through P (AtPlace b.order))) _ (slice_get s.heap at) _ (turned.objects k at left)
-      (Both-through (ObjectsMatch P) (ObjectsMatch (AtPlace b.order)) (ObjectsMatch (Through P (AtPlace b.order))) (object_through P (AtPlace b.order)) _ (slice_get t.heap bt) _
+      Both-through (ObjectsMatch (Turned (AtPosition a.order))) (ObjectsMatch (Through P (AtPosition b.order))) (ObjectsMatch Positions)
+      (object_through (Turned (AtPosition a.order)) (Through P (AtPosition b.order))) _ (slice_get s.heap at) _ (turned.objects k at left)
+      (Both-through (ObjectsMatch P) (ObjectsMatch (AtPosition b.order)) (ObjectsMatch (Through P (AtPosition b.order))) (object_through P (AtPosition b.order)) _ (slice_get t.heap bt) _
       (h.names.same.objects at bt p) (b.same.objects bt k right))
 
   one_globals : u.globals ≡ w.globals
   one_globals = finite.same_map nat_list_cmp_total (finite.slice_cmp-IsAntisymmetric finite.nat_cmp-IsAntisymmetric) u.globals w.globals
-      (λ x. held_equal Places one_place (finite.get u.globals x) (finite.get w.globals x) (names_match x))
+      (λ x. held_equal Positions one_position (finite.get u.globals x) (finite.get w.globals x) (names_match x))
 
   one_size : length u.heap ≡ length w.heap
   one_size = let m = zip_length P a.order b.order orders in a.size ∙ (m ∙ sym b.size)
@@ -154,8 +154,8 @@ module _ (s t u w : State) (h : SameStates s t) (a : IsTidied s u) (b : IsTidied
       let m = objects_match k (get_or a.order k 0) z.0 at z.2 z.1 in
       let f : slice_get u.heap k ≡ Some (get_or u.heap k D) = slice_get-get_or u.heap k D l in
       let g : slice_get w.heap k ≡ Some (get_or w.heap k D) = slice_get-get_or w.heap k D (omega (arith, l, one_size)) in
-      object_equal Places one_place (get_or u.heap k D) (get_or w.heap k D)
-      (subst (λ o. Both (ObjectsMatch Places) (Some (get_or u.heap k D)) o) g (subst (λ o. Both (ObjectsMatch Places) o (slice_get w.heap k)) f m))
+      object_equal Positions one_position (get_or u.heap k D) (get_or w.heap k D)
+      (subst (λ o. Both (ObjectsMatch Positions) (Some (get_or u.heap k D)) o) g (subst (λ o. Both (ObjectsMatch Positions) o (slice_get w.heap k)) f m))
 
   one_heap : u.heap ≡ w.heap
   one_heap = ext_get_or D u.heap w.heap one_size one_object

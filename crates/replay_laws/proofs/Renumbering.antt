@@ -37,7 +37,7 @@ use Rattle.run_graph.proofs.Reached.{has_value}
 use Rattle.part_bytes.specs.Parts.{order, number_in, numbered, numbered_pair, numbered_object, objects_of}
 use Rattle.part_bytes.proofs.Orders.{order_lists, order_first}
 use Rattle.part_bytes.proofs.Pieces.{as_many}
-use Rattle.replay_laws.specs.Tidied.{AtPlace, IsTidied}
+use Rattle.replay_laws.specs.Tidied.{AtPosition, IsTidied}
 
 -- ---- the names with a value, ascending
 
@@ -95,7 +95,7 @@ module _ (order : List ℕ) where
   abbrev AreThere : List ℕ → Type 0
   AreThere ns = (a : ℕ) → Contains ns a → Contains order a
 
-  pub value_moved : (v : Value) → AreThere (value_refs v) → ValuesMatch (AtPlace order) v (numbered Number v)
+  pub value_moved : (v : Value) → AreThere (value_refs v) → ValuesMatch (AtPosition order) v (numbered Number v)
   value_moved (value.Ref at) k = refs at (number_in order at) (number_at order at (k at (first_in at [])))
   value_moved value.Nothing k = equal value.Nothing refl
   value_moved (value.Bool truth) k = equal (value.Bool truth) refl
@@ -103,21 +103,21 @@ module _ (order : List ℕ) where
   value_moved (value.Text text) k = equal (value.Text text) refl
   value_moved (value.Builtin builtin) k = equal (value.Builtin builtin) refl
 
-  items_moved : (vs : List Value) → AreThere (flat_map value_refs vs) → AllZip (ValuesMatch (AtPlace order)) vs (map (numbered Number) vs)
+  items_moved : (vs : List Value) → AreThere (flat_map value_refs vs) → AllZip (ValuesMatch (AtPosition order)) vs (map (numbered Number) vs)
   items_moved [] k = tt
   items_moved (v ∷ vs) k = (
     value_moved v (λ a c. k a (Contains-append_left (value_refs v) (flat_map value_refs vs) a c)),
     items_moved vs (λ a c. k a (Contains-append_right (value_refs v) (flat_map value_refs vs) a c)),
   )
 
-  pairs_moved : (vs : List (Key × Value)) → AreThere (flat_map pair_refs vs) → AllZip (PairsMatch (AtPlace order)) vs (map (numbered_pair Number) vs)
+  pairs_moved : (vs : List (Key × Value)) → AreThere (flat_map pair_refs vs) → AllZip (PairsMatch (AtPosition order)) vs (map (numbered_pair Number) vs)
   pairs_moved [] k = tt
   pairs_moved (v ∷ vs) k = (
     (refl, value_moved v.1 (λ a c. k a (Contains-append_left (pair_refs v) (flat_map pair_refs vs) a c))),
     pairs_moved vs (λ a c. k a (Contains-append_right (pair_refs v) (flat_map pair_refs vs) a c)),
   )
 
-  pub object_moved : (o : Object) → AreThere (object_refs o) → ObjectsMatch (AtPlace order) o (numbered_object Number o)
+  pub object_moved : (o : Object) → AreThere (object_refs o) → ObjectsMatch (AtPosition order) o (numbered_object Number o)
   object_moved (object.List items) k = items_moved items k
   object_moved (object.Dict pairs) k = pairs_moved pairs k
   object_moved (object.Function def) k = refl
@@ -210,8 +210,8 @@ module _ (t : State) (closed : IsClosed t) where
   not_twice : (a b c : ℕ) → b < c → slice_get Found b ≡ Some a → slice_get Found c ≡ Some a → ⊥
   not_twice a b c l e f = apart b c a l (slice_get_within Found c a f) (get_or_from_slice_get Found b a a e ∙ sym (get_or_from_slice_get Found c a a f))
 
-  one_place : (a b c : ℕ) → AtPlace Found a b → AtPlace Found a c → b ≡ c
-  one_place a b c e f = elim (cases_eq b c) [
+  one_position : (a b c : ℕ) → AtPosition Found a b → AtPosition Found a c → b ≡ c
+  one_position a b c e f = elim (cases_eq b c) [
     | inl same ↦ same
     | inr other ↦ elim (cases_lt b c) [ inl l ↦ absurd (not_twice a b c l e f) | inr l ↦ absurd (not_twice a c b (omega (arith, l, other)) f e) ]
   ]
@@ -223,7 +223,7 @@ module _ (t : State) (closed : IsClosed t) where
   value_there x v e a c = (reached a).1 (reaching.named x a ((keys_have t x).1 (v, e)) (subst (λ o. Contains (held_refs value_refs o) a) (sym e) c))
 
   module _ (u : State) (m : IsMoved t Found u) where
-    names_match : (x : Name) → BothOrNone (ValuesMatch (AtPlace Found)) (finite.get t.globals x) (finite.get u.globals x)
+    names_match : (x : Name) → BothOrNone (ValuesMatch (AtPosition Found)) (finite.get t.globals x) (finite.get u.globals x)
     names_match x = elim (has_value t x) [
       | inl v ↦
           let e : finite.get u.globals x ≡ Some (Mapped v.0) = m.names x ∙ ap (option_map Mapped) v.1 in
@@ -233,7 +233,7 @@ module _ (t : State) (closed : IsClosed t) where
           rw (none, e) tt
     ]
 
-    objects_match : (a k : ℕ) → AtPlace Found a k → Both (ObjectsMatch (AtPlace Found)) (slice_get t.heap a) (slice_get u.heap k)
+    objects_match : (a k : ℕ) → AtPosition Found a k → Both (ObjectsMatch (AtPosition Found)) (slice_get t.heap a) (slice_get u.heap k)
     objects_match a k e =
         let d : Object = object.List [] in
         let there : Contains Found a = (k, slice_get_within Found k a e, get_or_from_slice_get Found k a a e) in
@@ -251,7 +251,7 @@ module _ (t : State) (closed : IsClosed t) where
       reached = reached;
       in_order = in_order;
       same = record {
-        pairs = record { left = one_place; right = λ a b c e f. same_Some a b (sym e ∙ f) };
+        pairs = record { left = one_position; right = λ a b c e f. same_Some a b (sym e ∙ f) };
         names = λ x every. names_match x;
         objects = objects_match;
       };

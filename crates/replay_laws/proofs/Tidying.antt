@@ -19,7 +19,7 @@ use Rattle.py_laws.proofs.Sameness.{same_by_agreeing, same_by_turned, same_turne
 use Rattle.run_graph.proofs.Lists.{cons_cases}
 use Rattle.linked_parts.proofs.Names.{reaches_value}
 use Rattle.run_graph.proofs.Reached.{reach_from_one, reach_by_one}
-use Rattle.replay_laws.specs.Tidied.{AtPlace, IsTidied, AreObjectsOf}
+use Rattle.replay_laws.specs.Tidied.{AtPosition, IsTidied, AreObjectsOf}
 
 -- ---- the pairs of a list with its indices
 
@@ -43,10 +43,10 @@ from_pair k (b ∷ order) a i h = elim (pair_cases (b, k) (from_position (suc k)
   | inr q ↦ let w = from_pair (suc k) order a i q in (suc w.0, omega (arith, w.1), w.2)
 ]
 
-pub to_zero : (order : List ℕ) → IsWithin (AtPlace order) (HasPair (from_position 0 order))
+pub to_zero : (order : List ℕ) → IsWithin (AtPosition order) (HasPair (from_position 0 order))
 to_zero order a k e = to_pair 0 order a k e k (omega arith)
 
-pub from_zero : (order : List ℕ) → IsWithin (HasPair (from_position 0 order)) (AtPlace order)
+pub from_zero : (order : List ℕ) → IsWithin (HasPair (from_position 0 order)) (AtPosition order)
 from_zero order a k h =
     let w = from_pair 0 order a k h in
     let e : k ≡ w.0 = omega (arith, w.1) in
@@ -54,7 +54,7 @@ from_zero order a k h =
 
 pub tidied_same : (t u : State) → IsTidied t u → SameStates t u
 tidied_same t u h = record {
-  names = record { by = from_position 0 h.order; same = same_by_agreeing (AtPlace h.order) (HasPair (from_position 0 h.order)) Every t u (to_zero h.order) (from_zero h.order) h.same };
+  names = record { by = from_position 0 h.order; same = same_by_agreeing (AtPosition h.order) (HasPair (from_position 0 h.order)) Every t u (to_zero h.order) (from_zero h.order) h.same };
   count = sym h.count;
   meter = sym h.meter;
 }
@@ -69,25 +69,25 @@ object_live ps n below x (Some y) h = live_object ps n below x y h
 object_live ps n below x None h = absurd h
 
 module _ (t u : State) (h : IsTidied t u) where
-  abbrev Places : ℕ → ℕ → Type 0
-  Places = Turned (AtPlace h.order)
+  abbrev Positions : ℕ → ℕ → Type 0
+  Positions = Turned (AtPosition h.order)
 
-  turned : SameBy Places Every u t
-  turned = same_by_turned (AtPlace h.order) Every t u h.same
+  turned : SameBy Positions Every u t
+  turned = same_by_turned (AtPosition h.order) Every t u h.same
 
-  below : (a b : ℕ) → Places a b → a < length u.heap
+  below : (a b : ℕ) → Positions a b → a < length u.heap
   below a b p = let l = slice_get_within h.order a b p in let s = h.size in omega (arith, l, s)
 
   pub tidied_closed : IsClosed u
   tidied_closed = record {
-    names = λ name held e. held_live Places (length u.heap) below held (finite.get t.globals name)
-        (subst (λ o. BothOrNone (ValuesMatch Places) o (finite.get t.globals name)) e (turned.names name tt));
+    names = λ name held e. held_live Positions (length u.heap) below held (finite.get t.globals name)
+        (subst (λ o. BothOrNone (ValuesMatch Positions) o (finite.get t.globals name)) e (turned.names name tt));
     objects = λ k d l.
         let at : ℕ = get_or h.order k 0 in
         let s = h.size in
-        let place : AtPlace h.order at k = slice_get-get_or h.order k 0 (omega (arith, l, s)) in
-        object_live Places (length u.heap) below (get_or u.heap k d) (slice_get t.heap at)
-        (subst (λ o. Both (ObjectsMatch Places) o (slice_get t.heap at)) (slice_get-get_or u.heap k d l) (turned.objects k at place));
+        let position : AtPosition h.order at k = slice_get-get_or h.order k 0 (omega (arith, l, s)) in
+        object_live Positions (length u.heap) below (get_or u.heap k d) (slice_get t.heap at)
+        (subst (λ o. Both (ObjectsMatch Positions) o (slice_get t.heap at)) (slice_get-get_or u.heap k d l) (turned.objects k at position));
   }
 
 pub tidied_objects : (t u : State) (h : IsTidied t u) → AreObjectsOf t h.order

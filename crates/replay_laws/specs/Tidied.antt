@@ -8,8 +8,8 @@ use Rattle.graph_model.specs.Faults.{TextBelow, Ascends}
 use Rattle.linked_parts.specs.Parts.{HasValue, Reaches}
 
 -- the address has this index in the list
-abbrev pub AtPlace : List ℕ → ℕ → ℕ → Type 0
-AtPlace order at k = slice_get order k ≡ Some at
+abbrev pub AtPosition : List ℕ → ℕ → ℕ → Type 0
+AtPosition order at k = slice_get order k ≡ Some at
 
 -- u is t with the objects that names reach alone, numbered from 0 in the order in which the ascending names reach them first
 pub record IsTidied (t u : State) : Type 0 where
@@ -20,7 +20,7 @@ pub record IsTidied (t u : State) : Type 0 where
   pub reached : IsListOf t names order
   pub in_order : order ≡ firsts (met t names order)
   -- each object is at its index, and there are no others
-  pub same : SameBy (AtPlace order) Every t u
+  pub same : SameBy (AtPosition order) Every t u
   pub size : length u.heap ≡ length order
   pub count : u.count ≡ t.count
   pub meter : u.meter ≡ t.meter

@@ -28,8 +28,8 @@ back_no_float zero ds none = none
 back_no_float (suc n) [] none = refl
 back_no_float (suc n) (d ∷ ds) none = back_no_float n ds (or_parts (has_float d) (items_have_float (items_of ds)) none).1
 
-pub part_no_float : (n : ℕ) (vs part : List Value) → part ≡ take n vs → items_have_float (items_of (map view vs)) ≡ false → items_have_float (items_of (map view part)) ≡ false
-part_no_float n vs part is none =
+pub chunk_no_float : (n : ℕ) (vs chunk : List Value) → chunk ≡ take n vs → items_have_float (items_of (map view vs)) ≡ false → items_have_float (items_of (map view chunk)) ≡ false
+chunk_no_float n vs chunk is none =
     subst (λ ws. items_have_float (items_of (map view ws)) ≡ false) (sym is)
     (subst (λ ds. items_have_float (items_of ds) ≡ false) (take-map view n vs) (front_no_float n (map view vs) none))
 
@@ -45,8 +45,8 @@ map_no_float f each (x ∷ xs) = or_from (has_float (f x)) _ (each x) (map_no_fl
 both_no_float : (xs ys : List Data) → items_have_float (items_of xs) ≡ false → items_have_float (items_of ys) ≡ false → items_have_float (items_of (xs ++ ys)) ≡ false
 both_no_float [] ys first second = second
 both_no_float (x ∷ xs) ys first second =
-    let parts = or_parts (has_float x) (items_have_float (items_of xs)) first in
-    or_from (has_float x) _ parts.0 (both_no_float xs ys parts.1 second)
+    let chunks = or_parts (has_float x) (items_have_float (items_of xs)) first in
+    or_from (has_float x) _ chunks.0 (both_no_float xs ys chunks.1 second)
 
 pub steps_no_float : (plan : Plan) → items_have_float (items_of (steps plan)) ≡ false
 unfolding steps step

@@ -2,5 +2,5 @@ pub mod NoFloats
 pub mod Saying
 pub mod Floats
 pub mod Taking
-pub mod Parting
+pub mod Chunking
 pub mod Telling

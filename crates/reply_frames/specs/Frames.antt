@@ -28,10 +28,13 @@ own_header kernel request running kind = record {
   version = codes "5.3";
 }
 
+-- a message with all its members
+abbrev pub envelope : List ℕ → Data → Header → List ℕ → Data → Data
+envelope channel content header kernel parent = json ((codes "channel", string channel) ∷ (codes "content", content)
+    ∷ (codes "header", header_json header) ∷ (codes "kernel", string kernel) ∷ (codes "metadata", json []) ∷ (codes "parent_header", parent) ∷ [])
+
 unfoldable pub message : List ℕ → Header → ℕ → Said → Data
-message kernel request running said = json ((codes "channel", string said.channel) ∷ (codes "content", said.content)
-    ∷ (codes "header", header_json (own_header kernel request running said.kind)) ∷ (codes "kernel", string kernel)
-    ∷ (codes "metadata", json []) ∷ (codes "parent_header", header_json request) ∷ [])
+message kernel request running said = envelope said.channel said.content (own_header kernel request running said.kind) kernel (header_json request)
 
 -- a frame is the length of its body, as four bytes with the high byte first, and the body
 unfoldable pub frame : List ℕ → List ℕ

@@ -8,7 +8,7 @@ use Rattle.reply_frames.specs.declared.node.NodeErrorKind.TheVariants as kind
 use Rattle.reply_frames.specs.declared.node.About.{About}
 use Rattle.reply_frames.specs.declared.node.NodeError.{NodeError}
 use Rattle.reply_frames.specs.Messages.{json, whole}
-use Rattle.reply_frames.specs.Frames.{kernel_name, header_json, frame}
+use Rattle.reply_frames.specs.Frames.{kernel_name, header_json, envelope, frame}
 
 abbrev pub name_of : NodeErrorKind → List ℕ
 name_of kind.NotJson = codes "NotJson"
@@ -68,10 +68,9 @@ node_header date running = record {
 }
 
 unfoldable pub message : ℕ → NodeError → Data
-message running error = json ((codes "channel", string (codes "control"))
-    ∷ (codes "content", json ((codes "detail", string (detail_of error.kind)) ∷ (codes "name", string (name_of error.kind)) ∷ (codes "number", whole (number_of error.kind)) ∷ []))
-    ∷ (codes "header", header_json (node_header (date_of error.about) running)) ∷ (codes "kernel", string (kernel_of error.about))
-    ∷ (codes "metadata", json []) ∷ (codes "parent_header", parent_of error.about) ∷ [])
+message running error = envelope (codes "control")
+    (json ((codes "detail", string (detail_of error.kind)) ∷ (codes "name", string (name_of error.kind)) ∷ (codes "number", whole (number_of error.kind)) ∷ []))
+    (node_header (date_of error.about) running) (kernel_of error.about) (parent_of error.about)
 
 -- the error's frame, under this running number of the node's
 abbrev pub frame_of : ℕ → NodeError → List ℕ

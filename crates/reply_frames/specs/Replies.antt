@@ -150,19 +150,19 @@ node_name Sink = codes "t"
 unfoldable pub arc_said : FlowArc → Data
 arc_said arc = array (item (string (node_name arc.from)) (item (string (node_name arc.to)) (item (whole arc.flow) no_items)))
 
--- a list in pieces of n items, the last of which may be shorter; there are no more pieces than the first number says
-unfoldable pub parts : ℕ → ℕ → List Data → List (List Data)
-parts zero n ds = []
-parts (suc more) n [] = []
-parts (suc more) n (d ∷ ds) = take n (d ∷ ds) ∷ parts more n (drop n (d ∷ ds))
+-- a list in chunks of n items, the last of which may be shorter; there are no more chunks than the first number says
+unfoldable pub chunks : ℕ → ℕ → List Data → List (List Data)
+chunks zero n ds = []
+chunks (suc more) n [] = []
+chunks (suc more) n (d ∷ ds) = take n (d ∷ ds) ∷ chunks more n (drop n (d ∷ ds))
 
 unfoldable pub listed : Listing → List Data → Said
-listed listing.Plan part = on_iopub (codes "migrate_plan") (json ((codes "items", array (items_of part)) ∷ []))
-listed listing.Flow part = on_iopub (codes "migrate_flow") (json ((codes "arcs", array (items_of part)) ∷ []))
+listed listing.Plan chunk = on_iopub (codes "migrate_plan") (json ((codes "items", array (items_of chunk)) ∷ []))
+listed listing.Flow chunk = on_iopub (codes "migrate_flow") (json ((codes "arcs", array (items_of chunk)) ∷ []))
 
 -- a list without items says nothing
 unfoldable pub lists : Listing → List Data → List Said
-lists which items = map (listed which) (parts (length items) 4096 items)
+lists which items = map (listed which) (chunks (length items) 4096 items)
 
 -- ---- the reply to a move
 

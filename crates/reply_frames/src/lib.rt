@@ -10,6 +10,7 @@
 
 mod content;
 mod entry;
+mod envelope;
 mod journal;
 pub mod laws;
 mod lists;

@@ -106,12 +106,12 @@ pub fn arcs_of(alloc: Global, arcs: &[FlowArc]) -> Result<Vec<Value>, AllocError
 }
 
 #[tactic(auto, unfolding(crate::specs::Replies::listed))]
-fn list_content(alloc: Global, which: Listing, part: Vec<Value>) -> Result<Value, AllocError>
-    ensures { IfOk result (λ v. view v ≡ (spec.listed which (map view part.items)).content) }
+fn list_content(alloc: Global, which: Listing, chunk: Vec<Value>) -> Result<Value, AllocError>
+    ensures { IfOk result (λ v. view v ≡ (spec.listed which (map view chunk.items)).content) }
 {
     match which {
-        Listing::Plan => json!(in alloc; {"items": part}),
-        Listing::Flow => json!(in alloc; {"arcs": part}),
+        Listing::Plan => json!(in alloc; {"items": chunk}),
+        Listing::Flow => json!(in alloc; {"arcs": chunk}),
     }
 }
 
@@ -132,18 +132,18 @@ fn say_list(
     alloc: Global,
     request: &Header,
     which: Listing,
-    part: Vec<Value>,
+    chunk: Vec<Value>,
 ) -> Result<(), AllocError>
-    requires { items_have_float (items_view part.items) ≡ false }
-    ensures { OnOk result (outbox.new ≡ frames.say request.now (spec.listed which (map view part.items)) outbox.old) }
+    requires { items_have_float (items_view chunk.items) ≡ false }
+    ensures { OnOk result (outbox.new ≡ frames.say request.now (spec.listed which (map view chunk.items)) outbox.old) }
 {
-    let content = list_content(alloc, which, part)?;
+    let content = list_content(alloc, which, chunk)?;
     outbox.say(alloc, request, "iopub", list_kind(which), &content)
 }
 
 /// Takes the first items off, as many as a message has at most.
-fn take_part(items: &mut Vec<Value>) -> Result<Vec<Value>, AllocError>
-    ensures { IfOk result (λ part. (part.items ≡ take 4096 items.old.items) × (items.new.items ≡ drop 4096 items.old.items)) }
+fn take_chunk(items: &mut Vec<Value>) -> Result<Vec<Value>, AllocError>
+    ensures { IfOk result (λ chunk. (chunk.items ≡ take 4096 items.old.items) × (items.new.items ≡ drop 4096 items.old.items)) }
 {
     let most = MOST_ITEMS.min(items.len());
     let more = items.split_off(most)?;
@@ -151,7 +151,7 @@ fn take_part(items: &mut Vec<Value>) -> Result<Vec<Value>, AllocError>
 }
 
 /// All these items, in messages of at most 4,096.
-#[tactic(auto, unfolding(crate::specs::Replies::parts, crate::specs::Replies::lists))]
+#[tactic(auto, unfolding(crate::specs::Replies::chunks, crate::specs::Replies::lists))]
 pub fn say_lists(
     outbox: &mut Outbox,
     alloc: Global,
@@ -168,8 +168,8 @@ pub fn say_lists(
         if rest.is_empty() {
             break;
         }
-        let part = take_part(&mut rest)?;
-        say_list(outbox, alloc, request, which, part)?;
+        let chunk = take_chunk(&mut rest)?;
+        say_list(outbox, alloc, request, which, chunk)?;
     }
     Ok(())
 }

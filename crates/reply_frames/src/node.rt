@@ -2,12 +2,14 @@
 
 ghost use Rattle.std.specs.Prelude.{◌≡◌, ◌∷◌, ◌++◌, [], codes, decimal, IfOk};
 ghost use Rattle.serde_json.specs.View.{view};
+ghost use Rattle.serde_json.specs.Written.{compact_text};
 ghost use Rattle.serde_json.specs.Data.{string};
 ghost use Rattle.reply_frames.specs.Messages.{json, whole};
-ghost use Rattle.reply_frames.specs.Frames as frames;
+ghost use Rattle.reply_frames.specs.Envelopes.{parent_json};
 ghost use Rattle.reply_frames.specs.Nodes as spec;
 
-use crate::message::{header_value, kernel_name, request_header};
+use crate::envelope::{Envelope, HeaderTexts};
+use crate::message::kernel_name;
 use crate::outbox::push_frame;
 use jupyter_messages::Header;
 use plain_data::{Items, Text};
@@ -118,35 +120,11 @@ fn node_id(alloc: Global, running: u64) -> Result<Text, AllocError>
     Ok(Text::from_string(format!(in alloc; "node_{running}")?))
 }
 
-fn node_header(alloc: Global, date: &str, running: u64) -> Result<Value, AllocError>
-    ensures { IfOk result (λ v. view v ≡ frames.header_json (spec.node_header date.now running)) }
+/// The header of the message that an error is about.
+fn parent_of(about: &Option<About>) -> Option<HeaderTexts<'_>>
+    ensures { parent_json result ≡ spec.parent_of about.now }
 {
-    let id = node_id(alloc, running)?;
-    header_value(
-        alloc,
-        date,
-        id.as_str(),
-        "node_error",
-        "node",
-        "node",
-        "5.3",
-    )
-}
-
-fn empty_object(alloc: Global) -> Result<Value, AllocError>
-    ensures { IfOk result (λ v. view v ≡ json []) }
-{
-    json!(in alloc; {})
-}
-
-/// The header of the message that an error is about, or an empty object.
-fn parent_of(alloc: Global, about: &Option<About>) -> Result<Value, AllocError>
-    ensures { IfOk result (λ v. view v ≡ spec.parent_of about.now) }
-{
-    match about {
-        Some(about) => request_header(alloc, &about.header),
-        None => empty_object(alloc),
-    }
+    about.as_ref().map(|about| HeaderTexts::of(&about.header))
 }
 
 /// The kernel of the message that an error is about, or an empty text.
@@ -169,30 +147,10 @@ fn date_of(about: &Option<About>) -> &str
     }
 }
 
-fn message_members(
-    alloc: Global,
-    content: &Value,
-    header: &Value,
-    kernel: &str,
-    parent: &Value,
-) -> Result<Value, AllocError>
-    ensures { IfOk result (λ v. view v ≡ json ((codes "channel", string (codes "control")) ∷ (codes "content", view content.now)
-        ∷ (codes "header", view header.now) ∷ (codes "kernel", string kernel.now) ∷ (codes "metadata", json [])
-        ∷ (codes "parent_header", view parent.now) ∷ [])) }
-{
-    json!(in alloc; {
-        "channel": "control",
-        "content": content,
-        "header": header,
-        "kernel": kernel,
-        "metadata": {},
-        "parent_header": parent
-    })
-}
-
+/// The message of an error, as JSON.
 #[tactic(auto, unfolding(crate::specs::Nodes::message))]
-fn message_of(alloc: Global, running: u64, error: &NodeError) -> Result<Value, AllocError>
-    ensures { IfOk result (λ v. view v ≡ spec.message running error.now) }
+fn message_text(alloc: Global, running: u64, error: &NodeError) -> Result<Text, AllocError>
+    ensures { IfOk result (λ text. text ≡ compact_text (spec.message running error.now)) }
 {
     let detail = detail_of(alloc, &error.kind)?;
     let content = content_of(
@@ -201,10 +159,24 @@ fn message_of(alloc: Global, running: u64, error: &NodeError) -> Result<Value, A
         name_of(&error.kind),
         number_of(&error.kind),
     )?;
-    let header = node_header(alloc, date_of(&error.about), running)?;
+    let msg_id = node_id(alloc, running)?;
+    let header = HeaderTexts {
+        date: date_of(&error.about),
+        msg_id: msg_id.as_str(),
+        msg_type: "node_error",
+        session: "node",
+        username: "node",
+        version: "5.3",
+    };
     let kernel = kernel_of(alloc, &error.about)?;
-    let parent = parent_of(alloc, &error.about)?;
-    message_members(alloc, &content, &header, kernel.as_str(), &parent)
+    let envelope = Envelope {
+        channel: "control",
+        content: &content,
+        header,
+        kernel: kernel.as_str(),
+        parent: parent_of(&error.about),
+    };
+    envelope.text(alloc)
 }
 
 /// The frame of an error, under this running number of the node's. Also `Err` if the body would have 2^32 bytes or more.
@@ -215,8 +187,7 @@ pub fn node_error_frame(
 ) -> Result<Items<u8>, AllocError>
     ensures { IfOk result (λ bytes. bytes ≡ spec.frame_of running error.now) }
 {
-    let message = message_of(alloc, running, error)?;
-    let text = message.to_string(alloc)?;
+    let text = message_text(alloc, running, error)?;
     let mut bytes = Items::new(alloc);
     push_frame(&mut bytes, text.as_str())?;
     Ok(bytes)

@@ -87,9 +87,10 @@ impl<E: Engine + Drop> Alone<E> {
         Some(self.engine.pack(alloc, weights))
     }
 
-    /// Makes room for `more` further entries. After an error there may be room for fewer; the entries are as before.
+    /// Makes room for `more` further entries. There is never room for fewer than before, and the entries are as before.
     pub fn reserve(&mut self, more: u32) -> Result<(), AllocError>
         ensures same { (self.new.entries ≡ self.old.entries) × (self.new.hosts ≡ self.old.hosts) }
+        ensures kept { self.old.spare ≤ self.new.spare }
         ensures spare { IfOk result (λ _. more ≤ self.new.spare) }
     {
         self.journal.reserve(more)

@@ -53,9 +53,10 @@ impl Journal {
         })
     }
 
-    /// Makes room for `more` further entries. After an error there may be room for fewer; the entries are as before.
+    /// Makes room for `more` further entries. There is never room for fewer than before, and the entries are as before.
     pub fn reserve(&mut self, more: u32) -> Result<(), AllocError>
         ensures entries { self.new.entries ≡ self.old.entries }
+        ensures kept { self.old.spare ≤ self.new.spare }
         ensures spare { IfOk result (λ _. more ≤ self.new.spare) }
     {
         self.entries.reserve(more as usize)

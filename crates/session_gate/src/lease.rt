@@ -98,9 +98,10 @@ impl<E: Engine, F: Feed> Lease<E, F> {
         self.resident.pack(alloc, weights)
     }
 
-    /// Makes room for `more` further entries. After an error there may be room for fewer; the entries are as before.
+    /// Makes room for `more` further entries. There is never room for fewer than before, and the entries are as before.
     pub fn reserve(&mut self, more: u32) -> Result<(), AllocError>
         ensures same { (self.new.engine ≡ self.old.engine) × (self.new.feed ≡ self.old.feed) × (self.new.entries ≡ self.old.entries) × HasSame self.old self.new }
+        ensures kept { self.old.spare ≤ self.new.spare }
         ensures spare { IfOk result (λ _. more ≤ self.new.spare) }
     {
         self.resident.reserve(more)

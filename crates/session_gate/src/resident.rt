@@ -90,9 +90,10 @@ impl<E: Engine, F: Feed> Resident<E, F> {
         self.engine.pack(alloc, weights)
     }
 
-    /// Makes room for `more` further entries.
+    /// Makes room for `more` further entries, and never leaves less room.
     pub(crate) fn reserve(&mut self, more: u32) -> Result<(), AllocError>
         ensures same { (self.new.engine ≡ self.old.engine) × (self.new.feed ≡ self.old.feed) × (self.new.entries ≡ self.old.entries) × HasSame self.old self.new }
+        ensures kept { self.old.spare ≤ self.new.spare }
         ensures spare { IfOk result (λ _. more ≤ self.new.spare) }
     {
         self.journal.reserve(more)

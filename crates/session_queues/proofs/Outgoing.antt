@@ -1,13 +1,13 @@
 -- What steps leave of the owner's side of out.
-use Rattle.std.proofs.Common.{◌≡◌, ℕ, ◌+◌, ◌<◌, Bool, true, false, true≢false, List, [], ◌∷◌, ◌++◌, length, take, drop, append_assoc, length-append, refl, sym, ap, ◌∙◌, subst, inl, inr, arith}
+use Rattle.std.proofs.Common.{◌≡◌, ℕ, ◌+◌, ◌<◌, Bool, true, false, true≢false, List, [], ◌∷◌, ◌++◌, length, take, drop, append_assoc, append-nil, length-append, refl, sym, ap, ◌∙◌, subst, inl, inr, arith}
 use Rattle.std.proofs.lemmas.List.{take-append-drop}
 use Rattle.std.specs.Prelude.{Some, MatchBool}
 use Rattle.session_core.specs.declared.entry.Entry.{Entry}
 use Rattle.ruled_queue.specs.declared.rule.View.{View}
-use Rattle.ruled_queue.specs.Rule.{of, Keeps, joined, Took, MayPush, Waits}
+use Rattle.ruled_queue.specs.Rule.{of, Keeps, joined, took, Took, MayPush, Waits}
 use Rattle.session_queues.specs.Passes.{Counts}
 use Rattle.session_queues.specs.Items.{number_of_entry, IsForOut, opens_out}
-use Rattle.session_queues.specs.Ends.{Outgoing, pushed_by, publishes, pushed_while, IsOutlet, IsOpen, drains, takes, AreFirst, GoesOn, AreFirstPushed, IsTakenOf}
+use Rattle.session_queues.specs.Ends.{Outgoing, pushed_by, publishes, pushed_while, IsOutlet, IsOpen, drains, takes, AreFirst, GoesOn, AreFirstPushed, KnowsPushed, IsDrainedOf, IsTakenOf}
 
 -- while the reader isn't closed
 pub open_is : (closed : Bool) (v : View Entry) (n : ℕ) → IsOpen (pushed_while closed v) → IsOutlet closed v n → (closed ≡ false) × (v ≡ publishes (pushed_by v)) × (n ≡ length (pushed_by v))
@@ -26,6 +26,12 @@ pub draining : (closed : Bool) (reader v joins : View Entry) (taken : List Entry
 draining true reader v joins taken n open_ r h is = absurd (true≢false open_)
 draining false reader v joins taken n open_ r h is = is ∙ ap (λ u. joined u v) r ∙ ap (λ u. joined (takes taken) u) h.0
 
+-- then it knows what the producer pushed
+pub known_joined : (closed : Bool) (reader v joins : View Entry) (n : ℕ) → closed ≡ false → reader ≡ takes reader.popped → IsOutlet closed v n → joins ≡ joined reader v → KnowsPushed joins (pushed_by v)
+known_joined closed reader v joins n open_ r h is =
+    let all : joins ≡ drains reader.popped (pushed_by v) = draining closed reader v joins reader.popped n open_ r h is in
+    record { known = all ∙ ap (λ (u : View Entry). drains u.popped (pushed_by v)) (sym all) }
+
 pub counted : (closed : Bool) (v : View Entry) (n : ℕ) → closed ≡ false → IsOutlet closed v n → n ≡ length (pushed_by v)
 counted true v n open_ h = absurd (true≢false open_)
 counted false v n open_ h = h.1
@@ -35,7 +41,7 @@ producer true v n open_ h = absurd (true≢false open_)
 producer false v n open_ h = ap (λ (u : View Entry). u.pops) h.0
 
 pub consumer : (closed : Bool) (v : View Entry) (n : ℕ) → closed ≡ true → IsOutlet closed v n → v.pops ≡ true
-consumer true v n is h = h
+consumer true v n is h = ap (λ (u : View Entry). u.pops) h.1.drained
 consumer false v n is h = absurd (true≢false (sym is))
 
 pub taken_of : (closed : Bool) (v : View Entry) (taken left : List Entry) → closed ≡ false → pushed_by v ≡ taken ++ left → IsTakenOf (pushed_while closed v) taken
@@ -56,12 +62,27 @@ pops_on false v w h pops = ap (λ (u : View Entry). u.pops) h.0 ∙ pops
 pops_on true v w h pops = ap (λ (u : View Entry). u.pops) h.1.now ∙ pops
 
 -- what was popped are the first of those that were pushed
-pub first_pushed : (r : Bool) (v w : View Entry) (pushed : List Entry) → Popped r v w → v ≡ drains v.popped pushed → (rest : List Entry) × (pushed ≡ v.popped ++ rest)
+pub first_pushed : (r : Bool) (v w : View Entry) (pushed : List Entry) → Popped r v w → KnowsPushed v pushed → (rest : List Entry) × (pushed ≡ v.popped ++ rest)
 first_pushed false v w pushed h is =
-    ([], h.1.of_each 0 pushed (subst (λ (u : View Entry). Keeps 0 pushed u.lists) (sym is) (inl (refl, refl))) ∙ all_of_number (v.popped ++ []))
+    ([], h.1.of_each 0 pushed (subst (λ (u : View Entry). Keeps 0 pushed u.lists) (sym is.known) (inl (refl, refl))) ∙ all_of_number (v.popped ++ []))
 first_pushed true v w pushed h is =
-    let next = h.1.next pushed (subst (λ (u : View Entry). Keeps 0 pushed u.lists) (sym is) (inl (refl, refl))) in
+    let next = h.1.next pushed (subst (λ (u : View Entry). Keeps 0 pushed u.lists) (sym is.known) (inl (refl, refl))) in
     (h.0 ∷ next.0, next.1 ∙ ap (λ l. l ++ h.0 ∷ next.0) (all_of_number v.popped))
+
+-- what was pushed stays known
+pub known_on : (r : Bool) (v w : View Entry) (pushed : List Entry) → Popped r v w → KnowsPushed v pushed → KnowsPushed w pushed
+known_on false v w pushed h is = record { known = h.0 ∙ is.known ∙ ap (λ (u : View Entry). drains u.popped pushed) (sym h.0) }
+known_on true v w pushed h is =
+    let popped : v.popped ++ h.0 ∷ [] ≡ w.popped = ap (λ (u : View Entry). u.popped) (sym h.1.now) in
+    record { known = h.1.now ∙ ap (λ u. took u h.0) is.known ∙ ap (λ p. drains p pushed) popped }
+
+-- a queue that is found empty is drained
+pub drained_at_none : (r : Bool) (v w : View Entry) (pushed : List Entry) → r ≡ false → Popped r v w → KnowsPushed v pushed → IsDrainedOf w pushed
+drained_at_none true v w pushed none h is = absurd (true≢false none)
+drained_at_none false v w pushed none h is =
+    let all : pushed ≡ v.popped =
+    h.1.of_each 0 pushed (subst (λ (u : View Entry). Keeps 0 pushed u.lists) (sym is.known) (inl (refl, refl))) ∙ all_of_number (v.popped ++ []) ∙ append-nil v.popped in
+    record { drained = h.0 ∙ is.known ∙ ap (λ p. drains p pushed) (sym all) }
 
 -- below 2^32 the count is the length
 pub counted_taken : (n : ℕ) (taken pushed rest : List Entry) (count : ℕ) → Counts n (length taken) → pushed ≡ taken ++ rest → count ≡ length pushed → count < 4294967296 → n ≡ length taken
@@ -75,7 +96,7 @@ pub first_taken : (closed : Bool) (reader v joins : View Entry) (n : ℕ) → cl
 first_taken closed reader v joins n open_ r h is first =
     let all : joins ≡ drains reader.popped (pushed_by v) = draining closed reader v joins reader.popped n open_ r h is in
     let popped : joins.popped ≡ reader.popped = ap (λ (u : View Entry). u.popped) all in
-    let rest = first (pushed_by v) (all ∙ ap (λ p. drains p (pushed_by v)) (sym popped)) in
+    let rest = first (pushed_by v) (known_joined closed reader v joins n open_ r h is) in
     (rest.0, rest.1 ∙ ap (λ p. p ++ rest.0) popped)
 
 -- ---- publishing what wasn't pushed yet

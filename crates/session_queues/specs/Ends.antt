@@ -25,7 +25,7 @@ pub record OnOut : Type 0 where
   pub out_queue : SegId Global
   pub entries : List Entry
 
--- what the owner pushed on out; none once the reader is closed
+-- what the owner pushed on out; none once the reader is closed and nothing is queued there any more
 pub record Outgoing : Type 0 where
   pub out_queue : SegId Global
   pub pushed : Option (List Entry)
@@ -49,17 +49,25 @@ takes entries = knows true entries [] 0
 abbrev pub drains : List Entry → List Entry → View Entry
 drains popped pushed = knows true popped ((0, pushed) ∷ []) 1
 
+-- the consumer's pass pops, and knows that these were pushed
+pub record KnowsPushed (v : View Entry) (pushed : List Entry) : Type 0 where
+  pub known : v ≡ drains v.popped pushed
+
 -- what was popped are the first of those that were pushed
 abbrev pub AreFirstPushed : View Entry → Type 0
-AreFirstPushed v = (pushed : List Entry) → v ≡ drains v.popped pushed → (rest : List Entry) × (pushed ≡ v.popped ++ rest)
+AreFirstPushed v = (pushed : List Entry) → KnowsPushed v pushed → (rest : List Entry) × (pushed ≡ v.popped ++ rest)
 
 abbrev pub pushed_while : Bool → View Entry → Option (List Entry)
 pushed_while true v = None
 pushed_while false v = Some (pushed_by v)
 
+-- all that was pushed was popped: nothing is queued any more
+pub record IsDrainedOf (v : View Entry) (pushed : List Entry) : Type 0 where
+  pub drained : v ≡ drains pushed pushed
+
 -- the owner's side of out, by whether the reader is closed, with its count of what was pushed
 abbrev pub IsOutlet : Bool → View Entry → ℕ → Type 0
-IsOutlet true v count = v.pops ≡ true
+IsOutlet true v count = (pushed : List Entry) × IsDrainedOf v pushed
 IsOutlet false v count = (v ≡ publishes (pushed_by v)) × (count ≡ length (pushed_by v))
 
 -- an entry more, if the reader isn't closed

@@ -2,7 +2,7 @@ ghost use Rattle.std.specs.Prelude.{◌≡◌, ◌++◌, [], ◌∷◌, List, So
 ghost use Rattle.crossbeam_queue.specs.SegTies.{IsSegPassOf};
 ghost use Rattle.ruled_queue.specs.Rule.{joined};
 ghost use Rattle.session_core.specs.declared.entry.Entry.{Entry};
-ghost use Rattle.session_queues.specs.Ends.{one_more, all_of, AreFirst, GoesOn, IsOpen, IsTakenOf, AreFirstPushed, publishes, pushed_by};
+ghost use Rattle.session_queues.specs.Ends.{one_more, all_of, AreFirst, GoesOn, IsOpen, IsTakenOf, AreFirstPushed, KnowsPushed, IsDrainedOf, publishes, pushed_by};
 
 use crate::items::OutNumbers;
 use crate::reader::Reader;
@@ -137,13 +137,14 @@ fn take_back(queue: &Queue<Entry, OutNumbers>, seat: &mut Seat<Entry>, reader: S
     ruled_queue::join(queue, seat, producer);
 }
 
-/// Drops what is still queued on out. What was popped before are the first entries that were pushed.
+/// Drops all that is still queued on out. What was popped before are the first entries that were pushed.
 fn drop_left<R: Wait>(rt: &R, queue: &Queue<Entry, OutNumbers>, seat: &mut Seat<Entry>)
     requires queue { IsSegPassOf queue.now seat.old }
     requires consumer { seat.old.me.view.client.pops ≡ true }
     ensures queue { IsSegPassOf queue.now seat.new }
     ensures consumer { seat.new.me.view.client.pops ≡ true }
     ensures first { AreFirstPushed seat.old.me.view.client }
+    ensures drained { (pushed : List Entry) → KnowsPushed seat.old.me.view.client pushed → IsDrainedOf seat.new.me.view.client pushed }
 {
     if drop_one(rt, queue, seat) {
         drop_rest(rt, queue, seat);
@@ -155,6 +156,7 @@ fn drop_rest<R: Wait>(rt: &R, queue: &Queue<Entry, OutNumbers>, seat: &mut Seat<
     requires consumer { seat.old.me.view.client.pops ≡ true }
     ensures queue { IsSegPassOf queue.now seat.new }
     ensures consumer { seat.new.me.view.client.pops ≡ true }
+    ensures drained { (pushed : List Entry) → KnowsPushed seat.old.me.view.client pushed → IsDrainedOf seat.new.me.view.client pushed }
 {
     for _ in rt.forever() {
         if !drop_one(rt, queue, seat) {
@@ -164,13 +166,15 @@ fn drop_rest<R: Wait>(rt: &R, queue: &Queue<Entry, OutNumbers>, seat: &mut Seat<
     unreachable!()
 }
 
-/// Drops the front. Whether there was one.
+/// Drops the front. Whether there was one; if not, all that was pushed was popped.
 fn drop_one<R: Wait>(rt: &R, queue: &Queue<Entry, OutNumbers>, seat: &mut Seat<Entry>) -> bool
     requires queue { IsSegPassOf queue.now seat.old }
     requires consumer { seat.old.me.view.client.pops ≡ true }
     ensures queue { IsSegPassOf queue.now seat.new }
     ensures consumer { seat.new.me.view.client.pops ≡ true }
     ensures first { AreFirstPushed seat.old.me.view.client }
+    ensures known { (pushed : List Entry) → KnowsPushed seat.old.me.view.client pushed → KnowsPushed seat.new.me.view.client pushed }
+    ensures drained { result ≡ false → (pushed : List Entry) → KnowsPushed seat.old.me.view.client pushed → IsDrainedOf seat.new.me.view.client pushed }
 {
     ruled_queue::pop_and_drop(rt, queue, seat)
 }

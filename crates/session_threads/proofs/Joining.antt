@@ -6,13 +6,16 @@ use Rattle.session_core.specs.declared.request.Header.{Header}
 use Rattle.session_core.specs.declared.request.Channel.{Channel}
 use Rattle.session_core.specs.declared.request.Request.{Request}
 use Rattle.session_core.specs.declared.entry.Entry.{Entry}
+use Rattle.session_core.specs.declared.entry.Entry.TheVariants.{Opened}
+use Rattle.session_core.specs.Meanings.{Meaning}
+use Rattle.session_core.specs.Legal.{IsLegal}
 use Rattle.session_queues.specs.declared.items.MainItem.TheVariants.{Opening}
 use Rattle.session_queues.specs.declared.shared.SharedQueues.{SharedQueues}
 use Rattle.session_queues.specs.Passes.{Producer, parted, next_pass, taking_in}
 use Rattle.session_queues.specs.Ends.{Held, first_pass}
 use Rattle.session_gate.specs.Answered.{as_main, as_control}
 use Rattle.session_threads.specs.Parts.{HasAdmitted, IsPart, IsServed}
-use Rattle.session_threads.proofs.Parting.{HasThree, opening_alone, first_part, second_part, no_other_part}
+use Rattle.session_threads.proofs.Parting.{HasThree, opening_alone, first_part, second_part, no_other_part, opening_first}
 
 -- what follows of an answer that is Some
 pub if_some_more : {A : Type 0} → (P Q : A → Type 0) (r : Option A) → IfSome r P → ((a : A) → P a → Q a) → IfSome r Q
@@ -82,3 +85,15 @@ module _ (q : SharedQueues) (host : ℕ) (request : Header) (channel : Channel) 
         second_part es s.0 o first second three s.1 s.2,
         no_other_part es s.0 o first second three s.1 s.2,
       )
+
+  -- the journal that is kept begins with the opening, once all is answered
+  pub opens : (here : SharedQueues) (p0 p1 p2 one0 two0 one two p3 p4 : Producer) (first second : List Request) (es kept : List Entry) → here ≡ q → Splits p0 p1 p2 one0 two0
+      → HasAdmitted here one0.number first one → HasAdmitted here two0.number second two → p3 ≡ taking_in p2 one → p4 ≡ taking_in p3 two → IsServed es p4 → kept ≡ es
+      → (meaning : Meaning) (hosts : ℕ) → IsLegal meaning hosts es → (more : List Entry) × (kept ≡ Opened host request channel ∷ more)
+  opens here p0 p1 p2 one0 two0 one two p3 p4 first second es kept same h a b e3 e4 s is meaning hosts legal =
+      let a_here = subst (λ z. HasAdmitted z one0.number first one) same a in
+      let b_here = subst (λ z. HasAdmitted z two0.number second two) same b in
+      let o = Opening host request channel in
+      let three = both_joined p0 p1 p2 one0 two0 one two p3 p4 first second s.0 h a_here b_here e3 e4 s.3 s.4 s.5 s.6 in
+      subst (λ z. (more : List Entry) × (z ≡ Opened host request channel ∷ more)) (sym is)
+      (opening_first es s.0 o first second three s.1 s.2 meaning hosts host request channel refl legal)

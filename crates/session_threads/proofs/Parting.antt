@@ -7,7 +7,8 @@ use Rattle.session_core.specs.declared.request.Request.{Request}
 use Rattle.session_core.specs.declared.entry.Entry.{Entry}
 use Rattle.session_core.specs.declared.entry.Entry.TheVariants.{Opened, Ran, Died, Dead, Sealed, Moved, Adopted, Refused, Resumed}
 use Rattle.session_core.specs.Asks.{is_main}
-use Rattle.session_core.specs.Legal.{asked, main_asked}
+use Rattle.session_core.specs.Meanings.{Meaning}
+use Rattle.session_core.specs.Legal.{IsLegal, asked, main_asked}
 use Rattle.session_queues.specs.declared.items.MainItem.{MainItem}
 use Rattle.session_queues.specs.declared.items.MainItem.TheVariants.{Opening, Asked}
 use Rattle.session_queues.specs.Items.{number_of, frontend_of}
@@ -76,6 +77,22 @@ kept_part es ends n l rs h none main control is = (
   sym (control_all es ends n (as_control rs) h none control),
 )
 
+-- a legal journal begins with the opening that is all that main has under the number 0
+begins_with : (meaning : Meaning) (hosts : ℕ) (es : List Entry) (host : ℕ) (request : Header) (channel : Channel) → IsLegal meaning hosts es
+    → Opening host request channel ∷ [] ≡ of number_of 0 (opening_of es ++ as_main (asked es)) → (more : List Entry) × (es ≡ Opened host request channel ∷ more)
+begins_with meaning hosts [] host request channel legal is = absurd legal
+begins_with meaning hosts (Opened h r c ∷ es) host request channel legal is =
+    let same : Opening host request channel ∷ [] ≡ Opening h r c ∷ of number_of 0 (opening_of es ++ as_main (asked (Opened h r c ∷ es))) = is in
+    (es, cc)
+begins_with meaning hosts (Ran h r draws reply ∷ es) host request channel legal is = absurd legal.0
+begins_with meaning hosts (Died h r count cause ∷ es) host request channel legal is = absurd legal.0
+begins_with meaning hosts (Dead h r count ∷ es) host request channel legal is = absurd legal.0
+begins_with meaning hosts (Sealed h r to ∷ es) host request channel legal is = absurd legal.0
+begins_with meaning hosts (Moved to ∷ es) host request channel legal is = absurd legal.0
+begins_with meaning hosts (Adopted from to r certified objects ∷ es) host request channel legal is = absurd legal.0
+begins_with meaning hosts (Refused h r reason ∷ es) host request channel legal is = absurd legal.0
+begins_with meaning hosts (Resumed h r ∷ es) host request channel legal is = absurd legal.0
+
 -- what two producers and the opening left with the owner
 pub record HasThree (o : MainItem) (first second : List Request) (ends : Held) : Type 0 where
   pub opens : requests_in (o ∷ []) ≡ []
@@ -107,3 +124,8 @@ module _ (es : List Entry) (ends : Held) (o : MainItem) (first second : List Req
         part_is es (suc (suc (suc n))) [] (sym (main_none es ends (suc (suc (suc n))) answered none (omega arith) (omega arith))),
         control_none es ends (suc (suc (suc n))) answered none (omega arith) (omega arith),
       )
+
+  pub opening_first : (meaning : Meaning) (hosts host : ℕ) (request : Header) (channel : Channel) → o ≡ Opening host request channel → IsLegal meaning hosts es
+      → (more : List Entry) × (es ≡ Opened host request channel ∷ more)
+  opening_first meaning hosts host request channel is legal = begins_with meaning hosts es host request channel legal
+      (ap (λ x. x ∷ []) (sym is) ∙ main_all es ends 0 (o ∷ []) answered none (subst (Keeps 0 (o ∷ [])) (sym h.main) (inl (refl, refl))))

@@ -2,6 +2,9 @@
 //!
 //! `start_move` and `finish_move` are the two halves of a move, `work` is a host's worker, and `serve_two` runs two producers
 //! beside the workers and gives the journal. docs/THREADS.md tells who owns what when.
+//!
+//! No contract says when memory runs out, so `serve_two` and `serve_here` would be proved too if they always gave `None`. Therefore
+//! the tests run them.
 #![tactic(auto)]
 
 mod moving;

@@ -1,5 +1,6 @@
-ghost use Rattle.std.specs.Prelude.{◌≡◌, ◌≢◌, ◌≤◌, ◌<◌, ℕ, true, [], ◌∷◌, All, IfSome};
+ghost use Rattle.std.specs.Prelude.{◌≡◌, ◌≢◌, ◌≤◌, ◌<◌, ℕ, true, List, [], ◌∷◌, All, IfSome};
 ghost use Rattle.nb_outside.specs.Feeds.{HasAll};
+ghost use Rattle.session_core.specs.declared.entry.Entry.{Entry};
 ghost use Rattle.session_core.specs.Legal.{IsLegal};
 ghost use Rattle.session_queues.specs.declared.items.MainItem.{MainItem};
 ghost use Rattle.session_queues.specs.Passes.{IsPassOf};
@@ -116,7 +117,8 @@ where
 }
 
 /// Two producers admit these requests, as frontends 1 and 2, while a worker of each host answers. The journal is then
-/// legal and has just these requests, each frontend's in its order. None for want of memory alone.
+/// legal, begins with this opening on host 0, and has just these requests, each frontend's in its order. None for want of
+/// memory alone.
 pub fn serve_two<E, F, N, R>(
     rt: &R,
     alloc: Global,
@@ -142,6 +144,7 @@ where
     ensures first { IfSome result (λ journal. IsPart 1 journal.entries first.now) }
     ensures second { IfSome result (λ journal. IsPart 2 journal.entries second.now) }
     ensures no_other { IfSome result (λ journal. (n : ℕ) → n ≢ 1 → n ≢ 2 → IsPart n journal.entries []) }
+    ensures opened { IfSome result (λ journal. (more : List Entry) × (journal.entries ≡ Entry.Opened 0 opening.0 opening.1 ∷ more)) }
 {
     let (cell, pass) = opened::<E, F, N, R>(rt, alloc, queues, hosts, engine, feed, opening)?;
     let mut pass = pass;
@@ -253,6 +256,7 @@ where
     ensures first { IfSome result (λ journal. IsPart 1 journal.entries first.now) }
     ensures second { IfSome result (λ journal. IsPart 2 journal.entries second.now) }
     ensures no_other { IfSome result (λ journal. (n : ℕ) → n ≢ 1 → n ≢ 2 → IsPart n journal.entries []) }
+    ensures opened { IfSome result (λ journal. (more : List Entry) × (journal.entries ≡ Entry.Opened 0 opening.0 opening.1 ∷ more)) }
 {
     let queues = Queues::new(alloc).ok()?;
     serve_two::<E, F, Brand, R>(

@@ -1,3 +1,4 @@
 pub mod Asked
 pub mod Ran
 pub mod Unmoved
+pub mod Streaming

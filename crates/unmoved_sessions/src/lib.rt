@@ -5,7 +5,9 @@
 #![tactic(auto)]
 
 mod laws;
+mod streams;
 
 pub use laws::{
     a_session_of_cells_is_one_that_never_moves, a_session_of_cells_never_moves_until_it_dies,
 };
+pub use streams::a_stream_of_cells_is_answered_as_by_a_session_that_never_moves;

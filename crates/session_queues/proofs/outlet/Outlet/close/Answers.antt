@@ -2,7 +2,7 @@ use Rattle.std.proofs.Common.{length, ap, subst, ◌∙◌, arith}
 use Rattle.session_core.specs.declared.entry.Entry.{Entry}
 use Rattle.ruled_queue.specs.declared.rule.View.{View}
 use Rattle.session_queues.specs.Ends.{Outgoing, OnOut, pushed_by, pushed_while, IsTakenOf}
-use Rattle.session_queues.proofs.Outgoing.{consumer, producer, first_taken, taken_of, counted, counted_taken}
+use Rattle.session_queues.proofs.Outgoing.{consumer, producer, first_taken, known_joined, taken_of, counted, counted_taken}
 use Rattle.session_queues.proofs.outlet.Outlet.close.Goals as goal
 
 pub one_consumer-requires-clause-consumers : goal.one_consumer-requires-clause-consumers
@@ -11,6 +11,13 @@ one_consumer-requires-clause-consumers g c = let f = c.self.inside in
 
 pub take_back-requires-clause-producer : goal.take_back-requires-clause-producer
 take_back-requires-clause-producer g c = let f = c.self.inside in producer f.closed f.out.me.view.client f.count c.if-self.false c.self.invariant.2
+
+pub invariant_of-self-else-self : goal.invariant_of-self-else-self
+invariant_of-self-else-self g c = let f = c.self.inside in let v = f.out.me.view.client in let r = c.reader.inside.out.me.view.client in (
+  c.drop_left.ensures.queue.1,
+  c.drop_left.ensures.queue.2,
+  (pushed_by v, c.drop_left.ensures.drained (pushed_by v) (known_joined f.closed r v _ f.count c.if-self.false c.reader.invariant.2 c.self.invariant.2 c.take_back.ensures.view)),
+)
 
 pub returns-else-self-clause-taken : goal.returns-else-self-clause-taken
 returns-else-self-clause-taken g c = let f = c.self.inside in let v = f.out.me.view.client in let r = c.reader.inside.out.me.view.client in

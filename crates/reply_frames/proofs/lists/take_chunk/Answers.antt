@@ -1,7 +1,7 @@
 use Rattle.std.proofs.Common.{◌≡◌, length, ap, ◌∙◌, arith}
 use Rattle.std.specs.Prelude.{take, drop, min}
 use Rattle.std.proofs.lemmas.List.{take_min, drop_min}
-use Rattle.reply_frames.proofs.lists.take_part.Goals as goal
+use Rattle.reply_frames.proofs.lists.take_chunk.Goals as goal
 
 pub returns : goal.returns
 returns c =

@@ -1,0 +1,14 @@
+ghost use Rattle.std.specs.Prelude.{◌≡◌};
+ghost use Rattle.py_heap.specs.declared.state.State.{State};
+ghost use Rattle.py_heap.specs.References.{IsClosed};
+ghost use Rattle.graph_model.specs.declared.graph.Graph.{Graph};
+ghost use Rattle.graph_model.specs.declared.plan.Plan.{Plan};
+ghost use Rattle.py_laws.specs.Same.{SameStates};
+ghost use Rattle.checkpoint_bytes.specs.Texts.{checkpoint_text};
+
+/// Closed states that are the same, with an equal count and an equal meter, have one text under each graph and each plan: the graph
+/// needn't be theirs, nor the plan feasible.
+pub fn same_states_have_one_checkpoint_text()
+    ensures { (s t : State) (graph : Graph) (plan : Plan) → IsClosed s → IsClosed t → SameStates s t
+        → checkpoint_text s graph plan ≡ checkpoint_text t graph plan }
+{}

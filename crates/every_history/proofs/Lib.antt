@@ -1,0 +1,6 @@
+pub mod Deciding
+pub mod Linking
+pub mod Telling
+pub mod Recording
+pub mod Writing
+pub mod Histories

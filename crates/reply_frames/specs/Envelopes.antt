@@ -1,0 +1,26 @@
+-- What a message is written from.
+use Rattle.std.specs.Prelude.{[], Option, Some, None}
+use Rattle.serde_json.specs.Data.{Data}
+use Rattle.serde_json.specs.View.{view}
+use Rattle.session_core.specs.declared.request.Header.{Header}
+use Rattle.reply_frames.specs.declared.envelope.HeaderTexts.{HeaderTexts}
+use Rattle.reply_frames.specs.declared.envelope.Envelope.{Envelope}
+use Rattle.reply_frames.specs.Messages.{json}
+use Rattle.reply_frames.specs.Frames.{header_json, envelope}
+
+abbrev pub header_of : HeaderTexts → Header
+header_of h = record {
+  msg_id = h.msg_id.now;
+  username = h.username.now;
+  session = h.session.now;
+  date = h.date.now;
+  msg_type = h.msg_type.now;
+  version = h.version.now;
+}
+
+abbrev pub parent_json : Option HeaderTexts → Data
+parent_json None = json []
+parent_json (Some h) = header_json (header_of h)
+
+abbrev pub json_of : Envelope → Data
+json_of e = envelope e.channel.now (view e.content.now) (header_of e.header) e.kernel.now (parent_json e.parent)
