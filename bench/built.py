@@ -93,6 +93,41 @@ def session_of(codes):
     return opening() + b"".join(cell(number, code) for number, code in enumerate(codes, 1))
 
 
+# ---- a stream of cells as people write them: a function, a dict of lists that grows, and a total that is printed
+
+FIRST = """def add(d, k, v):
+    if k in d:
+        d[k].append(v)
+    else:
+        d[k] = [v]
+d = {}
+total = 0"""
+
+
+def made_code(number):
+    """The code of the cell with this number, from 1."""
+    if number == 1:
+        return FIRST
+    return [f'add(d, "k{number % 7}", {number})', "total += len(d)", "for k in d:\n    total += len(d[k])", "print(total)"][number % 4]
+
+
+def made(cells, every=0):
+    """An opening and so many cells, from two frontends in turn; if `every` isn't 0, a move to the next of three hosts after so many."""
+
+    def one(kind, name, session, content):
+        header = {"date": "", "msg_id": name, "msg_type": kind, "session": session, "username": "made", "version": "5.3"}
+        message = {"channel": "shell", "content": content, "header": header, "kernel": KERNEL}
+        body = json.dumps(message, separators=(",", ":")).encode()
+        return struct.pack(">I", len(body)) + body
+
+    yield one("kernel_open_request", "o", "f1", {"host": 0})
+    for number in range(1, cells + 1):
+        yield one("execute_request", f"c{number}", "f1" if number % 2 else "f2", {"code": made_code(number)})
+        if every and number % every == 0:
+            weights = {"copy_base": 1, "per_byte": 1, "run_base": 1, "per_step": 1}
+            yield one("migrate_request", f"m{number}", "f1", {"to": number // every % 3, **weights})
+
+
 def least(call):
     """The least of three times, and what the call gives."""
     times = []
@@ -108,7 +143,7 @@ def answered(program, words, data):
     done = subprocess.run([program, *words], input=data, stdout=subprocess.PIPE)
     who = os.path.basename(sys.argv[0])
     if done.returncode:
-        sys.exit(f"{who}: {words[0]} ended with status {done.returncode}")
+        sys.exit(f"{who}: {words[0] if words else os.path.basename(program)} ended with status {done.returncode}")
     if b'"status":"error"' in done.stdout:
         said = re.search(rb'"ename":"[^"]*","evalue":"[^"]{0,200}', done.stdout)
         sys.exit(f"{who}: a cell failed: {said[0].decode() if said else ''}")

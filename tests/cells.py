@@ -159,9 +159,9 @@ class Cell(Operations):
             old = self.look(target.id)
             return self.bind(target.id, self.augmented(s.op, old, self.evaluate(s.value, level + 1)))
         container = self.evaluate(target.value, level + 2)
-        place = self.evaluate(target.slice, level + 2)
-        old = self.item(container, place)
-        self.store(container, place, self.augmented(s.op, old, self.evaluate(s.value, level + 1)))
+        index = self.evaluate(target.slice, level + 2)
+        old = self.item(container, index)
+        self.store(container, index, self.augmented(s.op, old, self.evaluate(s.value, level + 1)))
 
     def augmented(self, op, left, right):
         if type(op) is ast.Add and type(left) is ListOf and type(right) is ListOf:

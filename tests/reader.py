@@ -167,7 +167,7 @@ def tokens_of(code):
 
 # ---- the grammar
 
-# PARAM and GLOBAL are names that have to be new there. @ is the place of a statement: in each of CONTEXTS.
+# PARAM and GLOBAL are names that have to be new there. @ is what is around a statement: each of CONTEXTS.
 GRAMMAR = """
 cell       = { statement/T } "END"
 alone      = def "END"
@@ -208,7 +208,7 @@ ORDER = ["tuple", "comprehension", "set", "is", "attribute", "chained assignment
 
 
 def rules_in_text():
-    """Each nonterminal with what it is, as text, for each place where a statement may come."""
+    """Each nonterminal with what it is, as text, for each of CONTEXTS in which a statement may come."""
     lines = re.sub(r"\n\s+\|", " |", GRAMMAR).strip().split("\n")
     for name, _, told in (it.partition("=") for it in lines):
         name, told = name.strip(), told.strip()
@@ -271,7 +271,7 @@ def is_new(tokens, number):
 
 
 class Chart:
-    """What the tokens so far may be the beginning of: for each place between tokens, the rules begun, how far, and where they began."""
+    """What the tokens so far may be the beginning of: for each position between tokens, the rules begun, how far, and where they began."""
 
     def __init__(self, top, sets=None):
         self.top, self.sets = top, sets or []

@@ -22,7 +22,7 @@ class ListOf:
 
 class DictOf:
     def __init__(self):
-        # Python's own dict keeps the place and the spelling of a key that is there, and True is 1 to it.
+        # Python's own dict keeps the position and the spelling of a key that is there, and True is 1 to it.
         self.pairs = {}
 
 
@@ -246,7 +246,7 @@ class Operations:
             raise type_error(f"unhashable type: '{kind(value)}'")
         return value
 
-    def place(self, count, at, error):
+    def position(self, count, at, error):
         if not is_number(at):
             raise type_error("indices must be integers")
         at = int(at) + (count if at < 0 else 0)
@@ -256,9 +256,9 @@ class Operations:
 
     def item(self, container, at):
         if type(container) is str:
-            return self.text(container[self.place(len(container), at, "string index out of range")])
+            return self.text(container[self.position(len(container), at, "string index out of range")])
         if type(container) is ListOf:
-            return container.items[self.place(len(container.items), at, "list index out of range")]
+            return container.items[self.position(len(container.items), at, "list index out of range")]
         if type(container) is DictOf:
             return self.under(container, at)
         raise type_error(f"'{kind(container)}' object is not subscriptable")
@@ -274,7 +274,7 @@ class Operations:
 
     def store(self, container, at, value):
         if type(container) is ListOf:
-            at = self.place(len(container.items), at, "list assignment index out of range")
+            at = self.position(len(container.items), at, "list assignment index out of range")
             self.charge(weight(value))
             container.items[at] = value
         elif type(container) is DictOf:
@@ -284,7 +284,7 @@ class Operations:
 
     def delete(self, container, at):
         if type(container) is ListOf:
-            del container.items[self.place(len(container.items), at, "list assignment index out of range")]
+            del container.items[self.position(len(container.items), at, "list assignment index out of range")]
         elif type(container) is DictOf:
             self.under(container, at)
             del container.pairs[at]
@@ -323,7 +323,7 @@ class Operations:
                 raise wrong
             if not on.items:
                 raise Raised("IndexError", "pop from empty list")
-            return on.items.pop(self.place(len(on.items), at, "pop index out of range"))
+            return on.items.pop(self.position(len(on.items), at, "pop index out of range"))
         elif name == "join":
             if type(args[0]) is not ListOf or not all(type(it) is str for it in args[0].items):
                 raise wrong
