@@ -9,6 +9,9 @@
 //! that no owner of the session is there (`before`), and that who is there stays (`kept`). What lets go who is in a slot is
 //! private to the slot's file. A cell's call that takes the session out and ends it by a call that says so (`discard`,
 //! `into_journal`) would be proved.
+//!
+//! For the same reason a `SessionCell::take` that always says that another host owns the session, a `collect` and a `read` that
+//! never find anything, and a `finish` that always gives the cell back would be proved. The tests of `session_threads` run them.
 #![tactic(auto)]
 
 mod cell;

@@ -3,3 +3,4 @@ pub mod Turning
 pub mod Starting
 pub mod Parting
 pub mod Joining
+pub mod Owning
