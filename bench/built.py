@@ -74,15 +74,15 @@ print(os.waitstatus_to_exitcode(status), usage.ru_maxrss, own)
 """
 
 
-def frame(name, kind, content):
+def frame(name, kind, content, kernel=KERNEL):
     """A request with this msg_id."""
     header = {"date": "", "msg_id": name, "msg_type": kind, "session": "s", "username": "u", "version": "5.3"}
-    body = json.dumps({"channel": "shell", "content": content, "header": header, "kernel": KERNEL}, separators=(",", ":")).encode()
+    body = json.dumps({"channel": "shell", "content": content, "header": header, "kernel": kernel}, separators=(",", ":")).encode()
     return struct.pack(">I", len(body)) + body
 
 
-def opening():
-    return frame("m0", "kernel_open_request", {"host": 0})
+def opening(kernel=KERNEL):
+    return frame("m0", "kernel_open_request", {"host": 0}, kernel)
 
 
 def cell(number, code):
