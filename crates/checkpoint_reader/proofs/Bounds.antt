@@ -1,9 +1,9 @@
 -- A cell that is read began with a meter within the limit.
-use Rattle.std.proofs.Common.{◌≡◌, ℕ, ◌≤◌, Bool, true, false, Ok, Err, inl, inr}
+use Rattle.std.proofs.Common.{ℕ, ◌≤◌, Bool, Ok, Err, inl, inr}
 use Rattle.std.specs.Prelude.{nat_le, List}
 use Rattle.std.proofs.lemmas.Bool.{cases_Bool, leb-true}
 use Rattle.graph_model.specs.declared.graph.CellRecord.{CellRecord}
-use Rattle.checkpoint_reader.specs.Reads.{Answer, Read, pure, place, after, ◌>>=◌}
+use Rattle.checkpoint_reader.specs.Reads.{Answer, Read, place, after, ◌>>=◌}
 use Rattle.checkpoint_reader.specs.Fields.{bounded, code, four, at_most, truth, numbers, names, cell}
 use Rattle.checkpoint_reader.specs.Numbered.{BeganWithin}
 

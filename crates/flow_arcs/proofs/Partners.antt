@@ -1,5 +1,5 @@
 -- What a push along a directed arc changes.
-use Rattle.std.proofs.Common.{◌≡◌, ◌≢◌, ℕ, zero, suc, ◌+◌, ◌-◌, ◌^◌, ◌%◌, ◌<◌, ◌≤◌, cond, ◌==◌, Bool, true, false, List, [], ◌∷◌, ◌++◌, length, get_or, set, drop, ◌*◌, refl, ap, arith}
+use Rattle.std.proofs.Common.{◌≡◌, ◌≢◌, ℕ, zero, suc, ◌+◌, ◌-◌, ◌^◌, ◌%◌, ◌<◌, ◌≤◌, cond, ◌==◌, Bool, true, false, List, [], ◌∷◌, length, get_or, set, drop, ◌*◌, refl, ap, arith}
 use Rattle.std.proofs.lemmas.List.{drop_all, get_or_read, length-set}
 use Rattle.flow_model.specs.declared.Arc.{Arc}
 use Rattle.flow_model.specs.Flows.{given, taken, IsWithin}
@@ -113,13 +113,6 @@ partner_odd zero h = absurd (h refl)
 partner_odd (suc zero) h = refl
 partner_odd (suc (suc e)) h = let r = partner_odd e (λ q. h (omega arith)) in omega arith
 
-pub length_pushed : (rest : List ℕ) (e amount : ℕ) → length (pushed rest e amount) ≡ length rest
-length_pushed [] e amount = refl
-length_pushed (x ∷ []) e amount = refl
-length_pushed (x ∷ y ∷ rest) zero amount = refl
-length_pushed (x ∷ y ∷ rest) (suc zero) amount = refl
-length_pushed (x ∷ y ∷ rest) (suc (suc e)) amount = ap (λ n. suc (suc n)) (length_pushed rest e amount)
-
 pub pushed_read : (rest : List ℕ) (e p amount x y : ℕ) → p ≡ partner e → e < length rest → partner e < length rest → x ≡ get_or rest e x → y ≡ get_or (set rest e (x - amount)) p y
     → set (set rest e (x - amount)) p (y + amount) ≡ pushed rest e amount
 pushed_read rest e p amount x y q h k a b =
@@ -147,20 +140,6 @@ tail_partner [] e h = absurd (omega arith)
 tail_partner (arc ∷ arcs) zero h = refl
 tail_partner (arc ∷ arcs) (suc zero) h = refl
 tail_partner (arc ∷ arcs) (suc (suc e)) h = tail_partner arcs e (omega arith)
-
-pub length_carried : (arcs : List Arc) (rest : List ℕ) → IsPaired arcs rest → length (carried rest) ≡ length arcs
-length_carried [] [] h = refl
-length_carried [] (x ∷ rest) h = absurd h
-length_carried (arc ∷ arcs) [] h = absurd h
-length_carried (arc ∷ arcs) (x ∷ []) h = absurd h
-length_carried (arc ∷ arcs) (x ∷ y ∷ rest) h = ap suc (length_carried arcs rest h.1)
-
-pub carried_even : (arcs : List Arc) (rest more : List ℕ) → IsPaired arcs rest → carried (rest ++ more) ≡ carried rest ++ carried more
-carried_even [] [] more h = refl
-carried_even [] (x ∷ rest) more h = absurd h
-carried_even (arc ∷ arcs) [] more h = absurd h
-carried_even (arc ∷ arcs) (x ∷ []) more h = absurd h
-carried_even (arc ∷ arcs) (x ∷ y ∷ rest) more h = ap (λ r. y ∷ r) (carried_even arcs rest more h.1)
 
 -- what the arcs carry, arc by arc
 pair_at : (arcs : List Arc) (rest : List ℕ) (i j : ℕ) → IsPaired arcs rest → i < length arcs → j ≡ 2 * i

@@ -1,5 +1,5 @@
 -- Flows within their capacities.
-use Rattle.std.proofs.Common.{◌≡◌, ℕ, zero, suc, ◌<◌, ◌≤◌, List, [], ◌∷◌, length, get_or, map, refl, ap, arith}
+use Rattle.std.proofs.Common.{◌≡◌, ℕ, zero, suc, ◌<◌, ◌≤◌, List, [], ◌∷◌, length, get_or, refl, ap, arith}
 use Rattle.flow_model.specs.declared.Arc.{Arc}
 use Rattle.flow_model.specs.Flows.{IsWithin}
 use Rattle.flow_arcs.specs.Ends.{no_arc}
@@ -22,9 +22,3 @@ within_each [] [] e h = tt
 within_each [] (x ∷ flow) e h = absurd (omega arith)
 within_each (arc ∷ arcs) [] e h = absurd (omega arith)
 within_each (arc ∷ arcs) (x ∷ flow) e h = (h 0 (omega arith), within_each arcs flow (omega arith) (λ i k. h (suc i) (omega arith)))
-
--- the capacity at an index of the list of capacities
-pub capacity_at : (arcs : List Arc) (i : ℕ) → get_or (map (λ (arc : Arc). arc.capacity) arcs) i 0 ≡ (get_or arcs i no_arc).capacity
-capacity_at [] i = refl
-capacity_at (arc ∷ arcs) zero = refl
-capacity_at (arc ∷ arcs) (suc i) = capacity_at arcs i

@@ -1,5 +1,5 @@
 -- Sets of names with names added.
-use Rattle.std.proofs.Common.{◌≡◌, ℕ, ◌+◌, ◌<◌, true, false, Option, Some, None, is_some, Bor, Result, Ok, Err, is_err, OnOk, List, [], ◌∷◌, length, get_or, take, refl, sym, ap, ◌∙◌, ◌⊎◌, inl, inr, subst, arith}
+use Rattle.std.proofs.Common.{◌≡◌, ℕ, ◌+◌, ◌<◌, true, false, Option, Some, None, is_some, Bor, List, [], ◌∷◌, length, get_or, take, refl, sym, ap, ◌∙◌, ◌⊎◌, inl, inr, subst, arith}
 use Rattle.std.specs.Prelude.{Contains, slice_get}
 use Rattle.std.specs.Option.{option_copied}
 use Rattle.std.proofs.lemmas.Bool.{false≢true}
@@ -93,7 +93,3 @@ some_of (Some b) g e t none = none-some b.now (sym none ∙ sym e)
 
 pub got_at : {X : Type 0} (ys xs : List X) (i : ℕ) (x : X) → ys ≡ xs → i < length ys → x ≡ get_or ys i x → slice_get xs i ≡ Some x
 got_at ys xs i x same l e = subst (λ zs. slice_get zs i ≡ Some x) same (slice_get_read ys (length ys) i x refl l e)
-
-pub ok_then : {X E P : Type 0} (o : Result X E) → OnOk o P → is_err o ≡ false → P
-ok_then (Ok x) h e = h
-ok_then (Err x) h e = absurd (false≢true (sym e))

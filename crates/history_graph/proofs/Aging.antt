@@ -62,9 +62,6 @@ module _ (g : Graph) (fresh : Names) where
 
 -- ---- marks
 
-pub marked_none : (w : ℕ) (all : List Version) → AreMarked w [] all all
-marked_none w all = record { size = refl; marked = λ k d c. absurd (none_in (k + 1) c); rest = λ k d n. refl }
-
 module _ (w : ℕ) (xs : List ℕ) (i v : ℕ) (l : i < length xs) (is : v ≡ get_or xs i v) (old all : List Version) (h : AreMarked w (take i xs) old all) (x : Version)
     (low : 0 < v) (high : v ≤ length all) (at : x ≡ get_or all (v - 1) x) where
   abbrev Marked : Version → Version

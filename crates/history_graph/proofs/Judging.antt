@@ -27,14 +27,15 @@ use Rattle.history_graph.specs.declared.history.History.{History}
 use Rattle.history_graph.specs.Written.{WasPart, Writes, Keeps}
 use Rattle.history_graph.specs.Left.{Heads, AreHeads, part_size, IsOfLeft, AreOfLeft}
 use Rattle.history_graph.specs.Tallies.{rank, IsHead, Numbers, IsOver, IsFirstOver}
-use Rattle.history_graph.specs.Room.{IsFirstOf}
+use Rattle.history_graph.specs.Texts.{HasManyTexts}
+use Rattle.history_graph.specs.Room.{IsFirstWith}
 use Rattle.history_graph.proofs.Bridge.{handle_held}
 use Rattle.history_graph.proofs.Ending.{same_names}
 use Rattle.history_graph.proofs.Heading.{least_value}
 use Rattle.history_graph.proofs.Keys.{keys_ascend, in_keys, of_keys}
 use Rattle.history_graph.proofs.Leaving.{zip_forth}
 
-module _ (h : History) (s : State) (marks : Marks) (now : Parts) (are : ArePartsOf s now) (heads : Heads) (left : AreHeads h.parts now marks s heads) where
+module _ (h : History) (s : State) (code : List ℕ) (marks : Marks) (now : Parts) (are : ArePartsOf s now) (heads : Heads) (left : AreHeads h.parts now marks s heads) where
   part_at : (n : ℕ) (p : Part) → slice_get now.list n ≡ Some p → IsPartOf s p
   part_at n p at = All-contains (IsPartOf s) now.list p are.parts (in_of_get now.list n p at)
 
@@ -85,7 +86,7 @@ module _ (h : History) (s : State) (marks : Marks) (now : Parts) (are : AreParts
   of_head x (inl (p, is, w, e)) = subst (λ y. Contains (finite.keys heads) y) e (in_keys heads (least_name p.names) (ap is_some (headed p is w).4))
   of_head x (inr gone) = in_keys heads x (ap is_some (left.all_gone x gone))
 
-  counted : (n : ℕ) → Numbers h s marks tally.Versions n → n ≡ length h.graph.versions + length (finite.keys heads)
+  counted : (n : ℕ) → Numbers h s code marks tally.Versions n → n ≡ length h.graph.versions + length (finite.keys heads)
   counted n (names, up, members, e) =
       let same : names ≡ finite.keys heads = same_list TextBelow below_on never_below_itself names (finite.keys heads) up (keys_ascend heads) (λ x c. of_head x ((members x).0 c)) (λ x c. (members x).1 (to_head x c)) in
       e ∙ ap (λ (xs : List Name). length h.graph.versions + length xs) same
@@ -116,17 +117,20 @@ module _ (h : History) (s : State) (marks : Marks) (now : Parts) (are : AreParts
   AreSmall = (p : Part) → IsPartOf s p → Writes h.parts marks p → p.handle ≡ false → length (part_text s p.names) < 4294967296
 
   none_over : (m : ℕ) → (1 < m → length h.graph.cells + 1 < 4294967296) → (2 < m → length h.graph.versions + length (finite.keys heads) < 4294967296)
-      → (3 < m → length (finite.keys s.globals) < 4294967296) → (5 < m → AreSmall) → (u : Tally) → rank u < m → ¬ IsOver h s marks u
-  none_over m cells versions names bytes tally.Count l o = o.1
-  none_over m cells versions names bytes tally.Cells l (n, e, k) = let a = cells l in omega (arith, a, e, k)
-  none_over m cells versions names bytes tally.Versions l (n, e, k) = let a = versions l in let b = counted n e in omega (arith, a, b, k)
-  none_over m cells versions names bytes tally.Names l (n, e, k) = let a = names l in omega (arith, a, e, k)
-  none_over m cells versions names bytes tally.Texts l o = o.1
-  none_over m cells versions names bytes tally.Bytes l (n, (p, is, w, f, e), k) = let a = bytes l p is w f in omega (arith, a, e, k)
+      → (3 < m → length (finite.keys s.globals) < 4294967296) → (4 < m → ¬ HasManyTexts h.graph s code) → (5 < m → AreSmall) → (u : Tally) → rank u < m
+      → ¬ IsOver h s code marks u
+  none_over m cells versions names texts bytes tally.Count l o = o.1
+  none_over m cells versions names texts bytes tally.Cells l (n, e, k) = let a = cells l in omega (arith, a, e, k)
+  none_over m cells versions names texts bytes tally.Versions l (n, e, k) = let a = versions l in let b = counted n e in omega (arith, a, b, k)
+  none_over m cells versions names texts bytes tally.Names l (n, e, k) = let a = names l in omega (arith, a, e, k)
+  none_over m cells versions names texts bytes tally.Texts l o = texts l o
+  none_over m cells versions names texts bytes tally.Bytes l (n, (p, is, w, f, e), k) = let a = bytes l p is w f in omega (arith, a, e, k)
 
-  pub all_fit : IsFirstOf (length h.graph.cells) (length h.graph.versions) (length (finite.keys heads)) (length (finite.keys s.globals)) None → AreSmall
-      → (t : Tally) → ¬ IsOver h s marks t
-  all_fit room bytes t = none_over 6 (λ l. room.0) (λ l. room.1) (λ l. room.2) (λ l. bytes) t (below t)
+  abbrev Room : Option Tally → Type 0
+  Room o = IsFirstWith (length h.graph.cells) (length h.graph.versions) (length (finite.keys heads)) (length (finite.keys s.globals)) (HasManyTexts h.graph s code) o
+
+  pub all_fit : Room None → AreSmall → (t : Tally) → ¬ IsOver h s code marks t
+  all_fit room bytes t = none_over 6 (λ l. room.0.0) (λ l. room.0.1) (λ l. room.0.2) (λ l. room.1) (λ l. bytes) t (below t)
     where
       below : (u : Tally) → rank u < 6
       below tally.Count = omega arith
@@ -136,31 +140,28 @@ module _ (h : History) (s : State) (marks : Marks) (now : Parts) (are : AreParts
       below tally.Texts = omega arith
       below tally.Bytes = omega arith
 
-  abbrev Room : Option Tally → Type 0
-  Room o = IsFirstOf (length h.graph.cells) (length h.graph.versions) (length (finite.keys heads)) (length (finite.keys s.globals)) o
-
-  pub first_over : (t : Tally) → Room (Some t) → IsFirstOver h s marks t
+  pub first_over : (t : Tally) → Room (Some t) → IsFirstOver h s code marks t
   first_over tally.Count room = absurd room
   first_over tally.Cells room = (
     (length h.graph.cells + 1, refl, room),
-    none_over 1 (λ l. absurd (omega (arith, l))) (λ l. absurd (omega (arith, l))) (λ l. absurd (omega (arith, l))) (λ l. absurd (omega (arith, l))),
+    none_over 1 (λ l. absurd (omega (arith, l))) (λ l. absurd (omega (arith, l))) (λ l. absurd (omega (arith, l))) (λ l. absurd (omega (arith, l))) (λ l. absurd (omega (arith, l))),
   )
   first_over tally.Versions room = (
     (length h.graph.versions + length (finite.keys heads), (finite.keys heads, keys_ascend heads, (λ x. (to_head x, of_head x)), refl), room.1),
-    none_over 2 (λ l. room.0) (λ l. absurd (omega (arith, l))) (λ l. absurd (omega (arith, l))) (λ l. absurd (omega (arith, l))),
+    none_over 2 (λ l. room.0) (λ l. absurd (omega (arith, l))) (λ l. absurd (omega (arith, l))) (λ l. absurd (omega (arith, l))) (λ l. absurd (omega (arith, l))),
   )
   first_over tally.Names room = (
     (length (finite.keys s.globals), refl, room.2),
-    none_over 3 (λ l. room.0) (λ l. room.1) (λ l. absurd (omega (arith, l))) (λ l. absurd (omega (arith, l))),
+    none_over 3 (λ l. room.0) (λ l. room.1) (λ l. absurd (omega (arith, l))) (λ l. absurd (omega (arith, l))) (λ l. absurd (omega (arith, l))),
   )
-  first_over tally.Texts room = absurd room
+  first_over tally.Texts room = (room.1, none_over 4 (λ l. room.0.0) (λ l. room.0.1) (λ l. room.0.2) (λ l. absurd (omega (arith, l))) (λ l. absurd (omega (arith, l))))
   first_over tally.Bytes room = absurd room
 
   pub bytes_over : Room None → (name : Name) (n : ℕ) (p : Part) → finite.get heads name ≡ Some (lefts.Part n) → slice_get now.list n ≡ Some p → p.handle ≡ false
-      → 4294967296 ≤ length (part_text s p.names) → IsFirstOver h s marks tally.Bytes
+      → 4294967296 ≤ length (part_text s p.names) → IsFirstOver h s code marks tally.Bytes
   bytes_over room name n p g at f l =
       let a = left.parts name n g in
       let same : a.0 ≡ p = same_Some a.0 p (sym a.1 ∙ at) in (
         (length (part_text s p.names), (p, part_at n p at, subst (Writes h.parts marks) same a.3, f, refl), l),
-        none_over 5 (λ l. room.0) (λ l. room.1) (λ l. room.2) (λ l. absurd (omega (arith, l))),
+        none_over 5 (λ l. room.0.0) (λ l. room.0.1) (λ l. room.0.2) (λ l. room.1) (λ l. absurd (omega (arith, l))),
       )

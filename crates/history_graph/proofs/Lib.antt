@@ -1,5 +1,8 @@
 pub mod Adding
+pub mod Items
+pub mod Amounts
 pub mod Keys
+pub mod Counted
 pub mod Listing
 pub mod Reading
 pub mod Missed

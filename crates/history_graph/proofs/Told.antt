@@ -1,8 +1,9 @@
 -- What the call that ends a cell answers.
-use Rattle.std.proofs.Common.{◌≡◌, ℕ, ◌+◌, ◌<◌, ◌≤◌, false, List, [], ◌∷◌, length, Option, Some, None, refl, sym, ap, subst, arith, length-append}
+use Rattle.std.proofs.Common.{◌≡◌, ℕ, ◌+◌, ◌<◌, ◌≤◌, false, List, [], ◌∷◌, length, is_some, Option, Some, None, refl, sym, ap, subst, arith, length-append}
 use Rattle.std.specs.Prelude.{slice_get}
 use Rattle.std.specs.List.{AllZip}
 use Rattle.std.specs.FinMap as finite
+use Rattle.std.proofs.lemmas.Bool.{false≢true}
 use Rattle.py_heap.specs.declared.state.State.{State}
 use Rattle.py_machine.specs.declared.marks.Marks.{Marks}
 use Rattle.py_machine.specs.Marked.{Name}
@@ -22,7 +23,8 @@ use Rattle.history_graph.specs.declared.history.History.{History}
 use Rattle.run_graph.specs.Growing.{IsAged}
 use Rattle.history_graph.specs.Left.{Heads, AreHeads, IsOfLeft, AreOfLeft}
 use Rattle.history_graph.specs.Grown.{IsGrown}
-use Rattle.history_graph.specs.Room.{IsFirstOf}
+use Rattle.history_graph.specs.Texts.{HasManyTexts}
+use Rattle.history_graph.specs.Room.{IsFirstOf, IsFirstWith}
 use Rattle.history_graph.specs.Tallies.{OnTally, IsFirstOver}
 use Rattle.history_graph.proofs.Judging.{bytes_over}
 
@@ -31,15 +33,25 @@ abbrev pub IsLong : State → Parts → Heads → Tally → Type 0
 IsLong s now heads t = (t ≡ tally.Bytes) × (name : Name) × (n : ℕ) × (p : Part) × (finite.get heads name ≡ Some (lefts.Part n)) × (slice_get now.list n ≡ Some p)
     × (p.handle ≡ false) × (4294967296 ≤ length (part_text s p.names))
 
-module _ (h : History) (s : State) (marks : Marks) (now : Parts) (are : ArePartsOf s now) (heads : Heads) (left : (t : State) → ArePartsOf t h.parts → AreHeads h.parts now marks s heads)
-    (room : IsFirstOf (length h.graph.cells) (length h.graph.versions) (length (finite.keys heads)) (length (finite.keys s.globals)) None) where
-  pub long_over : (e : HistoryFault) → OnTally (IsLong s now heads) e → OnTally (λ t. (u : State) → ArePartsOf u h.parts → IsFirstOver h s marks t) e
+module _ (h : History) (s : State) (code : List ℕ) (marks : Marks) (now : Parts) (are : ArePartsOf s now) (heads : Heads) (left : (t : State) → ArePartsOf t h.parts → AreHeads h.parts now marks s heads)
+    (room : IsFirstWith (length h.graph.cells) (length h.graph.versions) (length (finite.keys heads)) (length (finite.keys s.globals)) (HasManyTexts h.graph s code) None) where
+  pub long_over : (e : HistoryFault) → OnTally (IsLong s now heads) e → OnTally (λ t. (u : State) → ArePartsOf u h.parts → IsFirstOver h s code marks t) e
   long_over (fault.TooMany t) k = λ u before.
-      subst (IsFirstOver h s marks) (sym k.0) (bytes_over h s marks now are heads (left u before) room k.1 k.2 k.3 k.4 k.5 k.6 k.7)
+      subst (IsFirstOver h s code marks) (sym k.0) (bytes_over h s code marks now are heads (left u before) room k.1 k.2 k.3 k.4 k.5 k.6 k.7)
   long_over fault.OutOfMemory k = tt
 
-pub room_at : (cells versions n names m : ℕ) (o p : Option Tally) → n ≡ m → o ≡ p → IsFirstOf cells versions n names o → IsFirstOf cells versions m names p
-room_at cells versions n names m o p e f h = subst (λ q. IsFirstOf cells versions m names q) f (subst (λ k. IsFirstOf cells versions k names o) e h)
+pub room_at : (cells versions n names m : ℕ) (Many : Type 0) (o p : Option Tally) → n ≡ m → o ≡ p → IsFirstWith cells versions n names Many o
+    → IsFirstWith cells versions m names Many p
+room_at cells versions n names m Many o p e f h = subst (λ q. IsFirstWith cells versions m names Many q) f (subst (λ k. IsFirstWith cells versions k names Many o) e h)
+
+pub none_first : (cells versions news names a b n : ℕ) (o : Option Tally) → a ≡ cells → b ≡ versions → n ≡ names → is_some o ≡ false → IsFirstOf a b news n o
+    → IsFirstOf cells versions news names None
+none_first cells versions news names a b n None e f g is h =
+    let k = h.0 in
+    let l = h.1 in
+    let m = h.2 in
+    (omega (arith, e, k), omega (arith, f, l), omega (arith, g, m))
+none_first cells versions news names a b n (Some t) e f g is h = absurd (false≢true (sym is))
 
 -- ---- how many cells and versions there are then
 

@@ -4,6 +4,7 @@ pub mod Touched
 pub mod Written
 pub mod Left
 pub mod Grown
+pub mod Texts
 pub mod Tallies
 pub mod Room
 pub mod Ends

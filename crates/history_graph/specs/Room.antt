@@ -12,3 +12,13 @@ IsFirstOf cells versions news names (Some tally.Names) = (cells + 1 < 4294967296
 IsFirstOf cells versions news names (Some tally.Count) = ⊥
 IsFirstOf cells versions news names (Some tally.Texts) = ⊥
 IsFirstOf cells versions news names (Some tally.Bytes) = ⊥
+
+-- of these numbers, and then of the texts, of which it is said whether there are too many
+abbrev pub IsFirstWith : ℕ → ℕ → ℕ → ℕ → Type 0 → Option Tally → Type 0
+IsFirstWith cells versions news names Many None = IsFirstOf cells versions news names None × (¬ Many)
+IsFirstWith cells versions news names Many (Some tally.Texts) = IsFirstOf cells versions news names None × Many
+IsFirstWith cells versions news names Many (Some tally.Count) = IsFirstOf cells versions news names (Some tally.Count)
+IsFirstWith cells versions news names Many (Some tally.Cells) = IsFirstOf cells versions news names (Some tally.Cells)
+IsFirstWith cells versions news names Many (Some tally.Versions) = IsFirstOf cells versions news names (Some tally.Versions)
+IsFirstWith cells versions news names Many (Some tally.Names) = IsFirstOf cells versions news names (Some tally.Names)
+IsFirstWith cells versions news names Many (Some tally.Bytes) = IsFirstOf cells versions news names (Some tally.Bytes)

@@ -16,6 +16,7 @@ use Rattle.history_graph.specs.declared.fault.HistoryFault.TheVariants as fault
 use Rattle.history_graph.specs.declared.history.History.{History}
 use Rattle.history_graph.specs.Written.{Writes}
 use Rattle.history_graph.specs.Left.{IsGone}
+use Rattle.history_graph.specs.Texts.{IsNumberOfTexts}
 
 -- what is said of a number is said
 abbrev pub OnTally : (Tally → Type 0) → HistoryFault → Type 0
@@ -35,21 +36,21 @@ rank tally.Bytes = 5
 abbrev pub IsHead : Parts → State → Marks → Name → Type 0
 IsHead before s marks x = ((p : Part) × IsPartOf s p × Writes before marks p × (least_name p.names ≡ x)) ⊎ IsGone s marks x
 
--- after a cell that ended in this state with these marks: the number of cells, of versions, of names with a value, and of the
--- bytes of a part that the cell wrote. A session's count isn't a history's
-abbrev pub Numbers : History → State → Marks → Tally → ℕ → Type 0
-Numbers h s marks tally.Count n = ⊥
-Numbers h s marks tally.Cells n = n ≡ length h.graph.cells + 1
-Numbers h s marks tally.Versions n = (heads : List Name) × Ascends TextBelow heads × ((x : Name) → Contains heads x ↔ IsHead h.parts s marks x)
+-- after a cell with this code that ended in this state with these marks: the number of cells, of versions, of names with a
+-- value, of distinct texts, and of the bytes of a part that the cell wrote. A session's count isn't a history's
+abbrev pub Numbers : History → State → List ℕ → Marks → Tally → ℕ → Type 0
+Numbers h s code marks tally.Count n = ⊥
+Numbers h s code marks tally.Cells n = n ≡ length h.graph.cells + 1
+Numbers h s code marks tally.Versions n = (heads : List Name) × Ascends TextBelow heads × ((x : Name) → Contains heads x ↔ IsHead h.parts s marks x)
     × (n ≡ length h.graph.versions + length heads)
-Numbers h s marks tally.Names n = n ≡ length (finite.keys s.globals)
-Numbers h s marks tally.Texts n = ⊥
-Numbers h s marks tally.Bytes n = (p : Part) × IsPartOf s p × Writes h.parts marks p × (p.handle ≡ false) × (n ≡ length (part_text s p.names))
+Numbers h s code marks tally.Names n = n ≡ length (finite.keys s.globals)
+Numbers h s code marks tally.Texts n = IsNumberOfTexts h.graph s code n
+Numbers h s code marks tally.Bytes n = (p : Part) × IsPartOf s p × Writes h.parts marks p × (p.handle ≡ false) × (n ≡ length (part_text s p.names))
 
 -- the number reaches 2^32
-abbrev pub IsOver : History → State → Marks → Tally → Type 0
-IsOver h s marks t = (n : ℕ) × Numbers h s marks t n × (4294967296 ≤ n)
+abbrev pub IsOver : History → State → List ℕ → Marks → Tally → Type 0
+IsOver h s code marks t = (n : ℕ) × Numbers h s code marks t n × (4294967296 ≤ n)
 
 -- it is the first that does
-abbrev pub IsFirstOver : History → State → Marks → Tally → Type 0
-IsFirstOver h s marks t = IsOver h s marks t × ((u : Tally) → rank u < rank t → ¬ IsOver h s marks u)
+abbrev pub IsFirstOver : History → State → List ℕ → Marks → Tally → Type 0
+IsFirstOver h s code marks t = IsOver h s code marks t × ((u : Tally) → rank u < rank t → ¬ IsOver h s code marks u)

@@ -5,7 +5,8 @@ ghost use Rattle.py_heap.specs.References.{IsClosed};
 ghost use Rattle.graph_model.specs.declared.plan.Tally.{Tally};
 ghost use Rattle.linked_parts.specs.Parts.{ArePartsOf};
 ghost use Rattle.history_graph.specs.Tallies.{OnTally, IsOver, IsFirstOver};
-ghost use Rattle.history_graph.specs.Room.{IsFirstOf};
+ghost use Rattle.history_graph.specs.Texts.{HasManyTexts};
+ghost use Rattle.history_graph.specs.Room.{IsFirstWith};
 ghost use Rattle.history_graph.specs.Ends.{Makes};
 
 use crate::active::ActiveGraph;
@@ -13,6 +14,7 @@ use crate::fault::HistoryFault;
 use crate::heads::heads_of;
 use crate::record::record_of;
 use crate::room::first_over;
+use crate::texts::are_many;
 use crate::versions::versions_of;
 use graph_model::{Graph, Tally};
 use linked_parts::{Parts, parts_of};
@@ -57,19 +59,41 @@ impl History {
         self.graph.graph()
     }
 
-    /// The first of the numbers of cells, of versions and of names that is 2^32 or more, with a cell that leaves `news`
-    /// versions and ends in this state.
-    fn over(&self, alloc: Global, state: &State, news: usize) -> Result<Option<Tally>, AllocError>
-        ensures { IfOk result (λ over. IsFirstOf (length self.now.graph.cells) (length self.now.graph.versions) news (length (finite.keys state.now.globals)) over) }
+    /// The first of the numbers of cells, of versions, of names and of distinct texts that is 2^32 or more, with a cell of
+    /// this code that leaves `news` versions and ends in this state, whose parts these are.
+    fn over(
+        &self,
+        alloc: Global,
+        state: &State,
+        parts: &Parts,
+        code: &str,
+        news: usize,
+    ) -> Result<Option<Tally>, AllocError>
+        requires closed { IsClosed state.now }
+        requires parts { ArePartsOf state.now parts.now }
+        ensures { IfOk result (λ over. IsFirstWith (length self.now.graph.cells) (length self.now.graph.versions) news (length (finite.keys state.now.globals)) (HasManyTexts self.now.graph state.now code.now) over) }
     {
         let names = state.names(alloc)?;
         let graph = self.graph.graph();
-        Ok(first_over(graph.cells.len(), graph.versions.len(), news, names.len()))
+        let first = first_over(graph.cells.len(), graph.versions.len(), news, names.len());
+        if first.is_some() {
+            return Ok(first);
+        }
+        if are_many(alloc, graph, state, parts, names.as_slice(), code)? {
+            return Ok(Some(Tally::Texts));
+        }
+        Ok(None)
     }
 
     /// Adds a cell that ended in this state, with its code, the meter as it began, its steps and its marks: its record, and
     /// a version of each part that it wrote and of each name that it deleted. After `OutOfMemory` nothing is changed; after
     /// `TooMany` a history is only dropped.
+    ///
+    /// It answers `TooMany` exactly if one of five numbers would be 2^32 or more after the cell, and with the first of them
+    /// that would: those of cells; of versions; of names with a value; of distinct texts, counted together, of the codes of
+    /// the cells, of the values of names, and of the objects that names reach (a list's items, a dict's keys and values, the
+    /// source of a function, the name of a handle); and of the bytes of a part that the cell wrote and that holds no handle.
+    /// Texts are counted one by one only if the slots that could have them are that many.
     ///
     /// It goes over the versions that hold and their names, and over the names and objects of the state; each name is looked
     /// for in an ordered map. So the cost is that of finding the parts, and beside it near-linear in the names of the session
@@ -87,14 +111,14 @@ impl History {
         ensures next { OnOk result (Makes state.now code.now meter steps marks.now self.old self.new) }
         ensures parts { OnOk result (ArePartsOf state.now self.new.parts) }
         ensures few { OnOk result ((length self.new.graph.cells < 2 ^ 32) × (length self.new.graph.versions < 2 ^ 32)) }
-        ensures fits { OnOk result ((s : State) → ArePartsOf s self.old.parts → (t : Tally) → ¬ IsOver self.old state.now marks.now t) }
-        ensures too_many { IfErr result (OnTally (λ t. (s : State) → ArePartsOf s self.old.parts → IsFirstOver self.old state.now marks.now t)) }
+        ensures fits { OnOk result ((s : State) → ArePartsOf s self.old.parts → (t : Tally) → ¬ IsOver self.old state.now code.now marks.now t) }
+        ensures too_many { IfErr result (OnTally (λ t. (s : State) → ArePartsOf s self.old.parts → IsFirstOver self.old state.now code.now marks.now t)) }
         ensures memory { result ≡ Err HistoryFault.OutOfMemory → self.new ≡ self.old }
     {
         let parts = parts_of(alloc, state)?;
         let heads = heads_of(alloc, state, &self.parts, &parts, marks)?;
         let names = heads.names(alloc)?;
-        if let Some(tally) = self.over(alloc, state, names.len())? {
+        if let Some(tally) = self.over(alloc, state, &parts, code, names.len())? {
             return Err(HistoryFault::TooMany(tally));
         }
         let cell = record_of(alloc, &self.graph, code, meter, steps, marks)?;

@@ -2,7 +2,8 @@
 //!
 //! After each cell the parts of the state are found, and the graph gets the cell's record, a version of each part that the
 //! cell wrote and of each name that it deleted, and a mark at each version that these replace. What a history graph is:
-//! docs/HISTORY.md. (Li et al., ElasticNotebook, PVLDB 17(2).)
+//! docs/HISTORY.md. (Li et al., ElasticNotebook, PVLDB 17(2).) A cell that would bring the number of cells, of versions, of
+//! names, of distinct texts or of the bytes of a part to 2^32 isn't added, and the answer says which number it is.
 #![tactic(auto)]
 
 mod active;
@@ -16,6 +17,9 @@ mod reads;
 mod record;
 mod room;
 mod sets;
+#[cfg(test)]
+mod tests;
+mod texts;
 mod versions;
 mod written;
 

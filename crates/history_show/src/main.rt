@@ -8,87 +8,99 @@
 //!     version 2: x, by 2, replaced by 4, absent
 //!     version 3: y, by 3, size 27
 //!
-//! and an empty line. A line may also be an object with `cells`, such an array, and `weights`, an array of what a copy costs,
-//! each of its bytes, a run and each of its steps. Then the graph is followed by the lines of a plan of least cost and the
-//! session's checkpoint under that plan:
+//! and an empty line. A line may also be an object with `cells`, such an array, and more, if there is more to say:
 //!
-//!     cost 2 flow 2
-//!     copy v2 y
-//!     run c1
-//!     arc s v1 2
-//!     checkpoint 454e434b0001..
+//! - `weights`, an array of what a copy costs, each of its bytes, a run and each of its steps. Then the graph is followed by the
+//!   lines of a plan of least cost and the session's checkpoint under that plan:
 //!
-//! or `stuck v2 c1`, if version 2 can neither be copied nor made again, since cell 1 drew.
+//!       cost 2 flow 2
+//!       copy v2 y
+//!       run c1
+//!       arc s v1 2
+//!       checkpoint 454e434b0001..
+//!
+//!   or `stuck v2 c1`, if version 2 can neither be copied nor made again, since cell 1 drew.
+//! - `draws`, an array of the words that the session draws in place of 7, 8 and 9.
+//! - `checkpoint`, the bytes of a checkpoint in hexadecimal digits, under whatever plan. The session is restored from them, on
+//!   host 0, and the cells run in it as its next ones; `cells` may be left out if there are none. All that is printed is as for a
+//!   session that never moved, with its cells before these. If the bytes are restored to no session, the reason is printed alone:
+//!
+//!       not restored: cell 1 draws again
 #![tactic(auto)]
 
-ghost use Rattle.std.specs.Prelude.{IfOk};
+ghost use Rattle.std.specs.Prelude.{OnOk};
 ghost use Rattle.py_heap.specs.References.{IsClosed};
 
+mod given;
 mod plans;
 mod session;
 mod words;
 
 use anyhow::{Result, bail};
-use graph_model::Weights;
+use given::{bytes_of, feed_of, weights_of};
 use plain_data::Text;
 use plans::put_checkpoint;
+use restore_run::RestoreFault;
 use serde_json::Value;
 use session::ShownSession;
 use std::alloc::Global;
 use std::io::{BufRead, BufReader};
 use words::graph_text;
 
-/// A session that ran these cells.
-fn session_of(alloc: Global, cells: &Value) -> Result<ShownSession>
-    ensures { IfOk result (λ session. IsClosed session.kernel.state) }
+/// Runs these cells in a session, if there are any.
+fn run_cells(alloc: Global, session: &mut ShownSession, cells: Option<&Value>) -> Result<()>
+    requires { IsClosed session.old.kernel.state }
+    ensures { OnOk result (IsClosed session.new.kernel.state) }
 {
+    let Some(cells) = cells else {
+        return Ok(());
+    };
     let Some(codes) = cells.as_array() else {
         bail!("the cells are no array of codes")
     };
-    let mut session = ShownSession::new(alloc)?;
     for code in codes.as_slice() {
         let Some(code) = code.as_str() else {
             bail!("a code is no text")
         };
         session.end(alloc, code)?;
     }
-    Ok(session)
+    Ok(())
 }
 
-/// The weight with that number.
-fn weight(weights: &Value, number: usize) -> Result<u64> {
-    let Some(weight) = weights
-        .as_array()
-        .and_then(|all| all.as_slice().get(number))
-    else {
-        bail!("there are fewer than four weights")
-    };
-    match weight.as_u64() {
-        Some(weight) => Ok(weight),
-        None => bail!("a weight is no number"),
-    }
-}
-
-fn weights_of(weights: &Value) -> Result<Weights> {
-    Ok(Weights {
-        copy_base: weight(weights, 0)?,
-        per_byte: weight(weights, 1)?,
-        run_base: weight(weights, 2)?,
-        per_step: weight(weights, 3)?,
-    })
-}
-
-/// What is shown of a line.
-fn shown(alloc: Global, line: &Value) -> Result<Text> {
-    let cells = line.get("cells").unwrap_or(line);
-    let session = session_of(alloc, cells)?;
+/// What is shown of a session once the cells of a line ran in it.
+fn shown_after(
+    alloc: Global,
+    mut session: ShownSession,
+    cells: Option<&Value>,
+    weights: Option<&Value>,
+) -> Result<Text>
+    requires { IsClosed session.kernel.state }
+{
+    run_cells(alloc, &mut session, cells)?;
     let graph = session.history.graph();
     let mut text = graph_text(alloc, graph)?;
-    if let Some(weights) = line.get("weights") {
+    if let Some(weights) = weights {
         let weights = weights_of(weights)?;
         put_checkpoint(alloc, &mut text, &session.kernel.state, graph, &weights)?;
     }
     Ok(text)
+}
+
+/// What is shown of a line.
+fn shown(alloc: Global, line: &Value) -> Result<Text> {
+    let feed = feed_of(alloc, line)?;
+    let cells = line.get("cells");
+    let weights = line.get("weights");
+    let Some(checkpoint) = line.get("checkpoint") else {
+        let cells = cells.unwrap_or(line);
+        return shown_after(alloc, ShownSession::new(alloc, feed), Some(cells), weights);
+    };
+    let bytes = bytes_of(alloc, checkpoint)?;
+    match ShownSession::restored(alloc, bytes.as_slice(), feed) {
+        Ok(session) => shown_after(alloc, session, cells, weights),
+        Err(RestoreFault::OutOfMemory) => bail!("out of memory"),
+        Err(fault) => Ok(Text::from_string(format!(in alloc; "not restored: {fault}\n")?)),
+    }
 }
 
 fn main(rt: HostRuntime) -> Result<()> {
@@ -96,8 +108,8 @@ fn main(rt: HostRuntime) -> Result<()> {
     let input = BufReader::new(alloc, rt.stdin())?;
     for line in input.lines(alloc) {
         let line = line?;
-        let cells = Value::from_str(alloc, line.as_str())?;
-        let text = shown(alloc, &cells)?;
+        let given = Value::from_str(alloc, line.as_str())?;
+        let text = shown(alloc, &given)?;
         println!(rt; "{}", text.as_str())?;
     }
     Ok(())

@@ -2,13 +2,14 @@ ghost use Rattle.std.specs.Prelude.{IfOk, OnOk};
 ghost use Rattle.py_heap.specs.References.{IsClosed};
 
 use history_graph::{History, HistoryFault};
-use nb_outside::{Drawn, MemFeed};
+use nb_outside::MemFeed;
 use py_heap::operations_keep_closed;
 use py_kernel::Kernel;
 use py_laws::cells_keep_states_closed;
 use py_machine::Marks;
 use py_meaning::CellEnd;
 use py_reader::{ReadError, read_cell};
+use restore_run::{RestoreFault, Restored, restore};
 use std::alloc::{AllocError, Global};
 
 /// What is kept of a cell that ended.
@@ -69,16 +70,36 @@ pub struct ShownSession {
 }
 
 impl ShownSession {
-    /// One without cells, which draws 7, 8 and 9.
-    pub fn new(alloc: Global) -> Result<ShownSession, AllocError>
-        ensures { IfOk result (λ session. IsClosed session.kernel.state) }
+    /// One without cells, which draws from this feed.
+    pub fn new(alloc: Global, feed: MemFeed) -> ShownSession
+        ensures { IsClosed result.kernel.state }
     {
         operations_keep_closed();
-        let draws = vec![in alloc; Drawn::Word(7), Drawn::Word(8), Drawn::Word(9)]?;
-        Ok(ShownSession {
+        ShownSession {
             kernel: Kernel::new(alloc, 0),
-            feed: MemFeed::new(draws),
+            feed,
             history: History::new(alloc),
+        }
+    }
+
+    /// The one that the bytes of a checkpoint are restored to, on host 0. It draws from this feed.
+    pub fn restored(
+        alloc: Global,
+        bytes: &[u8],
+        feed: MemFeed,
+    ) -> Result<ShownSession, RestoreFault>
+        ensures { IfOk result (λ session. IsClosed session.kernel.state) }
+    {
+        let restored = restore(alloc, bytes, 0)?;
+        let Restored {
+            kernel,
+            history,
+            ..
+        } = restored;
+        Ok(ShownSession {
+            kernel,
+            feed,
+            history,
         })
     }
 

@@ -1,26 +1,23 @@
 -- The parts of a state by the labels of its names.
-use Rattle.std.proofs.Common.{◌≡◌, ◌≢◌, ℕ, ◌+◌, ◌<◌, ◌≤◌, List, [], ◌∷◌, ◌++◌, length, slice_index, sym, ap, ◌∙◌, inl, inr, subst, arith}
-use Rattle.std.specs.Prelude.{Contains, ◌↔◌, All, AllPairs}
-use Rattle.std.specs.List.Sorted.{IsPermutation, IsSorted}
-use Rattle.std.specs.Ordering.{nat_cmp}
-use Rattle.std.proofs.Common.{eqb}
+use Rattle.std.proofs.Common.{◌≡◌, ◌≢◌, ℕ, ◌+◌, ◌<◌, ◌≤◌, List, [], ◌∷◌, ◌++◌, length, get_or, set, slice_index, Option, None, refl, sym, ap, ◌∙◌, inl, inr, subst, arith}
+use Rattle.std.specs.Prelude.{Contains, ◌↔◌, All, IsTrue}
 use Rattle.std.proofs.lemmas.Bool.{cases_eq, cases_lt, cases_order}
-use Rattle.std.proofs.lemmas.Bool.Decides.{Decides-eqb}
-use Rattle.std.proofs.lemmas.Cmp.{nat_eq_equiv}
+use Rattle.std.proofs.lemmas.Option.{none-some, same_Some}
+use Rattle.std.proofs.lemmas.List.{length-set, get_or-set_same, get_or-set_other}
 use Rattle.std.proofs.lemmas.List.Elements.{All-nil, All-push, Contains-append_left, Contains-push, Contains-push_cases}
-use Rattle.std.proofs.lemmas.List.Kept.{AllPairs-from_increasing}
-use Rattle.std.proofs.lemmas.List.Sorted.{IsNonDecreasingBy-from_sort, Contains-permutation, IsPermutation-sym}
-use Rattle.std.proofs.lemmas.Map.Keys.{IsDistinct-IsPermutation, IsStrictlyIncreasing-from_distinct}
-use Rattle.std.proofs.lemmas.Map.Made.{IsDistinct-from_AllPairs}
 use Rattle.py_heap.specs.declared.state.State.{State}
+use Rattle.py_heap.specs.Objects.{IsHandleAt}
+use Rattle.py_heap.specs.Reaching.{Reach}
+use Rattle.py_heap.specs.Reaching as reaching
 use Rattle.py_machine.specs.Marked.{Name}
 use Rattle.graph_model.specs.Faults.{TextBelow, Ascends, least_name}
 use Rattle.graph_model.proofs.Ascending.{ascends-push}
 use Rattle.linked_parts.specs.declared.parts.Part.{Part}
-use Rattle.linked_parts.specs.Parts.{Linked, IsPart, IsPartOf, LeastBelow, ArePartsOf}
-use Rattle.linked_parts.specs.Labels.{name_at, IsLabelling, AreUnder}
-use Rattle.linked_parts.proofs.Lists.{ascends_by_pairs, below_on, never_below_itself, least_in, least_there}
+use Rattle.linked_parts.specs.Parts.{Reaches, Linked, IsPart, IsPartOf, LeastBelow, ArePartsOf}
+use Rattle.linked_parts.specs.Labels.{name_at, IsOwner, IsLabelling, AreOwners, AreUnder, AreOwnedUnder}
+use Rattle.linked_parts.proofs.Lists.{first_in, one_in, below_on, never_below_itself, least_in, least_there}
 use Rattle.linked_parts.proofs.Names.{AreNames, linked_values}
+use Rattle.linked_parts.proofs.Searching.{owner_within}
 
 -- ---- the names with one label
 
@@ -98,6 +95,101 @@ module _ (s : State) (names : List Name) (n : AreNames s names) (labels : List �
             ]
       ]
 
+-- ---- what names reach
+
+pub reach_of_more : (s : State) (own : List Name) (x : Name) → Contains own x → (at : ℕ) → Reaches s x at → Reach s own at
+reach_of_more s own x h _ (reaching.named y at c r) = reaching.named y at (subst (Contains own) (one_in x y c) h) r
+reach_of_more s own x h _ (reaching.held from at r c) = reaching.held from at (reach_of_more s own x h from r) c
+
+pub reach_of_one : (s : State) (own : List Name) (at : ℕ) → Reach s own at → (x : Name) × Contains own x × Reaches s x at
+reach_of_one s own _ (reaching.named x at c r) = (x, c, reaching.named x at (first_in x []) r)
+reach_of_one s own _ (reaching.held from at r c) = let w = reach_of_one s own from r in (w.0, w.1, reaching.held from at w.2 c)
+
+module _ (s : State) (names : List Name) (labels : List ℕ) (owners : List (Option ℕ)) (o : AreOwners s names labels owners) (root : ℕ) (own : List Name)
+    (u : AreUnder names labels root (length names) own) (objects : List ℕ) (w : AreOwnedUnder labels owners (length owners) root objects) where
+  pub own_objects : (at : ℕ) → Contains objects at ↔ Reach s own at
+  own_objects at = (
+    (λ h.
+        let k = (w.members at).0 h in
+        reach_of_more s own (name_at names k.0) (u.has k.0 (o.within at k.0 k.2) k.3) at (o.reaches at k.0 k.2)),
+    (λ r.
+        let x = reach_of_one s own at r in
+        let j = u.listed x.0 x.1 in
+        let m = o.met j.0 at j.1 (subst (λ z. Reaches s z at) (sym j.3) x.2) in
+        (w.members at).1 (m.0, owner_within owners at m.0 m.1, m.1, m.2 ∙ j.2)),
+  )
+
+  pub own_part_of : IsPart s own → (part : Part) → part.names ≡ own → part.objects ≡ objects → (IsTrue part.handle ↔ ((at : ℕ) × Contains objects at × IsHandleAt s.heap at)) → IsPartOf s part
+  own_part_of is part e f handle = record {
+    names = subst (IsPart s) (sym e) is;
+    ascends = subst (Ascends (λ m n. m < n)) (sym f) w.ascends;
+    objects = subst (λ (xs : List ℕ). (at : ℕ) → Contains xs at ↔ Reach s part.names at) (sym f) (subst (λ ns. (at : ℕ) → Contains objects at ↔ Reach s ns at) (sym e) own_objects);
+    handle = subst (λ (xs : List ℕ). IsTrue part.handle ↔ ((at : ℕ) × Contains xs at × IsHandleAt s.heap at)) (sym f) handle;
+  }
+
+-- ---- the objects under each label, one object after the other
+
+pub owned_skip : (labels : List ℕ) (owners : List (Option ℕ)) (count label : ℕ) (objects : List ℕ) → AreOwnedUnder labels owners count label objects
+    → ((k : ℕ) → IsOwner owners count k → slice_index labels k ≢ label) → AreOwnedUnder labels owners (count + 1) label objects
+owned_skip labels owners count label objects w none = record {
+  ascends = w.ascends;
+  members = λ at. (
+    (λ h. let k = (w.members at).0 h in (k.0, omega (arith, k.1), k.2, k.3)),
+    (λ k. elim (cases_eq at count) [
+      | inl e ↦ absurd (none k.0 (subst (λ (z : ℕ). IsOwner owners z k.0) e k.2) k.3)
+      | inr other ↦ (w.members at).1 (k.0, let l : at < count + 1 = k.1 in omega arith, k.2, k.3)
+    ]),
+  );
+}
+
+pub owned_push : (labels : List ℕ) (owners : List (Option ℕ)) (count label : ℕ) (objects : List ℕ) → AreOwnedUnder labels owners count label objects
+    → (owner : ℕ) → IsOwner owners count owner → slice_index labels owner ≡ label → AreOwnedUnder labels owners (count + 1) label (objects ++ count ∷ [])
+owned_push labels owners count label objects w owner is e = record {
+  ascends = ascends-push (λ m n. m < n) objects count w.ascends (λ at h. ((w.members at).0 h).1);
+  members = λ at. (
+    (λ h. elim (Contains-push_cases objects count at h) [
+      | inl c ↦ let k = (w.members at).0 c in (k.0, omega (arith, k.1), k.2, k.3)
+      | inr here ↦ (owner, omega (arith, here), subst (λ (z : ℕ). IsOwner owners z owner) here is, e)
+    ]),
+    (λ k. elim (cases_eq at count) [
+      | inl here ↦ subst (Contains (objects ++ count ∷ [])) (sym here) (Contains-push objects count)
+      | inr other ↦ Contains-append_left objects (count ∷ []) at ((w.members at).1 (k.0, let l : at < count + 1 = k.1 in omega arith, k.2, k.3))
+    ]),
+  );
+}
+
+-- for each label the objects that have it, of the first as many as the count
+pub record AreListed (labels : List ℕ) (owners : List (Option ℕ)) (count : ℕ) (lists : List (List ℕ)) : Type 0 where
+  pub size : length lists ≡ length labels
+  pub each : (label : ℕ) → label < length labels → AreOwnedUnder labels owners count label (get_or lists label [])
+
+module _ (labels : List ℕ) (owners : List (Option ℕ)) (count : ℕ) (old : List (List ℕ)) (a : AreListed labels owners count old) where
+  pub listed_free : get_or owners count None ≡ None → AreListed labels owners (count + 1) old
+  listed_free free = record {
+    size = a.size;
+    each = λ label l. owned_skip labels owners count label (get_or old label []) (a.each label l) (λ k e. absurd (none-some k (sym free ∙ e)));
+  }
+
+  pub listed_more : (owner : ℕ) (now : List (List ℕ)) → IsOwner owners count owner → slice_index labels owner < length labels
+      → now ≡ set old (slice_index labels owner) (get_or old (slice_index labels owner) [] ++ count ∷ []) → AreListed labels owners (count + 1) now
+  listed_more owner now is label_in e =
+      let label : ℕ = slice_index labels owner in
+      let more : List ℕ = get_or old label [] ++ count ∷ [] in
+      record {
+        size = ap (λ (ls : List (List ℕ)). length ls) e ∙ (length-set old label more ∙ a.size);
+        each = λ l l_in. elim (cases_eq l label) [
+          | inl same ↦
+              let here : get_or now l [] ≡ more =
+              ap (λ (ls : List (List ℕ)). get_or ls l []) e ∙ (ap (λ (z : ℕ). get_or (set old label more) z []) same ∙ get_or-set_same old label more [] (omega (arith, a.size, label_in))) in
+              subst (AreOwnedUnder labels owners (count + 1) l) (sym here) (subst (λ z. AreOwnedUnder labels owners (count + 1) z more) (sym same)
+              (owned_push labels owners count label (get_or old label []) (a.each label label_in) owner is refl))
+          | inr other ↦
+              let here : get_or now l [] ≡ get_or old l [] = ap (λ (ls : List (List ℕ)). get_or ls l []) e ∙ get_or-set_other old label l more [] other in
+              subst (AreOwnedUnder labels owners (count + 1) l) (sym here) (owned_skip labels owners count l (get_or old l []) (a.each l l_in)
+              (λ k f same. other (sym same ∙ ap (slice_index labels) (same_Some k owner (sym f ∙ is)))))
+        ];
+      }
+
 -- ---- one part after the other
 
 -- the parts of the labels below a count
@@ -158,14 +250,3 @@ listed_all s names n labels b count list t l = record {
       let w = t.has k.0 k.1 (omega (arith, least, k.1, l)) in
       (w.0, w.1, subst (λ z. Contains w.0.names z) k.2 w.2);
 }
-
--- ---- numbers in order
-
-pub sorted_ascends : (found sorted : List ℕ) → AllPairs (λ a b. a ≢ b) found → IsPermutation found sorted → IsSorted nat_cmp sorted → Ascends (λ m n. m < n) sorted
-sorted_ascends found sorted apart moved up =
-    let distinct = IsDistinct-IsPermutation eqb nat_eq_equiv.symm found sorted moved (IsDistinct-from_AllPairs Decides-eqb found apart) in
-    ascends_by_pairs (λ m n. m < n) sorted (AllPairs-from_increasing sorted
-    (IsStrictlyIncreasing-from_distinct sorted (IsNonDecreasingBy-from_sort (λ (x : ℕ). x) sorted up) distinct))
-
-pub sorted_members : (found sorted : List ℕ) → IsPermutation found sorted → (at : ℕ) → Contains sorted at ↔ Contains found at
-sorted_members found sorted moved at = (Contains-permutation sorted found at (IsPermutation-sym found sorted moved), Contains-permutation found sorted at moved)

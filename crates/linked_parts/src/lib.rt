@@ -5,9 +5,12 @@
 #![tactic(auto)]
 
 mod after;
+mod classes;
 mod labels;
 mod listing;
 mod parts;
+mod references;
+mod search;
 #[cfg(test)]
 mod tests;
 

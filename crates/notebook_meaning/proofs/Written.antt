@@ -1,6 +1,6 @@
 -- What a session is written as.
-use Rattle.std.proofs.Common.{◌≡◌, ℕ, suc, ◌+◌, ◌-◌, ◌<◌, ◌≤◌, ◌^◌, zero, ◌⊎◌, ◌&&◌, is_some, Bool, true, false, cond, List, [], ◌∷◌, ◌++◌, map, length, Option, Some, None, refl, ap, sym, ◌∙◌, subst, inl, inr, arith}
-use Rattle.std.specs.Prelude.{Contains, slice_get, codes}
+use Rattle.std.proofs.Common.{◌≡◌, ℕ, suc, ◌+◌, ◌-◌, ◌<◌, ◌≤◌, ◌^◌, zero, ◌⊎◌, ◌&&◌, is_some, Bool, true, false, List, [], ◌∷◌, map, length, Option, Some, None, refl, ap, sym, ◌∙◌, subst, inl, inr, arith}
+use Rattle.std.specs.Prelude.{Contains, slice_get}
 use Rattle.std.specs.List.{AllZip, IsDistinct}
 use Rattle.std.proofs.lemmas.Bool.{cases_Bool, false≢true}
 use Rattle.std.proofs.lemmas.Option.{same_Some, slice_get_within, get_or_from_slice_get}
@@ -37,12 +37,11 @@ use Rattle.run_graph.proofs.Reached.{reach_from_one, not_both}
 use Rattle.read_runs.specs.Reading.{read}
 use Rattle.read_runs.proofs.Names.{has_names}
 use Rattle.part_bytes.specs.Parts.{part_of}
-use Rattle.part_bytes.specs.Texts.{four, part_text}
 use Rattle.part_bytes.specs.Plain.{IsPlainPart}
 use Rattle.part_laws.proofs.Alike.{one_part}
-use Rattle.part_bytes.specs.Texts.{bytes_of}
-use Rattle.checkpoint_bytes.specs.Texts.{lists, bytes_from, version_bytes, plain_version_bytes, versions_bytes, cells_bytes, checkpoint_text}
+use Rattle.checkpoint_bytes.specs.Texts.{lists, checkpoint_text}
 use Rattle.checkpoint_bytes.specs.Plain.{IsPlainCell, IsPlainVersion, IsPlainCheckpoint}
+use Rattle.checkpoint_sameness.proofs.Alike.{one_checkpoint_text}
 use Rattle.part_spelling.specs.Spelled.{IsPart as HasPartText}
 use Rattle.part_copies.specs.Written.{IsWritable, CanBeWritten}
 use Rattle.part_copies.proofs.Written.{part_is}
@@ -61,13 +60,6 @@ use Rattle.notebook_meaning.proofs.Names.{by_places, of_contained, at_position, 
 
 -- ---- the text is that of each state that is the same
 
-versions_alike : (s t : State) → ((names : List Name) → part_text s names ≡ part_text t names) → (p : Plan) (n : ℕ) (xs : List Version)
-    → bytes_from (λ n x. version_bytes s (lists p.copied n) x) n xs ≡ bytes_from (λ n x. version_bytes t (lists p.copied n) x) n xs
-versions_alike s t h p n [] = refl
-versions_alike s t h p n (x ∷ xs) =
-    ap (λ (part : List ℕ). (plain_version_bytes (lists p.copied n) x ++ cond (lists p.copied n) part []) ++ bytes_from (λ n x. version_bytes s (lists p.copied n) x) (n + 1) xs) (h x.names)
-    ∙ ap (λ (rest : List ℕ). version_bytes t (lists p.copied n) x ++ rest) (versions_alike s t h p (n + 1) xs)
-
 module _ (cells : List Entry) (g : Graph) (t : State) (stands : StandsFor read size_of cells g t) where
   abbrev U : State
   U = unmoved cells
@@ -75,19 +67,8 @@ module _ (cells : List Entry) (g : Graph) (t : State) (stands : StandsFor read s
   unmoved_closed : IsClosed U
   unmoved_closed = (is_run read cells size_of).closed (length cells)
 
-  one_text : (names : List Name) → part_text t names ≡ part_text U names
-  one_text names = sym (ap bytes_of (one_part names U t unmoved_closed stands.closed (same_over U t stands.same.names names)))
-
-  abbrev whole : Plan → ℕ → ℕ → List ℕ → List ℕ
-  whole p count meter versions = codes "ENCK" ++ 0 ∷ 1 ∷ [] ++ four count ++ four meter
-      ++ four (length g.cells) ++ cells_bytes p g.cells
-      ++ four (length g.versions) ++ versions
-
   pub text_alike : (p : Plan) → checkpoint_text t g p ≡ checkpoint_text U g p
-  text_alike p =
-      ap (λ (n : ℕ). whole p n t.meter (versions_bytes t p g.versions)) (sym stands.same.count)
-      ∙ (ap (λ (n : ℕ). whole p U.count n (versions_bytes t p g.versions)) (sym stands.same.meter)
-      ∙ ap (whole p U.count U.meter) (versions_alike t U one_text p 1 g.versions))
+  text_alike p = sym (one_checkpoint_text U t unmoved_closed stands.closed stands.same p g)
 
 -- ---- the objects are such as can be written
 

@@ -4,11 +4,10 @@ use Rattle.std.specs.List.{flat_map}
 use Rattle.std.specs.Int.{w128, cast_unsigned}
 use Rattle.byteorder.specs.Endian.{big_bytes}
 use Rattle.py_value.specs.declared.key.Key.{Key}
-use Rattle.py_value.specs.declared.value.Builtin.{Builtin}
-use Rattle.py_value.specs.declared.value.Builtin.TheVariants as builtin
 use Rattle.py_value.specs.declared.value.Value.{Value}
 use Rattle.py_value.specs.declared.value.Value.TheVariants as value
 use Rattle.py_value.specs.Keys.{value_of}
+use Rattle.py_value.specs.Values.{builtin_number}
 use Rattle.py_heap.specs.declared.heap.Object.{Object}
 use Rattle.py_heap.specs.declared.heap.Object.TheVariants as object
 use Rattle.py_heap.specs.declared.state.State.{State}
@@ -31,17 +30,6 @@ name_bytes name = length name ∷ name
 abbrev pub text_bytes : List ℕ → List ℕ
 text_bytes text = four (length text) ++ text
 
-abbrev pub builtin_byte : Builtin → ℕ
-builtin_byte builtin.Print = 0
-builtin_byte builtin.Len = 1
-builtin_byte builtin.Str = 2
-builtin_byte builtin.Repr = 3
-builtin_byte builtin.Int = 4
-builtin_byte builtin.Range = 5
-builtin_byte builtin.Draw = 6
-builtin_byte builtin.Handle = 7
-builtin_byte builtin.Tell = 8
-
 -- a reference is the number of its object
 abbrev pub value_bytes : Value → List ℕ
 value_bytes value.Nothing = 0 ∷ []
@@ -50,7 +38,7 @@ value_bytes (value.Bool true) = 2 ∷ []
 value_bytes (value.Number n) = 3 ∷ sixteen n
 value_bytes (value.Text text) = 4 ∷ text_bytes text
 value_bytes (value.Ref number) = 5 ∷ four number
-value_bytes (value.Builtin builtin) = 6 ∷ builtin_byte builtin ∷ []
+value_bytes (value.Builtin builtin) = 6 ∷ builtin_number builtin ∷ []
 
 -- what a name has, which may be no value
 abbrev pub held_bytes : Option Value → List ℕ

@@ -18,8 +18,8 @@ fn a_list_and_a_dict_of_each_other(alloc: Global) -> Result<State, AllocError>
     state.push_item(1, Value::Ref(0))?;
     state.push_item(1, Value::Text(SharedText::from_str(alloc, "\u{e9}")?))?;
     state.put_key(0, Key::Nothing, Value::Ref(1))?;
-    state.bind(Text::new(alloc, "x")?, Value::Ref(1))?;
-    state.bind(Text::new(alloc, "y")?, Value::Ref(0))?;
+    state.bind(alloc, &Text::new(alloc, "x")?, Value::Ref(1))?;
+    state.bind(alloc, &Text::new(alloc, "y")?, Value::Ref(0))?;
     Ok(state)
 }
 
@@ -54,7 +54,7 @@ fn a_nest(alloc: Global, depth: u32) -> Result<State, AllocError>
         items.push(Value::Ref(inner))?;
         state.add(Object::List(items))?;
     }
-    state.bind(Text::new(alloc, "x")?, Value::Ref(depth))?;
+    state.bind(alloc, &Text::new(alloc, "x")?, Value::Ref(depth))?;
     Ok(state)
 }
 

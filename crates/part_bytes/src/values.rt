@@ -81,27 +81,11 @@ fn write_reference(out: &mut Items<u8>, number: u32) -> Result<(), AllocError>
     write_four(out, number)
 }
 
-fn builtin_byte(builtin: Builtin) -> u8
-    ensures { result ≡ spec.builtin_byte builtin }
-{
-    match builtin {
-        Builtin::Print => 0,
-        Builtin::Len => 1,
-        Builtin::Str => 2,
-        Builtin::Repr => 3,
-        Builtin::Int => 4,
-        Builtin::Range => 5,
-        Builtin::Draw => 6,
-        Builtin::Handle => 7,
-        Builtin::Tell => 8,
-    }
-}
-
 fn write_builtin(out: &mut Items<u8>, builtin: Builtin) -> Result<(), AllocError>
     ensures { OnOk result (out.new ≡ out.old ++ spec.value_bytes (Value.Builtin builtin)) }
 {
     out.push(tag::BUILTIN)?;
-    out.push(builtin_byte(builtin))
+    out.push(builtin.number())
 }
 
 /// A key, as the value that it is.

@@ -12,7 +12,7 @@ use Rattle.py_heap.specs.declared.heap.Object.{Object}
 use Rattle.py_heap.specs.declared.heap.Object.TheVariants as object
 use Rattle.py_heap.specs.declared.state.State.{State}
 use Rattle.py_heap.specs.References.{value_refs, object_refs, IsClosed}
-use Rattle.py_heap.specs.Reaching.{held_refs, Reach, IsListOf, firsts, met}
+use Rattle.py_heap.specs.Reaching.{held_refs, Reach, IsListOf, met}
 use Rattle.py_heap.specs.Reaching as reaching
 use Rattle.py_heap.proofs.Numbers.{firsts_apart}
 use Rattle.py_machine.specs.Runs.{Name}

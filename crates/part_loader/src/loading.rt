@@ -38,7 +38,7 @@ fn put(
     ensures { OnOk result (state.new ≡ put_name above.now.base state.old name.now held.now) }
 {
     match held {
-        Some(value) => state.bind(name.copy(alloc)?, moved_value(above, value)?),
+        Some(value) => state.bind(alloc, name, moved_value(above, value)?),
         None => {
             state.unbind(name);
             Ok(())

@@ -44,7 +44,7 @@ fn bind_numbered(
 {
     for name in names {
         if let Some(value) = state.look(name) {
-            fresh.bind(name.copy(alloc)?, moved_value(numbers, value)?)?;
+            fresh.bind(alloc, name, moved_value(numbers, value)?)?;
         }
     }
     Ok(())

@@ -11,10 +11,11 @@ use Rattle.py_value.specs.declared.value.Builtin.TheVariants as the_builtin
 use Rattle.py_value.specs.declared.value.Value.{Value}
 use Rattle.py_value.specs.declared.value.Value.TheVariants as the_value
 use Rattle.py_value.specs.Keys.{value_of}
+use Rattle.py_value.specs.Values.{builtin_number}
 use Rattle.py_heap.specs.Dicts.{Pairs, value_under}
 use Rattle.py_heap.specs.References.{value_refs, pair_refs}
 use Rattle.py_heap.specs.Reaching.{held_refs}
-use Rattle.part_bytes.specs.Texts.{four as four_bytes, sixteen as sixteen_bytes, text_bytes, builtin_byte, value_bytes, held_bytes, pair_bytes}
+use Rattle.part_bytes.specs.Texts.{four as four_bytes, sixteen as sixteen_bytes, text_bytes, value_bytes, held_bytes, pair_bytes}
 use Rattle.part_reader.specs.declared.fault.PartFault.TheVariants.{BadTag, BadRef, BadKey}
 use Rattle.part_reader.specs.declared.spot.Spot.{Spot}
 use Rattle.part_reader.specs.Reads.{Read, pure, after}
@@ -49,25 +50,25 @@ key_refs (the_key.Bool truth) = refl
 key_refs (the_key.Number n) = refl
 key_refs (the_key.Text t) = refl
 
-builtin_found : (b : ℕ) (f : Builtin) → builtin_of b ≡ Some f → b ≡ builtin_byte f
+builtin_found : (b : ℕ) (f : Builtin) → builtin_of b ≡ Some f → b ≡ builtin_number f
 builtin_found b f e = elim (cases_Bool (b == 0)) [
-  | inl t ↦ let n = eqb-true b 0 t in let same : Some the_builtin.Print ≡ Some f = rw t at e in let g : the_builtin.Print ≡ f = cc in subst (λ (h : Builtin). b ≡ builtin_byte h) g n
+  | inl t ↦ let n = eqb-true b 0 t in let same : Some the_builtin.Print ≡ Some f = rw t at e in let g : the_builtin.Print ≡ f = cc in subst (λ (h : Builtin). b ≡ builtin_number h) g n
   | inr r0 ↦ elim (cases_Bool (b == 1)) [
-    | inl t ↦ let n = eqb-true b 1 t in let same : Some the_builtin.Len ≡ Some f = rw (r0, t) at e in let g : the_builtin.Len ≡ f = cc in subst (λ (h : Builtin). b ≡ builtin_byte h) g n
+    | inl t ↦ let n = eqb-true b 1 t in let same : Some the_builtin.Len ≡ Some f = rw (r0, t) at e in let g : the_builtin.Len ≡ f = cc in subst (λ (h : Builtin). b ≡ builtin_number h) g n
     | inr r1 ↦ elim (cases_Bool (b == 2)) [
-      | inl t ↦ let n = eqb-true b 2 t in let same : Some the_builtin.Str ≡ Some f = rw (r0, r1, t) at e in let g : the_builtin.Str ≡ f = cc in subst (λ (h : Builtin). b ≡ builtin_byte h) g n
+      | inl t ↦ let n = eqb-true b 2 t in let same : Some the_builtin.Str ≡ Some f = rw (r0, r1, t) at e in let g : the_builtin.Str ≡ f = cc in subst (λ (h : Builtin). b ≡ builtin_number h) g n
       | inr r2 ↦ elim (cases_Bool (b == 3)) [
-        | inl t ↦ let n = eqb-true b 3 t in let same : Some the_builtin.Repr ≡ Some f = rw (r0, r1, r2, t) at e in let g : the_builtin.Repr ≡ f = cc in subst (λ (h : Builtin). b ≡ builtin_byte h) g n
+        | inl t ↦ let n = eqb-true b 3 t in let same : Some the_builtin.Repr ≡ Some f = rw (r0, r1, r2, t) at e in let g : the_builtin.Repr ≡ f = cc in subst (λ (h : Builtin). b ≡ builtin_number h) g n
         | inr r3 ↦ elim (cases_Bool (b == 4)) [
-          | inl t ↦ let n = eqb-true b 4 t in let same : Some the_builtin.Int ≡ Some f = rw (r0, r1, r2, r3, t) at e in let g : the_builtin.Int ≡ f = cc in subst (λ (h : Builtin). b ≡ builtin_byte h) g n
+          | inl t ↦ let n = eqb-true b 4 t in let same : Some the_builtin.Int ≡ Some f = rw (r0, r1, r2, r3, t) at e in let g : the_builtin.Int ≡ f = cc in subst (λ (h : Builtin). b ≡ builtin_number h) g n
           | inr r4 ↦ elim (cases_Bool (b == 5)) [
-            | inl t ↦ let n = eqb-true b 5 t in let same : Some the_builtin.Range ≡ Some f = rw (r0, r1, r2, r3, r4, t) at e in let g : the_builtin.Range ≡ f = cc in subst (λ (h : Builtin). b ≡ builtin_byte h) g n
+            | inl t ↦ let n = eqb-true b 5 t in let same : Some the_builtin.Range ≡ Some f = rw (r0, r1, r2, r3, r4, t) at e in let g : the_builtin.Range ≡ f = cc in subst (λ (h : Builtin). b ≡ builtin_number h) g n
             | inr r5 ↦ elim (cases_Bool (b == 6)) [
-              | inl t ↦ let n = eqb-true b 6 t in let same : Some the_builtin.Draw ≡ Some f = rw (r0, r1, r2, r3, r4, r5, t) at e in let g : the_builtin.Draw ≡ f = cc in subst (λ (h : Builtin). b ≡ builtin_byte h) g n
+              | inl t ↦ let n = eqb-true b 6 t in let same : Some the_builtin.Draw ≡ Some f = rw (r0, r1, r2, r3, r4, r5, t) at e in let g : the_builtin.Draw ≡ f = cc in subst (λ (h : Builtin). b ≡ builtin_number h) g n
               | inr r6 ↦ elim (cases_Bool (b == 7)) [
-                | inl t ↦ let n = eqb-true b 7 t in let same : Some the_builtin.Handle ≡ Some f = rw (r0, r1, r2, r3, r4, r5, r6, t) at e in let g : the_builtin.Handle ≡ f = cc in subst (λ (h : Builtin). b ≡ builtin_byte h) g n
+                | inl t ↦ let n = eqb-true b 7 t in let same : Some the_builtin.Handle ≡ Some f = rw (r0, r1, r2, r3, r4, r5, r6, t) at e in let g : the_builtin.Handle ≡ f = cc in subst (λ (h : Builtin). b ≡ builtin_number h) g n
                 | inr r7 ↦ elim (cases_Bool (b == 8)) [
-                  | inl t ↦ let n = eqb-true b 8 t in let same : Some the_builtin.Tell ≡ Some f = rw (r0, r1, r2, r3, r4, r5, r6, r7, t) at e in let g : the_builtin.Tell ≡ f = cc in subst (λ (h : Builtin). b ≡ builtin_byte h) g n
+                  | inl t ↦ let n = eqb-true b 8 t in let same : Some the_builtin.Tell ≡ Some f = rw (r0, r1, r2, r3, r4, r5, r6, r7, t) at e in let g : the_builtin.Tell ≡ f = cc in subst (λ (h : Builtin). b ≡ builtin_number h) g n
                   | inr r8 ↦ absurd (let none : None ≡ Some f = rw (r0, r1, r2, r3, r4, r5, r6, r7, r8) at e in cc)
                 ]
               ]
@@ -124,7 +125,7 @@ referred_found p n s t v h = elim (cases_Bool (nat_lt n s.met)) [
   ]
 ]
 
-builtin_value : (p b : ℕ) (o : Option Builtin) (s t : Spot) (v : Value) → builtin_of b ≡ o → builtin_at p o s ≡ answer v t → (f : Builtin) × (b ≡ builtin_byte f) × (v ≡ the_value.Builtin f) × (s ≡ t)
+builtin_value : (p b : ℕ) (o : Option Builtin) (s t : Spot) (v : Value) → builtin_of b ≡ o → builtin_at p o s ≡ answer v t → (f : Builtin) × (b ≡ builtin_number f) × (v ≡ the_value.Builtin f) × (s ≡ t)
 builtin_value p b None s t v e h = absurd (let no : failed Value (BadTag p) ≡ answer v t = h in cc)
 builtin_value p b (Some f) s t v e h = (f, builtin_found b f e, sym (same_value (the_value.Builtin f) v s t h), same_spot (the_value.Builtin f) v s t h)
 
@@ -194,8 +195,8 @@ module _ (bytes : List ℕ) (small : IsBytes bytes) where
   builtin_value_found tag s t v e h =
       let r = reached (byte bytes s) (λ b. builtin_at s.at (builtin_of b)) v t h in
       let g = builtin_value s.at r.first (builtin_of r.first) r.mid t v refl r.next in
-      let a : Ate bytes (builtin_byte g.0 ∷ []) [] s t = ate_as bytes (r.first ∷ []) (builtin_byte g.0 ∷ []) [] [] s r.mid t (ap (λ (c : ℕ). c ∷ []) g.1) refl g.3 (byte_found bytes s r.mid r.first r.was) in
-      subst (λ (w : Value). FoundValue bytes tag s t w) (sym g.2) (tt, record { body = builtin_byte g.0 ∷ []; is = tagged_as tag 6 (builtin_byte g.0 ∷ []) e; ate = a })
+      let a : Ate bytes (builtin_number g.0 ∷ []) [] s t = ate_as bytes (r.first ∷ []) (builtin_number g.0 ∷ []) [] [] s r.mid t (ap (λ (c : ℕ). c ∷ []) g.1) refl g.3 (byte_found bytes s r.mid r.first r.was) in
+      subst (λ (w : Value). FoundValue bytes tag s t w) (sym g.2) (tt, record { body = builtin_number g.0 ∷ []; is = tagged_as tag 6 (builtin_number g.0 ∷ []) e; ate = a })
 
   -- ---- values
 

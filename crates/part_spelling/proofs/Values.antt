@@ -10,16 +10,17 @@ use Rattle.py_value.specs.declared.value.Builtin.TheVariants as the_builtin
 use Rattle.py_value.specs.declared.value.Value.{Value}
 use Rattle.py_value.specs.declared.value.Value.TheVariants as the_value
 use Rattle.py_value.specs.Keys.{value_of}
+use Rattle.py_value.specs.Values.{builtin_number}
 use Rattle.py_heap.specs.Dicts.{Pairs, value_under}
 use Rattle.py_heap.specs.References.{value_refs, pair_refs}
 use Rattle.py_heap.specs.Reaching.{held_refs}
-use Rattle.part_bytes.specs.Texts.{four as four_bytes, sixteen as sixteen_bytes, text_bytes, builtin_byte, value_bytes, held_bytes, pair_bytes}
+use Rattle.part_bytes.specs.Texts.{four as four_bytes, sixteen as sixteen_bytes, text_bytes, value_bytes, held_bytes, pair_bytes}
 use Rattle.part_reader.specs.Reads.{Answer, Read, pure, after}
 use Rattle.part_reader.specs.Reading.{byte, four, sixteen, text, referred_to, builtin_of, builtin_at, key_by, reference, builtin, value_by, value, held, pair, pair_with}
 use Rattle.part_spelling.specs.Spelled.{counted, IsValue, IsHeld, ArePairs}
 use Rattle.part_spelling.proofs.Offs.{spot, answer, Stands, stands_first, Off, off_then, off_end, off_map, off_grouped, off_byte, off_four, off_sixteen, off_text, some_same, below, AllGood}
 
-builtin_back : (f : Builtin) → builtin_of (builtin_byte f) ≡ Some f
+builtin_back : (f : Builtin) → builtin_of (builtin_number f) ≡ Some f
 builtin_back the_builtin.Print = refl
 builtin_back the_builtin.Len = refl
 builtin_back the_builtin.Str = refl
@@ -44,7 +45,7 @@ tagged (the_value.Bool true) = record { tag = 2; body = []; is = refl; other = r
 tagged (the_value.Number n) = record { tag = 3; body = sixteen_bytes n; is = refl; other = refl }
 tagged (the_value.Text t) = record { tag = 4; body = text_bytes t; is = refl; other = refl }
 tagged (the_value.Ref n) = record { tag = 5; body = four_bytes n; is = refl; other = refl }
-tagged (the_value.Builtin f) = record { tag = 6; body = builtin_byte f ∷ []; is = refl; other = refl }
+tagged (the_value.Builtin f) = record { tag = 6; body = builtin_number f ∷ []; is = refl; other = refl }
 
 abbrev pub GoodPair : Pairs → Key × Value → Type 0
 GoodPair before p = IsValue (value_of p.0) × (value_under before p.0 ≡ None) × IsValue p.1
@@ -101,8 +102,8 @@ module _ (bytes : List ℕ) where
       (λ at. ap (λ (m : ℕ). answer (the_value.Text t) (spot at m most)) (some_same met next e)))
   off_value_by p (the_value.Ref n) met next most h e l = off_then bytes (byte bytes) (λ tag. value_by bytes p tag) (5 ∷ []) (four_bytes n) 5 (the_value.Ref n) met met next most (off_byte bytes 5 met most)
       (off_end bytes (four bytes) (λ m. referred_to p m) (four_bytes n) n (the_value.Ref n) met met next most (off_four bytes n met most h) (λ at. referred p n met next most at e l))
-  off_value_by p (the_value.Builtin f) met next most h e l = off_then bytes (byte bytes) (λ tag. value_by bytes p tag) (6 ∷ []) (builtin_byte f ∷ []) 6 (the_value.Builtin f) met met next most (off_byte bytes 6 met most)
-      (λ at s. off_end bytes (byte bytes) (λ b. builtin_at at (builtin_of b)) (builtin_byte f ∷ []) (builtin_byte f) (the_value.Builtin f) met met next most (off_byte bytes (builtin_byte f) met most)
+  off_value_by p (the_value.Builtin f) met next most h e l = off_then bytes (byte bytes) (λ tag. value_by bytes p tag) (6 ∷ []) (builtin_number f ∷ []) 6 (the_value.Builtin f) met met next most (off_byte bytes 6 met most)
+      (λ at s. off_end bytes (byte bytes) (λ b. builtin_at at (builtin_of b)) (builtin_number f ∷ []) (builtin_number f) (the_value.Builtin f) met met next most (off_byte bytes (builtin_number f) met most)
       (λ k. rw (builtin_back f) (ap (λ (m : ℕ). answer (the_value.Builtin f) (spot k m most)) (some_same met next e))) at s)
 
   pub off_value : (v : Value) (met next most : ℕ) → IsValue v → counted met (value_refs v) ≡ Some next → next ≤ most → Off bytes (value bytes) (value_bytes v) v met next most

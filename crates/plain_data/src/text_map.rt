@@ -64,6 +64,18 @@ impl<V: Drop> TextMap<V> {
         Ok(())
     }
 
+    /// The same, of a name that isn't copied if it has a value.
+    pub fn put(&mut self, alloc: Global, name: &Text, value: V) -> Result<(), AllocError>
+        ensures ok { OnOk result (self.new ≡ finite.insert self.old name.now value) }
+        ensures err { OnErr result (self.new ≡ self.old) }
+    {
+        if let Some(held) = self.map.get_mut(name) {
+            *held = value;
+            return Ok(());
+        }
+        self.bind(name.copy(alloc)?, value)
+    }
+
     /// Takes a name's value away, and says whether it had one.
     pub fn unbind(&mut self, name: &Text) -> bool
         ensures value { IsTrue result ↔ IsSome (finite.get self.old name.now) }
@@ -83,8 +95,8 @@ mod tests {
         let alloc = rt.alloc();
         let mut map = TextMap::new(alloc);
         map.bind(Text::new(alloc, "a")?, 1u8)?;
-        map.bind(Text::new(alloc, "b")?, 2)?;
-        map.bind(Text::new(alloc, "a")?, 3)?;
+        map.put(alloc, &Text::new(alloc, "a")?, 3)?;
+        map.put(alloc, &Text::new(alloc, "b")?, 2)?;
         assert_eq!(rt; map.look(&Text::new(alloc, "a")?).copied(), Some(3));
         assert_eq!(rt; map.names(alloc)?.len(), 2);
         assert!(rt; map.unbind(&Text::new(alloc, "a")?));

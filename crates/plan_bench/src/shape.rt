@@ -46,6 +46,11 @@ struct RandomDraws {
     seed: u64,
 }
 
+/// So many bytes without a handle, if that is left.
+fn plain_if(is_left: bool, size: u32) -> Option<(u32, bool)> {
+    if is_left { Some((size, false)) } else { None }
+}
+
 impl RandomDraws {
     /// The next number, from 0 up to below `limit`; 0 if that is 0.
     fn below(&mut self, limit: u32) -> u32 {
@@ -128,37 +133,21 @@ impl Maker {
         match self.shape {
             Shape::Chain => {
                 let size = self.last.saturating_mul(100);
-                if c == self.last {
-                    Some((size, false))
-                } else {
-                    None
-                }
+                plain_if(c == self.last, size)
             }
             Shape::Star | Shape::Comb => Some((self.drawn.below(150), false)),
             Shape::Bipartite => {
                 let size = self.drawn.below(300);
-                if c > self.last / 2 {
-                    Some((size, false))
-                } else {
-                    None
-                }
+                plain_if(c > self.last / 2, size)
             }
             Shape::Layered => {
                 let size = self.drawn.below(3_000);
                 let wide = (self.last / 50).max(1);
-                if c.saturating_add(wide) > self.last {
-                    Some((size, false))
-                } else {
-                    None
-                }
+                plain_if(c.saturating_add(wide) > self.last, size)
             }
             Shape::Random => {
                 let size = self.drawn.below(400);
-                if self.drawn.below(2) == 0 {
-                    Some((size, false))
-                } else {
-                    None
-                }
+                plain_if(self.drawn.below(2) == 0, size)
             }
             Shape::Handles => {
                 let size = self.drawn.below(200);

@@ -2,6 +2,7 @@ ghost use Rattle.std.specs.Prelude.{◌≡◌, ◌+◌, ◌<◌, IfOk, OnOk, Lis
 ghost use Rattle.nb_outside.specs.declared.feed.Drawn.{Drawn};
 ghost use Rattle.nb_outside.specs.Feeds.{Fed};
 ghost use Rattle.py_session.specs.Session as spec;
+ghost use Rattle.valid_sessions.specs.Valid.{IsValidState};
 
 use nb_outside::{Drawn, Feed};
 use plain_data::{Items, Text};
@@ -112,6 +113,7 @@ pub fn answer<F: Feed>(
     ensures state { IfOk result (λ done. kernel.new.state ≡ spec.next_state code.now done.draws kernel.old.state) }
     ensures counted { OnOk result (kernel.new.state.count ≡ kernel.old.state.count + 1) }
     ensures host { OnOk result (kernel.new.host ≡ kernel.old.host) }
+    ensures valid { OnOk result (IsValidState kernel.old.state → IsValidState kernel.new.state) }
 
     // These are what the feed gave in this call, and it gave no others.
     ensures fed { IfOk result (λ done. Fed (F.seen feed.old) done.draws (F.seen feed.new)) }

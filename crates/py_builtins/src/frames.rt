@@ -46,7 +46,7 @@ fn with_held(
             [value, more @ ..] => {
                 frame
                     .slots
-                    .bind(name.copy(alloc)?, FrameSlot::Held(value.copy()?))?;
+                    .put(alloc, name, FrameSlot::Held(value.copy()?))?;
                 rest = more;
             }
             [] => return Ok(frame),

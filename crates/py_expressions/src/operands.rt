@@ -9,7 +9,7 @@ use crate::endings::{write_mark, write_span};
 use crate::fresh::{fresh_lower, is_bare, is_fresh_lower};
 use crate::reading::{Around, Bracket, Lower, Opened, Place, Primary, Reading, Signed, Upper};
 use crate::stop::Stop;
-use plain_data::Stack;
+use plain_data::{SharedText, Stack};
 use py_postfix::{Entry, Node};
 use py_token::{Keyword, Kind, Symbol};
 use py_tree::Literal;
@@ -165,7 +165,12 @@ pub fn operand(
     match token {
         Kind::Name(name) => Ok(has(around, Primary::Name(name.copy(alloc)?))),
         Kind::Number(number) => constant(around, Literal::Number(*number), place, entries),
-        Kind::Text(text) => constant(around, Literal::Text(text.copy(alloc)?), place, entries),
+        Kind::Text(text) => constant(
+            around,
+            Literal::Text(SharedText::from_str(alloc, text.as_str())?),
+            place,
+            entries,
+        ),
         Kind::Keyword(word) => operand_word(alloc, around, *word, place, entries),
         Kind::Symbol(sign) => operand_sign(alloc, around, *sign, place, entries),
         _ => Err(Stop::Refused),

@@ -117,20 +117,8 @@ abbrev pub entries_of : Option Pairs → Entries
 entries_of None = no_entries
 entries_of (Some ps) = entries_comma ps
 
-abbrev pub sums_of : Lower → Primary → Sums
-sums_of (lower r a m signs) p = add_added a (add_scaled m (add_signs signs (unsigned p)))
-
-abbrev pub products_of : Lower → Primary → Products
-products_of (lower r a m signs) p = add_scaled m (add_signs signs (unsigned p))
-
 abbrev pub compares_of : Lower → Primary → Compares
 compares_of (lower r a m signs) p = add_related r (add_added a (add_scaled m (add_signs signs (unsigned p))))
-
-abbrev pub ands_of : Upper → Compares → Ands
-ands_of (upper ps test o a n) c = add_and a (add_nots n (compared c))
-
-abbrev pub ors_of : Upper → Compares → Ors
-ors_of (upper ps test o a n) c = add_or o (add_and a (add_nots n (compared c)))
 
 -- the whole expression, if no `if` waits for its `else`
 abbrev pub expression_of : Upper → Compares → Option Expression

@@ -14,7 +14,7 @@ use Rattle.py_value.specs.Keys.{same_key}
 use Rattle.py_heap.specs.declared.heap.Object.{Object}
 use Rattle.py_heap.specs.declared.heap.Object.TheVariants as object
 use Rattle.py_heap.specs.declared.state.State.{State}
-use Rattle.py_heap.specs.Dicts.{Pairs, value_under, with_pair, without_key}
+use Rattle.py_heap.specs.Dicts.{Pairs, with_pair, without_key}
 use Rattle.py_heap.specs.Objects.{items_of, items_at, pairs_of, pairs_at, name_at}
 use Rattle.py_heap.specs.References.{value_refs, pair_refs, object_refs, AreLive, IsClosed}
 use Rattle.py_heap.specs.States.{empty, with_name, without_name, with_object, with_object_at, with_items, with_pairs, with_uses}
@@ -134,16 +134,6 @@ live_pairs_of heap (Some (object.Handle name uses)) h = All-nil _
 pub pairs_live : (s : State) (at : ℕ) → IsClosed s → PairsLive s.heap (pairs_at s.heap at)
 pairs_live s at c = live_pairs_of s.heap (slice_get s.heap at) (λ held e.
     subst (λ o. AreLive s.heap (object_refs o)) (get_or_from_slice_get s.heap at held held e) (c.objects at held (slice_get_within s.heap at held e)))
-
--- the value under a key
-pub under_live : (heap : List Object) (pairs : Pairs) (key : Key) (value : Value) → PairsLive heap pairs → value_under pairs key ≡ Some value → AreLive heap (value_refs value)
-under_live heap [] key value a e = absurd (none-some value e)
-under_live heap (pair ∷ pairs) key value a e =
-    let P : Key × Value → Type 0 = λ pair. AreLive heap (pair_refs pair) in
-    elim (cases_Bool (same_key key pair.0)) [
-      | inl t ↦ subst (λ v. AreLive heap (value_refs v)) (same_Some pair.1 value (sym (cond-true (same_key key pair.0) _ _ t) ∙ e)) (All-head P pair pairs a)
-      | inr f ↦ under_live heap pairs key value (All-tail P pair pairs a) (sym (cond-false (same_key key pair.0) _ _ f) ∙ e)
-    ]
 
 live_with : (heap : List Object) (pairs : Pairs) (key : Key) (value : Value) → AreLive heap (value_refs value) → PairsLive heap pairs → PairsLive heap (with_pair pairs key value)
 live_with heap [] key value l a = All-cons _ (key, value) [] l a

@@ -88,12 +88,12 @@ impl State {
         self.globals.names(alloc)
     }
 
-    /// Gives a name a value, in place of one that it has. After an error nothing is changed.
-    pub fn bind(&mut self, name: Text, value: Value) -> Result<(), AllocError>
-        ensures ok { OnOk result (self.new ≡ spec.with_name self.old name value) }
+    /// Gives a name a value, in place of one that it has: then the name isn't copied. After an error nothing is changed.
+    pub fn bind(&mut self, alloc: Global, name: &Text, value: Value) -> Result<(), AllocError>
+        ensures ok { OnOk result (self.new ≡ spec.with_name self.old name.now value) }
         ensures err { OnErr result (self.new ≡ self.old) }
     {
-        self.globals.bind(name, value)
+        self.globals.put(alloc, name, value)
     }
 
     /// Takes a name's value away, and says whether it had one.

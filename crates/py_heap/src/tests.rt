@@ -16,9 +16,9 @@ fn text(alloc: Global, word: &str) -> Result<Text, AllocError> {
 fn names_have_values(rt: HostRuntime) -> Result<(), Fail> {
     let alloc = rt.alloc();
     let mut state = State::new(alloc);
-    state.bind(text(alloc, "b")?, Value::Number(1))?;
-    state.bind(text(alloc, "a")?, Value::Number(2))?;
-    state.bind(text(alloc, "b")?, Value::Bool(true))?;
+    state.bind(alloc, &text(alloc, "b")?, Value::Number(1))?;
+    state.bind(alloc, &text(alloc, "a")?, Value::Number(2))?;
+    state.bind(alloc, &text(alloc, "b")?, Value::Bool(true))?;
     assert!(rt; matches!(state.look(&text(alloc, "b")?), Some(Value::Bool(true))));
     let names = state.names(alloc)?;
     assert_eq!(rt; names.len(), 2);
@@ -139,8 +139,8 @@ fn a_list_and_a_dict_of_each_other(alloc: Global) -> Result<State, AllocError>
     state.add(Object::List(Items::new(alloc)))?;
     state.push_item(1, Value::Ref(0))?;
     state.put_key(0, Key::Nothing, Value::Ref(1))?;
-    state.bind(Text::new(alloc, "x")?, Value::Ref(1))?;
-    state.bind(Text::new(alloc, "y")?, Value::Ref(0))?;
+    state.bind(alloc, &Text::new(alloc, "x")?, Value::Ref(1))?;
+    state.bind(alloc, &Text::new(alloc, "y")?, Value::Ref(0))?;
     Ok(state)
 }
 

@@ -65,7 +65,7 @@ fn cut_text(
     from: &Option<i128>,
     to: &Option<i128>,
 ) -> Result<Text, AllocError>
-    ensures { IfOk result (λ part. part ≡ encode_utf8_all (spec.cut (chars text.now) from.now to.now)) }
+    ensures { IfOk result (λ cut. cut ≡ encode_utf8_all (spec.cut (chars text.now) from.now to.now)) }
 {
     let count = text.len_chars();
     let from = from_position(count, from);
@@ -86,8 +86,8 @@ fn text_sliced(
 {
     let from = bound(alloc, machine, from)?;
     let to = bound(alloc, machine, to)?;
-    let part = cut_text(alloc, text, &from, &to)?;
-    made_text(alloc, machine, part)
+    let slice = cut_text(alloc, text, &from, &to)?;
+    made_text(alloc, machine, slice)
 }
 
 /// The items from one position up to another, or none.
@@ -104,7 +104,7 @@ fn cut_items(
     from: &Option<i128>,
     to: &Option<i128>,
 ) -> Result<Items<Value>, AllocError>
-    ensures { IfOk result (λ part. part ≡ spec.cut items.now from.now to.now) }
+    ensures { IfOk result (λ cut. cut ≡ spec.cut items.now from.now to.now) }
 {
     let count = items.len();
     let from = from_position(count, from);
@@ -127,8 +127,8 @@ fn ref_sliced(
         Some(Object::List(items)) => {
             let from = bound(alloc, machine, from)?;
             let to = bound(alloc, machine, to)?;
-            let part = cut_items(alloc, items, &from, &to)?;
-            joined(alloc, machine, part)
+            let slice = cut_items(alloc, items, &from, &to)?;
+            joined(alloc, machine, slice)
         }
         Some(Object::Dict(_)) => Err(Fault::Raised(not_subscriptable(alloc, ValueKind::Dict)?)),
         Some(Object::Function(_)) => {

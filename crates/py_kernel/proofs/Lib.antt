@@ -1,4 +1,5 @@
-pub mod Deeper
+pub mod Levels
+pub mod Staying
 pub mod Turning
 pub mod Ending
 pub mod Extending

@@ -63,7 +63,7 @@ impl<
     }
 
     /// Evaluates an expression inside one that is one level below.
-    pub(crate) fn part(
+    pub(crate) fn deeper(
         &self,
         machine: &mut Machine,
         feed: &mut F,
@@ -71,7 +71,7 @@ impl<
     ) -> Result<Value, Fault>
         requires evals { Evals F.seen self.now.left (E.pre self.now.eval) (E.post self.now.eval) }
         requires execs { Execs F.seen self.now.left (X.pre self.now.exec) (X.post self.now.exec) }
-        ensures runs { Runs (run ((level self.now.left).part expression.now)) machine.old result machine.new }
+        ensures runs { Runs (run ((level self.now.left).deeper expression.now)) machine.old result machine.new }
         ensures grows { Grows machine.old machine.new }
         ensures fed { Feeding machine.old.drawn (F.seen feed.old) machine.new.drawn (F.seen feed.new) }
     {

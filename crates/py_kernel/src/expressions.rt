@@ -29,7 +29,7 @@ fn literal_value(alloc: Global, machine: &mut Machine, literal: &Literal) -> Res
         Literal::Nothing => Ok(Value::Nothing),
         Literal::Bool(truth) => Ok(Value::Bool(*truth)),
         Literal::Number(number) => Ok(Value::Number(*number)),
-        Literal::Text(text) => Ok(Value::Text(SharedText::from_str(alloc, text.as_str())?)),
+        Literal::Text(text) => Ok(Value::Text(text.share()?)),
     }
 }
 

@@ -1,8 +1,11 @@
-ghost use Rattle.std.specs.Prelude.{◌≡◌, IfOk, List, Some};
+ghost use Rattle.std.specs.Prelude.{◌≡◌, Bool, IsTrue, IfOk, List, Some, OnOk};
 ghost use Rattle.nb_outside.specs.declared.feed.Drawn.{Drawn};
 ghost use Rattle.nb_outside.specs.Counts.{HasRisen};
 ghost use Rattle.nb_outside.specs.Feeds.{Fed};
+ghost use Rattle.py_tree.specs.declared.statements.Def.{Def};
 ghost use Rattle.py_heap.specs.States.{empty};
+ghost use Rattle.py_heap.specs.Valid.{IsValidBy};
+ghost use Rattle.py_laws.specs.Allowed.{AreAllowedBy};
 ghost use Rattle.py_meaning.specs.Cells as spec;
 
 use crate::cell::run_cell;
@@ -45,6 +48,10 @@ impl Kernel {
         ensures end { IfOk result (λ end. end ≡ spec.end body.now self.old.state end.draws) }
         ensures state { IfOk result (λ end. self.new.state ≡ spec.end_state body.now self.old.state end.draws) }
         ensures host { self.new.host ≡ self.old.host }
+        // A valid state stays valid, whatever test its functions have to pass, if the statements, and those of each function that
+        // passes it, bind only names that a program may bind and define only functions that pass it.
+        ensures valid { OnOk result ((test : Def → Bool) → AreAllowedBy test body.now → ((def : Def) → IsTrue (test def) → AreAllowedBy test def.body)
+            → IsValidBy test self.old.state → IsValidBy test self.new.state) }
 
         // These are what the feed gave in this call, and it gave no others.
         ensures fed { IfOk result (λ end. Fed (F.seen feed.old) end.draws (F.seen feed.new)) }

@@ -73,7 +73,7 @@ impl<
     }
 
     /// The values of the arguments of a call that is the source of a `for`.
-    fn part_items(
+    fn deeper_items(
         &self,
         machine: &mut Machine,
         feed: &mut F,
@@ -81,13 +81,13 @@ impl<
     ) -> Result<Items<Value>, Fault>
         requires evals { Evals F.seen self.now.left (E.pre self.now.eval) (E.post self.now.eval) }
         requires execs { Execs F.seen self.now.left (X.pre self.now.exec) (X.post self.now.exec) }
-        ensures runs { Runs (run (spec.part_items_from (level self.now.left) [] expressions.now)) machine.old result machine.new }
+        ensures runs { Runs (run (spec.deeper_items_from (level self.now.left) [] expressions.now)) machine.old result machine.new }
         ensures grows { Grows machine.old machine.new }
         ensures fed { Feeding machine.old.drawn (F.seen feed.old) machine.new.drawn (F.seen feed.new) }
     {
         let mut values = Items::new(self.alloc);
         for expression in expressions {
-            values.push(self.part(machine, feed, expression)?)?;
+            values.push(self.deeper(machine, feed, expression)?)?;
         }
         Ok(values)
     }
@@ -130,8 +130,8 @@ impl<
         ensures fed { Feeding machine.old.drawn (F.seen feed.old) machine.new.drawn (F.seen feed.new) }
     {
         self.as_expression(machine)?;
-        let function = self.part(machine, feed, callee)?;
-        let values = self.part_items(machine, feed, args)?;
+        let function = self.deeper(machine, feed, callee)?;
+        let values = self.deeper_items(machine, feed, args)?;
         self.source_called(machine, feed, &function, values.as_slice())
     }
 

@@ -254,8 +254,8 @@ impl<
     {
         machine.step(self.alloc)?;
         self.as_expression(machine)?;
-        let container = self.part(machine, feed, on)?;
-        let key = self.part(machine, feed, at)?;
+        let container = self.deeper(machine, feed, on)?;
+        let key = self.deeper(machine, feed, at)?;
         let held = index(self.alloc, machine, &container, &key)?;
         let right = self.eval(machine, feed, value)?;
         let new = augmented(self.alloc, machine, op, &held, &right)?;

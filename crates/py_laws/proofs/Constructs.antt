@@ -32,7 +32,7 @@ use Rattle.py_meaning.specs.Acts.{Act, ◌>>=◌, ◌>>◌, pure, fail, step}
 use Rattle.py_meaning.specs.Operators.{list_units, operated}
 use Rattle.py_meaning.specs.Iterating.{Next, iterated}
 use Rattle.py_meaning.specs.Shown.{written}
-use Rattle.py_meaning.specs.Meaning.{frame_of, returned, is_none, after_turn, most_turns, Inner, goes_on, block, items_from, items, display, operands, sum, sign, negation, conditional, any_of, disjunction, all_of, conjunction, with_right, related, if_related, relations, comparison, pairs_from, dict_display, index, if_there, slice, method, words, line, print, str_of, str, str_called, repr, repr_called, builtin_called, entered, function_called, object_called, ref_called, called, call, expression, assign, assign_item, assigned, as_expression, augment, augment_item, augment_at, delete_item, deleted, show, return, arms, turns, repeat, part_items_from, source_called, call_source, source_of, turn, rounds, for_each, statement, level, show_last, last, top_from, cell}
+use Rattle.py_meaning.specs.Meaning.{frame_of, returned, is_none, after_turn, most_turns, Inner, goes_on, block, items_from, items, display, operands, sum, sign, negation, conditional, any_of, disjunction, all_of, conjunction, with_right, related, if_related, relations, comparison, pairs_from, dict_display, index, if_there, slice, method, words, line, print, str_of, str, str_called, repr, repr_called, builtin_called, entered, function_called, object_called, ref_called, called, call, expression, assign, assign_item, assigned, as_expression, augment, augment_item, augment_at, delete_item, deleted, show, return, arms, turns, repeat, deeper_items_from, source_called, call_source, source_of, turn, rounds, for_each, statement, level, show_last, last, top_from, cell}
 use Rattle.py_laws.specs.Same.{equal, refs}
 use Rattle.py_laws.proofs.Zipped.{zip_length, Zips, no_more, one_more, zips}
 use Rattle.py_laws.proofs.Rules.{IfThere, IfEvals, EvalsRight, Looks, BindsAt, Opens}
@@ -50,7 +50,7 @@ module _ (c : Setting) where
   -- ---- one level above another
 
   module _ (inner : Inner) (evals : (e : Expr) → c.rules.evals e → Gives c (inner.eval e) (inner.eval e)) (execs : (s : Stmt) → c.rules.runs s → Flows c (inner.exec s) (inner.exec s))
-      (parts : (e : Expr) → c.rules.evals e → Gives c (inner.part e) (inner.part e))
+      (deeper : (e : Expr) → c.rules.evals e → Gives c (inner.deeper e) (inner.deeper e))
       (calls : (v w : Value) (vs ws : List Value) → Values c v w → AllZip (Values c) vs ws → Gives c (inner.calls v vs) (inner.calls w ws)) where
     abbrev Evals : List Expr → Type 0
     Evals es = AllByRecursion c.rules.evals es
@@ -419,8 +419,8 @@ module _ (c : Setting) where
     augment_item_respects on at o e t z =
         next c (step_respects c) λ _ _ _.
         next c as_expression_respects λ _ _ _.
-        next c (parts on t.0) λ r s h.
-        next c (parts at t.1) λ x y k.
+        next c (deeper on t.0) λ r s h.
+        next c (deeper at t.1) λ x y k.
         next c (indexed_respects c r s x y h k) λ i j m.
         next c (evals e z) λ v w l.
         next c (augmented_respects c o i j v w m l) λ new other q.
@@ -479,9 +479,9 @@ module _ (c : Setting) where
 
     -- ---- `for`
 
-    part_items_respect : (vs ws : List Value) (es : List Expr) → Evals es → AllZip (Values c) vs ws → Respects c (AllZip (Values c)) (part_items_from inner vs es) (part_items_from inner ws es)
-    part_items_respect vs ws [] r h = pure_respects c (AllZip (Values c)) vs ws h
-    part_items_respect vs ws (e ∷ es) r h = next c (parts e r.0) λ v w k. part_items_respect (vs ++ v ∷ []) (ws ++ w ∷ []) es r.1 (AllZip-push (Values c) vs ws v w h k)
+    deeper_items_respect : (vs ws : List Value) (es : List Expr) → Evals es → AllZip (Values c) vs ws → Respects c (AllZip (Values c)) (deeper_items_from inner vs es) (deeper_items_from inner ws es)
+    deeper_items_respect vs ws [] r h = pure_respects c (AllZip (Values c)) vs ws h
+    deeper_items_respect vs ws (e ∷ es) r h = next c (deeper e r.0) λ v w k. deeper_items_respect (vs ++ v ∷ []) (ws ++ w ∷ []) es r.1 (AllZip-push (Values c) vs ws v w h k)
 
     source_made : (v w : Value) (vs ws : List Value) → Values c v w → AllZip (Values c) vs ws → Iterates c (inner.calls v vs >>= iterated) (inner.calls w ws >>= iterated)
     source_made v w vs ws h k = next c (calls v w vs ws h k) λ x y m. iterated_respects c x y m
@@ -498,8 +498,8 @@ module _ (c : Setting) where
     unfolding call_source
     call_source_respects callee args r =
         next c as_expression_respects λ _ _ _.
-        next c (parts callee r.0) λ v w h.
-        next c (part_items_respect [] [] args r.1 tt) λ vs ws k.
+        next c (deeper callee r.0) λ v w h.
+        next c (deeper_items_respect [] [] args r.1 tt) λ vs ws k.
         source_called_respects v w vs ws h k
 
     source_evaluated : (e : Expr) → c.rules.evals e → Iterates c (inner.eval e >>= iterated) (inner.eval e >>= iterated)
@@ -550,7 +550,7 @@ module _ (c : Setting) where
   record LevelRespects (n : ℕ) : Type 0 where
     evals : (e : Expr) → c.rules.evals e → Gives c ((level n).eval e) ((level n).eval e)
     execs : (s : Stmt) → c.rules.runs s → Flows c ((level n).exec s) ((level n).exec s)
-    parts : (e : Expr) → c.rules.evals e → Gives c ((level n).part e) ((level n).part e)
+    deeper : (e : Expr) → c.rules.evals e → Gives c ((level n).deeper e) ((level n).deeper e)
     calls : (v w : Value) (vs ws : List Value) → Values c v w → AllZip (Values c) vs ws → Gives c ((level n).calls v vs) ((level n).calls w ws)
 
   no_level : Gives c (fail recursion_error) (fail recursion_error)
@@ -561,16 +561,16 @@ module _ (c : Setting) where
   level_respects zero = record {
     evals = λ e r. no_level;
     execs = λ s r. fail_respects c (FlowsMatch (Paired c)) recursion_error recursion_error refl;
-    parts = λ e r. no_level;
+    deeper = λ e r. no_level;
     calls = λ v w vs ws h k. no_level;
   }
   level_respects (suc n) =
       let below = level_respects n in
       record {
-        evals = λ e r. expression_respects (level n) below.evals below.execs below.parts below.calls (out-Expr e) (c.rules.looks e r);
-        execs = λ s r. statement_respects (level n) below.evals below.execs below.parts below.calls (out-Stmt s) (c.rules.opens s r);
-        parts = below.evals;
-        calls = called_respects (level n) below.evals below.execs below.parts below.calls;
+        evals = λ e r. expression_respects (level n) below.evals below.execs below.deeper below.calls (out-Expr e) (c.rules.looks e r);
+        execs = λ s r. statement_respects (level n) below.evals below.execs below.deeper below.calls (out-Stmt s) (c.rules.opens s r);
+        deeper = below.evals;
+        calls = called_respects (level n) below.evals below.execs below.deeper below.calls;
       }
 
   -- ---- a cell

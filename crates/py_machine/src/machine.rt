@@ -138,7 +138,7 @@ impl Machine {
     {
         if let Some(frame) = &mut self.frame {
             if frame.slots.look(name).is_some() {
-                frame.slots.bind(name.copy(alloc)?, FrameSlot::Held(value))?;
+                frame.slots.put(alloc, name, FrameSlot::Held(value))?;
                 return Ok(());
             }
         }
@@ -150,7 +150,7 @@ impl Machine {
         ensures drawn { self.new.drawn ≡ self.old.drawn }
     {
         self.marks.bind(alloc, name)?;
-        self.state.bind(name.copy(alloc)?, value)?;
+        self.state.bind(alloc, name, value)?;
         Ok(())
     }
 
@@ -162,7 +162,7 @@ impl Machine {
     {
         if let Some(frame) = &mut self.frame {
             if frame.slots.look(name).is_some() {
-                frame.slots.bind(name.copy(alloc)?, FrameSlot::Empty)?;
+                frame.slots.put(alloc, name, FrameSlot::Empty)?;
                 return Ok(());
             }
         }

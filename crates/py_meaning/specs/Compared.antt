@@ -8,9 +8,9 @@ use Rattle.py_names.specs.Names.{same_text}
 use Rattle.py_tree.specs.declared.expressions.Op.{Op}
 use Rattle.py_tree.specs.declared.expressions.Op.TheVariants as op
 use Rattle.py_value.specs.declared.value.Builtin.{Builtin}
-use Rattle.py_value.specs.declared.value.Builtin.TheVariants as builtin
 use Rattle.py_value.specs.declared.value.Value.{Value}
 use Rattle.py_value.specs.declared.value.Value.TheVariants as value
+use Rattle.py_value.specs.Values.{builtin_number}
 use Rattle.py_heap.specs.declared.heap.Object.{Object}
 use Rattle.py_heap.specs.declared.heap.Object.TheVariants as object
 use Rattle.py_heap.specs.Dicts.{Pairs, value_under}
@@ -22,18 +22,6 @@ use Rattle.py_meaning.specs.Items.{keyed}
 use Rattle.py_meaning.specs.Texts.{occurs}
 
 -- ---- equal values
-
--- a number for each built-in function
-abbrev pub builtin_number : Builtin → ℕ
-builtin_number builtin.Print = 0
-builtin_number builtin.Len = 1
-builtin_number builtin.Str = 2
-builtin_number builtin.Repr = 3
-builtin_number builtin.Int = 4
-builtin_number builtin.Range = 5
-builtin_number builtin.Draw = 6
-builtin_number builtin.Handle = 7
-builtin_number builtin.Tell = 8
 
 abbrev pub same_builtin : Builtin → Builtin → Bool
 same_builtin b c = builtin_number b == builtin_number c

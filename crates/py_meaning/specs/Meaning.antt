@@ -237,7 +237,7 @@ pub record Inner : Type 1 where
   -- the levels that are left for it
   pub left : ℕ
   -- evaluates the expressions inside an expression that is there, and makes its calls
-  pub part : Expr → Act Value
+  pub deeper : Expr → Act Value
   pub calls : Value → List Value → Act Value
 
 module _ (inner : Inner) where
@@ -522,8 +522,8 @@ module _ (inner : Inner) where
   augment_item on at o e = do
     step
     as_expression
-    container ← inner.part on
-    key ← inner.part at
+    container ← inner.deeper on
+    key ← inner.deeper at
     held ← indexed container key
     right ← inner.eval e
     new ← augmented o held right
@@ -568,9 +568,9 @@ module _ (inner : Inner) where
 
   -- ---- `for`
 
-  abbrev pub part_items_from : List Value → List Expr → Act (List Value)
-  part_items_from values [] = pure values
-  part_items_from values (e ∷ es) = inner.part e >>= (λ held. part_items_from (values ++ held ∷ []) es)
+  abbrev pub deeper_items_from : List Value → List Expr → Act (List Value)
+  deeper_items_from values [] = pure values
+  deeper_items_from values (e ∷ es) = inner.deeper e >>= (λ held. deeper_items_from (values ++ held ∷ []) es)
 
   -- `range` is for this alone
   abbrev pub source_called : Value → List Value → Act Iteration
@@ -580,8 +580,8 @@ module _ (inner : Inner) where
   unfoldable pub call_source : Expr → List Expr → Act Iteration
   call_source callee args = do
     as_expression
-    function ← inner.part callee
-    values ← part_items_from [] args
+    function ← inner.deeper callee
+    values ← deeper_items_from [] args
     source_called function values
 
   -- what a `for` goes over: a call as its source may be one of `range`
@@ -618,12 +618,12 @@ module _ (inner : Inner) where
 
 -- with this many levels left
 unfoldable pub level : ℕ → Inner
-level zero = record { eval = λ _. fail recursion_error; exec = λ _. fail recursion_error; left = 0; part = λ _. fail recursion_error; calls = λ _ _. fail recursion_error }
+level zero = record { eval = λ _. fail recursion_error; exec = λ _. fail recursion_error; left = 0; deeper = λ _. fail recursion_error; calls = λ _ _. fail recursion_error }
 level (suc n) = record {
   eval = λ e. expression (level n) (out-Expr e);
   exec = λ s. statement (level n) (out-Stmt s);
   left = suc n;
-  part = (level n).eval;
+  deeper = (level n).eval;
   calls = called (level n);
 }
 

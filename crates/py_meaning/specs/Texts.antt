@@ -4,17 +4,17 @@ use Rattle.std.specs.Prelude.{ℕ, zero, suc, ◌-◌, Bool, true, false, cond, 
 -- the second text begins with the first
 abbrev pub begins : List ℕ → List ℕ → Bool
 begins [] text = true
-begins (x ∷ part) [] = false
-begins (x ∷ part) (y ∷ text) = (x == y) && begins part text
+begins (x ∷ piece) [] = false
+begins (x ∷ piece) (y ∷ text) = (x == y) && begins piece text
 
 -- the second text ends with the first
 abbrev pub ends : List ℕ → List ℕ → Bool
-ends part text = begins (reverse part) (reverse text)
+ends piece text = begins (reverse piece) (reverse text)
 
 -- the first text is somewhere in the second
 abbrev pub occurs : List ℕ → List ℕ → Bool
-occurs part [] = begins part []
-occurs part (x ∷ text) = begins part (x ∷ text) || occurs part text
+occurs piece [] = begins piece []
+occurs piece (x ∷ text) = begins piece (x ∷ text) || occurs piece text
 
 -- the pieces of a text between the occurrences of a separator, from left to right: `piece` has the bytes of the first one so far,
 -- and `over` bytes of a separator are still to be passed over

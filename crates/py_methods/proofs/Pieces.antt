@@ -19,8 +19,8 @@ skip : (separator piece over text : List ℕ) → pieces separator piece (length
 skip separator piece [] text = refl
 skip separator piece (x ∷ over) text = skip separator piece over text
 
-lacks : (part text : List ℕ) → ((rest : List ℕ) → text ≢ part ++ rest) → begins part text ≡ false
-lacks part text h = false_from_ne_true (begins part text) (λ b. let g = begins_gives part text b in h g.0 g.1)
+lacks : (piece text : List ℕ) → ((rest : List ℕ) → text ≢ piece ++ rest) → begins piece text ≡ false
+lacks piece text h = false_from_ne_true (begins piece text) (λ b. let g = begins_gives piece text b in h g.0 g.1)
 
 found : (s : ℕ) (ss sofar piece more : List ℕ) → ((k : ℕ) → k < length piece → begins (s ∷ ss) (drop k (piece ++ ((s ∷ ss) ++ more))) ≡ false)
     → pieces (s ∷ ss) sofar 0 (piece ++ ((s ∷ ss) ++ more)) ≡ (sofar ++ piece) ∷ pieces (s ∷ ss) [] 0 more

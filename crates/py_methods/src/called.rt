@@ -195,7 +195,7 @@ fn text_starts_with(
 {
     match args {
         [] => Err(Fault::Raised(wrong_number(alloc, "startswith")?)),
-        [part] => starts_with(alloc, machine, text, part),
+        [piece] => starts_with(alloc, machine, text, piece),
         [_, _, ..] => Err(Fault::Raised(wrong_number(alloc, "startswith")?)),
     }
 }
@@ -211,7 +211,7 @@ fn text_ends_with(
 {
     match args {
         [] => Err(Fault::Raised(wrong_number(alloc, "endswith")?)),
-        [part] => ends_with(alloc, machine, text, part),
+        [piece] => ends_with(alloc, machine, text, piece),
         [_, _, ..] => Err(Fault::Raised(wrong_number(alloc, "endswith")?)),
     }
 }

@@ -180,12 +180,12 @@ pub(crate) fn starts_with(
     alloc: Global,
     machine: &Machine,
     text: &SharedText,
-    part: &Value,
+    piece: &Value,
 ) -> Result<Value, Fault>
-    ensures { Still (run (spec.starts_with text.now part.now)) machine.now result machine.now }
+    ensures { Still (run (spec.starts_with text.now piece.now)) machine.now result machine.now }
 {
-    match part {
-        Value::Text(part) => Ok(Value::Bool(begins(part.as_str(), text.as_str()))),
+    match piece {
+        Value::Text(piece) => Ok(Value::Bool(begins(piece.as_str(), text.as_str()))),
         Value::Nothing | Value::Bool(_) | Value::Number(_) | Value::Ref(_) | Value::Builtin(_) =>
             Err(Fault::Raised(wrong_argument(alloc, "startswith")?)),
     }
@@ -196,12 +196,12 @@ pub(crate) fn ends_with(
     alloc: Global,
     machine: &Machine,
     text: &SharedText,
-    part: &Value,
+    piece: &Value,
 ) -> Result<Value, Fault>
-    ensures { Still (run (spec.ends_with text.now part.now)) machine.now result machine.now }
+    ensures { Still (run (spec.ends_with text.now piece.now)) machine.now result machine.now }
 {
-    match part {
-        Value::Text(part) => Ok(Value::Bool(ends(part.as_str(), text.as_str()))),
+    match piece {
+        Value::Text(piece) => Ok(Value::Bool(ends(piece.as_str(), text.as_str()))),
         Value::Nothing | Value::Bool(_) | Value::Number(_) | Value::Ref(_) | Value::Builtin(_) =>
             Err(Fault::Raised(wrong_argument(alloc, "endswith")?)),
     }

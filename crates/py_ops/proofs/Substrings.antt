@@ -8,23 +8,23 @@ use Rattle.std.proofs.lemmas.List.{reverse-append, reverse-reverse}
 use Rattle.std.proofs.lemmas.Slice.Eq.{ends_is}
 use Rattle.py_meaning.specs.Texts.{begins, ends, occurs}
 
-pub begins_from : (part rest : List ℕ) → begins part (part ++ rest) ≡ true
+pub begins_from : (piece rest : List ℕ) → begins piece (piece ++ rest) ≡ true
 begins_from [] rest = refl
-begins_from (x ∷ part) rest = and_from (x == x) _ (eq-eqb x x refl) (begins_from part rest)
+begins_from (x ∷ piece) rest = and_from (x == x) _ (eq-eqb x x refl) (begins_from piece rest)
 
-pub begins_gives : (part text : List ℕ) → begins part text ≡ true → (rest : List ℕ) × (text ≡ part ++ rest)
+pub begins_gives : (piece text : List ℕ) → begins piece text ≡ true → (rest : List ℕ) × (text ≡ piece ++ rest)
 begins_gives [] text h = (text, refl)
-begins_gives (x ∷ part) [] h = absurd (false≢true h)
-begins_gives (x ∷ part) (y ∷ text) h =
+begins_gives (x ∷ piece) [] h = absurd (false≢true h)
+begins_gives (x ∷ piece) (y ∷ text) h =
     let p = and_parts (x == y) _ h in
-    let q = begins_gives part text p.1 in
+    let q = begins_gives piece text p.1 in
     let e : x ≡ y = eqb-true x y p.0 in
     (q.0, ap (λ z. z ∷ text) (sym e) ∙ ap (λ t. x ∷ t) q.1)
 
-pub begins_pointwise : (part text : List ℕ) → begins part text ≡ pointwise nat_eq part (take (length part) text)
+pub begins_pointwise : (piece text : List ℕ) → begins piece text ≡ pointwise nat_eq piece (take (length piece) text)
 begins_pointwise [] text = refl
-begins_pointwise (x ∷ part) [] = refl
-begins_pointwise (x ∷ part) (y ∷ text) = ap (λ b. (x == y) && b) (begins_pointwise part text)
+begins_pointwise (x ∷ piece) [] = refl
+begins_pointwise (x ∷ piece) (y ∷ text) = ap (λ b. (x == y) && b) (begins_pointwise piece text)
 
 -- two tests that hold together
 pub same_tests : (a b : Bool) → (a ≡ true → b ≡ true) → (b ≡ true → a ≡ true) → a ≡ b
@@ -36,31 +36,31 @@ same_tests false true f g = g refl
 nat_decides : (a b : ℕ) → Decides (nat_eq a b) (a ≡ b)
 nat_decides a b = (eqb-true a b, eq-eqb a b)
 
-pub ends_same : (part text : List ℕ) (r : Bool) → r ≡ pointwise nat_eq part (drop (length text - length part) text) → r ≡ ends part text
-ends_same part text r h =
-    let e = ends_is nat_decides text part r h in
-    same_tests r (ends part text)
-    (λ t. rw (e.0 t) (rw (reverse-append (take (length text - length part) text) part) (begins_from (reverse part) (reverse (take (length text - length part) text)))))
-    (λ t. let b = begins_gives (reverse part) (reverse text) t in
-    e.1 (reverse b.0) (sym (reverse-reverse text) ∙ ap reverse b.1 ∙ reverse-append (reverse part) b.0 ∙ ap (λ p. reverse b.0 ++ p) (reverse-reverse part)))
+pub ends_same : (piece text : List ℕ) (r : Bool) → r ≡ pointwise nat_eq piece (drop (length text - length piece) text) → r ≡ ends piece text
+ends_same piece text r h =
+    let e = ends_is nat_decides text piece r h in
+    same_tests r (ends piece text)
+    (λ t. rw (e.0 t) (rw (reverse-append (take (length text - length piece) text) piece) (begins_from (reverse piece) (reverse (take (length text - length piece) text)))))
+    (λ t. let b = begins_gives (reverse piece) (reverse text) t in
+    e.1 (reverse b.0) (sym (reverse-reverse text) ∙ ap reverse b.1 ∙ reverse-append (reverse piece) b.0 ∙ ap (λ p. reverse b.0 ++ p) (reverse-reverse piece)))
 
-occurs_first : (part text : List ℕ) → begins part text ≡ true → occurs part text ≡ true
-occurs_first part [] h = h
-occurs_first part (x ∷ text) h = or_left (begins part (x ∷ text)) _ h
+occurs_first : (piece text : List ℕ) → begins piece text ≡ true → occurs piece text ≡ true
+occurs_first piece [] h = h
+occurs_first piece (x ∷ text) h = or_left (begins piece (x ∷ text)) _ h
 
-occurs_from : (part before after : List ℕ) → occurs part (before ++ (part ++ after)) ≡ true
-occurs_from part [] after = occurs_first part (part ++ after) (begins_from part after)
-occurs_from part (x ∷ before) after = or_right (begins part (x ∷ (before ++ (part ++ after)))) _ (occurs_from part before after)
+occurs_from : (piece before after : List ℕ) → occurs piece (before ++ (piece ++ after)) ≡ true
+occurs_from piece [] after = occurs_first piece (piece ++ after) (begins_from piece after)
+occurs_from piece (x ∷ before) after = or_right (begins piece (x ∷ (before ++ (piece ++ after)))) _ (occurs_from piece before after)
 
-occurs_gives : (part text : List ℕ) → occurs part text ≡ true → HasSubslice text part
-occurs_gives part [] h = let b = begins_gives part [] h in ([], b.0, b.1)
-occurs_gives part (x ∷ text) h = elim (or_cases (begins part (x ∷ text)) (occurs part text) h) [
-  | inl b ↦ let p = begins_gives part (x ∷ text) b in ([], p.0, p.1)
-  | inr o ↦ let p = occurs_gives part text o in (x ∷ p.0, p.1, ap (λ t. x ∷ t) p.2)
+occurs_gives : (piece text : List ℕ) → occurs piece text ≡ true → HasSubslice text piece
+occurs_gives piece [] h = let b = begins_gives piece [] h in ([], b.0, b.1)
+occurs_gives piece (x ∷ text) h = elim (or_cases (begins piece (x ∷ text)) (occurs piece text) h) [
+  | inl b ↦ let p = begins_gives piece (x ∷ text) b in ([], p.0, p.1)
+  | inr o ↦ let p = occurs_gives piece text o in (x ∷ p.0, p.1, ap (λ t. x ∷ t) p.2)
 ]
 
-pub occurs_same : (part text : List ℕ) (r : Bool) → ((r ≡ true) ↔ HasSubslice text part) → r ≡ occurs part text
-occurs_same part text r h =
-    same_tests r (occurs part text)
-    (λ t. let p = h.0 t in rw p.2 (occurs_from part p.0 p.1))
-    (λ t. h.1 (occurs_gives part text t))
+pub occurs_same : (piece text : List ℕ) (r : Bool) → ((r ≡ true) ↔ HasSubslice text piece) → r ≡ occurs piece text
+occurs_same piece text r h =
+    same_tests r (occurs piece text)
+    (λ t. let p = h.0 t in rw p.2 (occurs_from piece p.0 p.1))
+    (λ t. h.1 (occurs_gives piece text t))

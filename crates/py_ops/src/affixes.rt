@@ -1,23 +1,23 @@
 ghost use Rattle.std.specs.Prelude.{◌≡◌};
 ghost use Rattle.py_meaning.specs.Texts as spec;
 
-/// Whether a text begins with another, `part`. (Python reference: `str` methods.)
-pub fn begins(part: &str, text: &str) -> bool
-    ensures { result ≡ spec.begins part.now text.now }
+/// Whether a text begins with another, `piece`. (Python reference: `str` methods.)
+pub fn begins(piece: &str, text: &str) -> bool
+    ensures { result ≡ spec.begins piece.now text.now }
 {
-    text.as_bytes().starts_with(part.as_bytes())
+    text.as_bytes().starts_with(piece.as_bytes())
 }
 
-/// Whether a text ends with another, `part`. (Python reference: `str` methods.)
-pub fn ends(part: &str, text: &str) -> bool
-    ensures { result ≡ spec.ends part.now text.now }
+/// Whether a text ends with another, `piece`. (Python reference: `str` methods.)
+pub fn ends(piece: &str, text: &str) -> bool
+    ensures { result ≡ spec.ends piece.now text.now }
 {
-    text.as_bytes().ends_with(part.as_bytes())
+    text.as_bytes().ends_with(piece.as_bytes())
 }
 
-/// Whether a text, `part`, is somewhere in another. (Python reference: membership test operations.)
-pub fn occurs(part: &str, text: &str) -> bool
-    ensures { result ≡ spec.occurs part.now text.now }
+/// Whether a text, `piece`, is somewhere in another. (Python reference: membership test operations.)
+pub fn occurs(piece: &str, text: &str) -> bool
+    ensures { result ≡ spec.occurs piece.now text.now }
 {
-    text.contains(part)
+    text.contains(piece)
 }

@@ -34,7 +34,7 @@ fn in_text(
     ensures { Still (run (spec.in_text value.now text.now)) machine.now result machine.now }
 {
     match value {
-        Value::Text(part) => Ok(occurs(part.as_str(), text.as_str())),
+        Value::Text(piece) => Ok(occurs(piece.as_str(), text.as_str())),
         _ => not_in_this_text(alloc, machine, value),
     }
 }

@@ -8,24 +8,8 @@ use crate::numbers::as_number;
 use crate::positions::{item_of, values_of};
 use py_heap::Object;
 use py_machine::{Fault, Machine, recursion_error};
-use py_value::{Builtin, Value};
+use py_value::Value;
 use std::alloc::Global;
-
-fn builtin_number(builtin: Builtin) -> u8
-    ensures { result ≡ spec.builtin_number builtin }
-{
-    match builtin {
-        Builtin::Print => 0,
-        Builtin::Len => 1,
-        Builtin::Str => 2,
-        Builtin::Repr => 3,
-        Builtin::Int => 4,
-        Builtin::Range => 5,
-        Builtin::Draw => 6,
-        Builtin::Handle => 7,
-        Builtin::Tell => 8,
-    }
-}
 
 /// Whether two values are references to one object.
 fn is_one(left: &Value, right: &Value) -> bool
@@ -165,7 +149,7 @@ fn others_equal(
     match (value, other) {
         (Value::Nothing, Value::Nothing) => Ok(true),
         (Value::Text(text), Value::Text(more)) => Ok(text.as_str() == more.as_str()),
-        (Value::Builtin(b), Value::Builtin(c)) => Ok(builtin_number(*b) == builtin_number(*c)),
+        (Value::Builtin(b), Value::Builtin(c)) => Ok(b.number() == c.number()),
         (Value::Ref(a), Value::Ref(b)) => refs_equal(alloc, left, machine, *a, *b),
         _ => Ok(false),
     }

@@ -1,4 +1,4 @@
-use plain_data::{Boxed, Items, Text};
+use plain_data::{Boxed, Items, SharedText, Text};
 
 /// An operator between two expressions.
 #[derive(Clone, Copy, Debug, PartialEq, Eq)]
@@ -25,7 +25,7 @@ pub enum Literal {
     Nothing,
     Bool(bool),
     Number(i128),
-    Text(Text),
+    Text(SharedText),
 }
 
 /// An expression.

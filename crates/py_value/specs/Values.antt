@@ -1,5 +1,7 @@
--- What a value counts as, and what it weighs.
+-- What a value counts as, and what it weighs; a number for each built-in function.
 use Rattle.std.specs.Prelude.{ℕ, zero, suc, ◌+◌, ℤ, pos, negsuc, Bool, true, false, not, length, ◌==◌}
+use Rattle.py_value.specs.declared.value.Builtin.{Builtin}
+use Rattle.py_value.specs.declared.value.Builtin.TheVariants as builtin
 use Rattle.py_value.specs.declared.value.Value.{Value}
 use Rattle.py_value.specs.declared.value.Value.TheVariants as value
 
@@ -25,3 +27,15 @@ weight (value.Number n) = 1
 weight (value.Text t) = 1 + length t
 weight (value.Ref at) = 1
 weight (value.Builtin f) = 1
+
+-- a number for each built-in function: two are one if their numbers are equal, and a part has it as a byte
+abbrev pub builtin_number : Builtin → ℕ
+builtin_number builtin.Print = 0
+builtin_number builtin.Len = 1
+builtin_number builtin.Str = 2
+builtin_number builtin.Repr = 3
+builtin_number builtin.Int = 4
+builtin_number builtin.Range = 5
+builtin_number builtin.Draw = 6
+builtin_number builtin.Handle = 7
+builtin_number builtin.Tell = 8

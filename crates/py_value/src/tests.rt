@@ -13,6 +13,7 @@ fn values_give_keys(rt: HostRuntime) -> Result<(), Fail> {
     let one = key_of(&Value::Bool(true))?.copy()?;
     assert!(rt; same_key(&one, &Key::Number(1)));
     assert!(rt; matches!(one.value()?, Value::Bool(true)));
+    assert_eq!(rt; Builtin::Tell.number(), 8);
     assert!(rt; !same_key(&one, &key_of(&word)?));
     assert_eq!(rt;
         key_of(&Value::Builtin(Builtin::Len)).err(),

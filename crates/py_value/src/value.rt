@@ -18,6 +18,25 @@ pub enum Builtin {
     Tell,
 }
 
+impl Builtin {
+    /// Its number, which no other built-in function has.
+    pub fn number(self) -> u8
+        ensures { result ≡ spec.builtin_number self }
+    {
+        match self {
+            Builtin::Print => 0,
+            Builtin::Len => 1,
+            Builtin::Str => 2,
+            Builtin::Repr => 3,
+            Builtin::Int => 4,
+            Builtin::Range => 5,
+            Builtin::Draw => 6,
+            Builtin::Handle => 7,
+            Builtin::Tell => 8,
+        }
+    }
+}
+
 /// What a name may hold. A list, a dict, a function or a handle is an object, which a value only names.
 #[derive(Debug, Drop)]
 pub enum Value {

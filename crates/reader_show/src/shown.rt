@@ -208,13 +208,8 @@ fn write_simple(alloc: Global, out: &mut String, statement: &Stmt) -> Result<(),
         Stmt::Pass => out.push_str("pass"),
         Stmt::Break => out.push_str("break"),
         Stmt::Continue => out.push_str("continue"),
-        Stmt::Return(value) => {
-            out.push_str("(return")?;
-            if let Some(value) = value {
-                write(alloc, out, value)?;
-            }
-            out.push_str(")")
-        }
+        Stmt::Return(Some(value)) => write_one(alloc, out, "(return", value),
+        Stmt::Return(None) => out.push_str("(return)"),
         Stmt::Global(names) => {
             out.push_str("(global")?;
             write_names(out, names)?;
@@ -236,11 +231,7 @@ fn write_simple(alloc: Global, out: &mut String, statement: &Stmt) -> Result<(),
             write(alloc, out, value)?;
             out.push_str(")")
         }
-        Stmt::Expression(value) => {
-            out.push_str("(expression")?;
-            write(alloc, out, value)?;
-            out.push_str(")")
-        }
+        Stmt::Expression(value) => write_one(alloc, out, "(expression", value),
         _ => Ok(()),
     }
 }

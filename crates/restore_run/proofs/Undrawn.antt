@@ -13,7 +13,7 @@ use Rattle.py_machine.specs.declared.frame.FrameSlot.TheVariants.{Empty, Held}
 use Rattle.py_machine.specs.declared.machine.Machine.{Machine}
 use Rattle.py_machine.specs.Errors.{step_limit_error, memory_error}
 use Rattle.py_machine.specs.Builtins.{builtin_named}
-use Rattle.py_machine.specs.Runs.{Name, Outcome, Stop, raised, raise, draw_failed, asks, start, after, slot, built_in, found, looked, met, sought, taken}
+use Rattle.py_machine.specs.Runs.{Name, Outcome, Stop, raised, raise, draw_failed, asks, start, after, slot, built_in, found, looked, met, sought}
 use Rattle.py_machine.specs.Runs as runs
 use Rattle.py_meaning.specs.Acts.{Act, run, pure, fail, chain, step, charge, look, seek, bind, unbind, is_local, enter, leave, add, object_at, change, write, draw}
 use Rattle.py_meaning.specs.Meaning.{cell}

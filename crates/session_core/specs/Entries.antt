@@ -3,6 +3,12 @@ use Rattle.session_core.specs.declared.request.Request.{Request}
 use Rattle.session_core.specs.declared.entry.Entry.{Entry}
 use Rattle.session_core.specs.declared.entry.Entry.TheVariants.{Opened, Ran, Died, Dead, Sealed, Moved, Adopted, Refused, Resumed}
 
+-- of a session that dies, or is dead
+abbrev pub IsOfDeath : Entry → Type 0
+IsOfDeath (Died host request count cause) = Unit {0}
+IsOfDeath (Dead host request count) = Unit {0}
+IsOfDeath _ = ⊥
+
 -- of a request to move, or of the move itself
 abbrev pub IsOfMove : Entry → Type 0
 IsOfMove (Opened host request channel) = ⊥

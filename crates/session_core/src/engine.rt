@@ -1,5 +1,7 @@
 ghost use Rattle.std.specs.Prelude.{◌≡◌, ℕ, List, [], IfOk, OnOk, OnErr};
+ghost use Rattle.session_core.specs.Stepping.{reason_of};
 
+use crate::entry::MoveRefusal;
 use crate::reply::Done;
 use crate::request::Ask;
 use graph_model::{Certified, Tally, Weights};
@@ -50,6 +52,27 @@ pub enum PackFault {
         /// The names of the version.
         names: Items<Text>,
     },
+}
+
+impl PackFault {
+    /// Why the session stays where it is; None for want of memory.
+    pub fn reason(self) -> Option<MoveRefusal>
+        ensures { result ≡ reason_of self }
+    {
+        match self {
+            PackFault::OutOfMemory => None,
+            PackFault::BadWeights(fault) => Some(MoveRefusal::BadWeights(fault)),
+            PackFault::Stuck {
+                version,
+                cell,
+                names,
+            } => Some(MoveRefusal::Stuck {
+                version,
+                cell,
+                names,
+            }),
+        }
+    }
 }
 
 impl fmt::Display for PackFault {

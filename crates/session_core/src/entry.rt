@@ -1,5 +1,5 @@
 ghost use Rattle.std.specs.Prelude.{◌≡◌, IfOk};
-ghost use Rattle.session_core.specs.Entries.{IsOfMove};
+ghost use Rattle.session_core.specs.Entries.{IsOfDeath, IsOfMove};
 
 use crate::reply::Reply;
 use crate::request::{Channel, Header, Request};
@@ -192,6 +192,17 @@ impl Entry {
                 draws: Items::from_slice(alloc, draws.as_slice())?,
                 reply: reply.copy(alloc)?,
             }),
+            Entry::Died { .. } | Entry::Dead { .. } => self.copy_of_death(alloc),
+            _ => self.copy_of_move(alloc),
+        }
+    }
+
+    /// The same for those of a session that died.
+    fn copy_of_death(&self, alloc: Global) -> Result<Entry, AllocError>
+        requires { IsOfDeath self.now }
+        ensures { IfOk result (λ entry. entry ≡ self.now) }
+    {
+        match self {
             Entry::Died {
                 host,
                 request,
@@ -212,7 +223,7 @@ impl Entry {
                 request: request.copy(alloc)?,
                 count: *count,
             }),
-            _ => self.copy_of_move(alloc),
+            _ => unreachable!(),
         }
     }
 

@@ -10,7 +10,7 @@ ghost use Rattle.session_core.specs.Asks.{IsWork, is_move, is_end};
 ghost use Rattle.session_core.specs.Entries.{IsEnd};
 ghost use Rattle.session_core.specs.Legal.{settled, progress_of, CanGo, IsReason, IsLegal, asked};
 ghost use Rattle.session_core.specs.Machine.{IsNoted};
-ghost use Rattle.session_core.specs.Stepping.{cause_of, IsEarly, IsFree, IsPackOf, HasGone, HasEnded, reason_of};
+ghost use Rattle.session_core.specs.Stepping.{cause_of, IsEarly, IsFree, IsPackOf, HasGone, HasEnded};
 ghost use Rattle.session_core.specs.Engines.{Packs};
 ghost use Rattle.session_core.specs.Feeding.{drawn_in};
 
@@ -197,25 +197,6 @@ fn go<E: Engine + Drop>(
     }
 }
 
-/// Why a pack that failed keeps the session where it is; None for want of memory.
-fn reason_against(fault: PackFault) -> Option<MoveRefusal>
-    ensures { result ≡ reason_of fault }
-{
-    match fault {
-        PackFault::OutOfMemory => None,
-        PackFault::BadWeights(fault) => Some(MoveRefusal::BadWeights(fault)),
-        PackFault::Stuck {
-            version,
-            cell,
-            names,
-        } => Some(MoveRefusal::Stuck {
-            version,
-            cell,
-            names,
-        }),
-    }
-}
-
 /// A move that can't be packed: it is refused or, for want of memory, resumed.
 fn stay<E: Engine>(
     _engine: &E,
@@ -234,7 +215,7 @@ fn stay<E: Engine>(
     ensures ended { HasEnded E.meaning hosts journal.old.entries journal.new.entries request }
     ensures owner { (progress_of journal.new.entries).owner ≡ (progress_of journal.old.entries).owner }
 {
-    match reason_against(fault) {
+    match fault.reason() {
         Some(reason) => refuse(journal, request, reason),
         None => resume(journal, settled_owner(&*journal), request),
     }

@@ -114,7 +114,7 @@ impl Queues {
             channel,
         };
         match ruled_queue::push(rt, &shared.main, &mut main, opening) {
-            Ok(()) => Ok(part(rt, shared, main, control, out)),
+            Ok(()) => Ok(separated(rt, shared, main, control, out)),
             Err(_) => Err(Queues {
                 shared,
                 main,
@@ -126,7 +126,7 @@ impl Queues {
 }
 
 /// Pops the opening, and separates the owner, the first producer and the reader.
-fn part<R: Wait>(
+fn separated<R: Wait>(
     rt: &R,
     shared: Arc<SharedQueues, Global>,
     main: Seat<MainItem>,

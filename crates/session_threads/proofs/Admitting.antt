@@ -9,7 +9,7 @@ use Rattle.session_queues.specs.Items.{number_of, frontend_of}
 use Rattle.session_queues.specs.Passes.{Producer, admitted_by}
 use Rattle.session_gate.specs.Answered.{as_main, as_control}
 use Rattle.session_gate.proofs.Popping.{as_main_main, as_main_control, as_control_main, as_control_control}
-use Rattle.session_threads.specs.Parts.{HasAdmitted, IsSpent}
+use Rattle.session_threads.specs.Served.{HasAdmitted, IsSpent}
 
 module _ {T : Type 0} (number : T → ℕ) where
   -- an item of the one number that a producer has

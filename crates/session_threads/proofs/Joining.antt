@@ -14,8 +14,8 @@ use Rattle.session_queues.specs.declared.shared.SharedQueues.{SharedQueues}
 use Rattle.session_queues.specs.Passes.{Producer, parted, next_pass, taking_in}
 use Rattle.session_queues.specs.Ends.{Held, first_pass}
 use Rattle.session_gate.specs.Answered.{as_main, as_control}
-use Rattle.session_threads.specs.Parts.{HasAdmitted, IsPart, IsServed}
-use Rattle.session_threads.proofs.Parting.{HasThree, opening_alone, first_part, second_part, no_other_part, opening_first}
+use Rattle.session_threads.specs.Served.{HasAdmitted, AnswersJust, IsServed}
+use Rattle.session_threads.proofs.Sharing.{HasThree, opening_alone, first_answered, second_answered, no_other_answered, opening_first}
 
 -- what follows of an answer that is Some
 pub if_some_more : {A : Type 0} → (P Q : A → Type 0) (r : Option A) → IfSome r P → ((a : A) → P a → Q a) → IfSome r Q
@@ -74,16 +74,16 @@ module _ (q : SharedQueues) (host : ℕ) (request : Header) (channel : Channel) 
   -- each frontend's requests in the journal that is kept, once all is answered
   pub parts : (here : SharedQueues) (p0 p1 p2 one0 two0 one two p3 p4 : Producer) (first second : List Request) (es kept : List Entry) → here ≡ q → Splits p0 p1 p2 one0 two0
       → HasAdmitted here one0.number first one → HasAdmitted here two0.number second two → p3 ≡ taking_in p2 one → p4 ≡ taking_in p3 two → IsServed es p4 → kept ≡ es
-      → IsPart 1 kept first × IsPart 2 kept second × ((n : ℕ) → n ≢ 1 → n ≢ 2 → IsPart n kept [])
+      → AnswersJust 1 kept first × AnswersJust 2 kept second × ((n : ℕ) → n ≢ 1 → n ≢ 2 → AnswersJust n kept [])
   parts here p0 p1 p2 one0 two0 one two p3 p4 first second es kept same h a b e3 e4 s is =
       let a_here = subst (λ z. HasAdmitted z one0.number first one) same a in
       let b_here = subst (λ z. HasAdmitted z two0.number second two) same b in
       let o = Opening host request channel in
       let three = both_joined p0 p1 p2 one0 two0 one two p3 p4 first second s.0 h a_here b_here e3 e4 s.3 s.4 s.5 s.6 in
-      subst (λ z. IsPart 1 z first × IsPart 2 z second × ((n : ℕ) → n ≢ 1 → n ≢ 2 → IsPart n z [])) (sym is) (
-        first_part es s.0 o first second three s.1 s.2,
-        second_part es s.0 o first second three s.1 s.2,
-        no_other_part es s.0 o first second three s.1 s.2,
+      subst (λ z. AnswersJust 1 z first × AnswersJust 2 z second × ((n : ℕ) → n ≢ 1 → n ≢ 2 → AnswersJust n z [])) (sym is) (
+        first_answered es s.0 o first second three s.1 s.2,
+        second_answered es s.0 o first second three s.1 s.2,
+        no_other_answered es s.0 o first second three s.1 s.2,
       )
 
   -- the journal that is kept begins with the opening, once all is answered

@@ -1,6 +1,6 @@
 pub mod Admitting
 pub mod Turning
 pub mod Starting
-pub mod Parting
+pub mod Sharing
 pub mod Joining
 pub mod Owning

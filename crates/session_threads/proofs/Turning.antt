@@ -6,7 +6,7 @@ use Rattle.session_core.specs.Legal.{progress_of, sealed, arriving, moved}
 use Rattle.session_core.proofs.Progressing.{progress_more}
 use Rattle.session_queues.specs.Ends.{Held, TookRequest}
 use Rattle.session_gate.specs.Facts.{Away, HasNoted}
-use Rattle.session_threads.specs.Parts.{HasLists}
+use Rattle.session_threads.specs.Served.{HasLists}
 
 pub same_lists : (old new : Held) → new ≡ old → HasLists old new
 same_lists old new is = subst (HasLists old) (sym is) (refl, refl, refl, refl, refl)

@@ -4,9 +4,9 @@ ghost use Rattle.session_core.specs.declared.request.Ask.TheVariants as asks;
 ghost use Rattle.session_core.specs.Asks.{is_move, IsMove};
 ghost use Rattle.session_core.specs.Engines.{Packs};
 ghost use Rattle.session_core.specs.Legal.{progress_of, sealed, arriving, CanGo};
-ghost use Rattle.session_core.specs.Stepping.{IsEarly, IsFree, reason_of};
+ghost use Rattle.session_core.specs.Stepping.{IsEarly, IsFree};
 ghost use Rattle.session_gate.specs.Facts.{Owes, OwesNone, HasSame, owner_of};
-ghost use Rattle.session_threads.specs.Parts.{HasStarted};
+ghost use Rattle.session_threads.specs.Served.{HasStarted};
 
 use graph_model::Weights;
 use nb_outside::Feed;
@@ -49,25 +49,6 @@ fn reason_before_planning<E: Engine, F: Feed>(lease: &Lease<E, F>, to: u64) -> O
     None
 }
 
-/// Why a pack that failed keeps the session where it is; None for want of memory.
-fn reason_against(fault: PackFault) -> Option<MoveRefusal>
-    ensures { result ≡ reason_of fault }
-{
-    match fault {
-        PackFault::OutOfMemory => None,
-        PackFault::BadWeights(fault) => Some(MoveRefusal::BadWeights(fault)),
-        PackFault::Stuck {
-            version,
-            cell,
-            names,
-        } => Some(MoveRefusal::Stuck {
-            version,
-            cell,
-            names,
-        }),
-    }
-}
-
 /// A move that can't be packed: it is refused or, for want of memory, resumed.
 fn stay<E: Engine, F: Feed>(lease: Lease<E, F>, request: Request, fault: PackFault) -> Lease<E, F>
     requires owes { Owes lease request }
@@ -76,7 +57,7 @@ fn stay<E: Engine, F: Feed>(lease: Lease<E, F>, request: Request, fault: PackFau
     ensures owes { OwesNone result }
     ensures same { HasSame lease result }
 {
-    match reason_against(fault) {
+    match fault.reason() {
         Some(reason) => lease.refuse(request, reason),
         None => lease.resume(request),
     }

@@ -1,6 +1,6 @@
 ghost use Rattle.std.specs.Prelude.{◌≡◌, true, [], cond, All};
 ghost use Rattle.session_queues.specs.Passes.{IsPassOf, admitted_by};
-ghost use Rattle.session_threads.specs.Parts.{HasAdmitted, IsSpent, IsReady, HasTried};
+ghost use Rattle.session_threads.specs.Served.{HasAdmitted, IsSpent, IsReady, HasTried};
 
 use nb_outside::Feed;
 use session_core::{Engine, Request};

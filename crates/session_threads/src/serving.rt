@@ -5,7 +5,7 @@ ghost use Rattle.session_core.specs.Legal.{IsLegal};
 ghost use Rattle.session_queues.specs.declared.items.MainItem.{MainItem};
 ghost use Rattle.session_queues.specs.Passes.{IsPassOf};
 ghost use Rattle.session_queues.specs.Ends.{first_pass};
-ghost use Rattle.session_threads.specs.Parts.{IsReady, HasTried, IsPart, IsServed};
+ghost use Rattle.session_threads.specs.Served.{IsReady, HasTried, AnswersJust, IsServed};
 
 use crate::producing::admit_as;
 use crate::working::{drain, work, work_once};
@@ -141,9 +141,9 @@ where
     requires first { All (λ r. r.frontend ≡ 1) first.now }
     requires second { All (λ r. r.frontend ≡ 2) second.now }
     ensures legal { IfSome result (λ journal. IsLegal E.meaning hosts journal.entries) }
-    ensures first { IfSome result (λ journal. IsPart 1 journal.entries first.now) }
-    ensures second { IfSome result (λ journal. IsPart 2 journal.entries second.now) }
-    ensures no_other { IfSome result (λ journal. (n : ℕ) → n ≢ 1 → n ≢ 2 → IsPart n journal.entries []) }
+    ensures first { IfSome result (λ journal. AnswersJust 1 journal.entries first.now) }
+    ensures second { IfSome result (λ journal. AnswersJust 2 journal.entries second.now) }
+    ensures no_other { IfSome result (λ journal. (n : ℕ) → n ≢ 1 → n ≢ 2 → AnswersJust n journal.entries []) }
     ensures opened { IfSome result (λ journal. (more : List Entry) × (journal.entries ≡ Entry.Opened 0 opening.0 opening.1 ∷ more)) }
 {
     let (cell, pass) = opened::<E, F, N, R>(rt, alloc, queues, hosts, engine, feed, opening)?;
@@ -253,9 +253,9 @@ where
     requires first { All (λ r. r.frontend ≡ 1) first.now }
     requires second { All (λ r. r.frontend ≡ 2) second.now }
     ensures legal { IfSome result (λ journal. IsLegal E.meaning hosts journal.entries) }
-    ensures first { IfSome result (λ journal. IsPart 1 journal.entries first.now) }
-    ensures second { IfSome result (λ journal. IsPart 2 journal.entries second.now) }
-    ensures no_other { IfSome result (λ journal. (n : ℕ) → n ≢ 1 → n ≢ 2 → IsPart n journal.entries []) }
+    ensures first { IfSome result (λ journal. AnswersJust 1 journal.entries first.now) }
+    ensures second { IfSome result (λ journal. AnswersJust 2 journal.entries second.now) }
+    ensures no_other { IfSome result (λ journal. (n : ℕ) → n ≢ 1 → n ≢ 2 → AnswersJust n journal.entries []) }
     ensures opened { IfSome result (λ journal. (more : List Entry) × (journal.entries ≡ Entry.Opened 0 opening.0 opening.1 ∷ more)) }
 {
     let queues = Queues::new(alloc).ok()?;

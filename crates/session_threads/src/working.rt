@@ -1,7 +1,7 @@
 ghost use Rattle.std.specs.Prelude.{◌≡◌, ◌≤◌, true};
 ghost use Rattle.session_queues.specs.Ends.{FoundNothing};
 ghost use Rattle.session_gate.specs.Facts.{OwesNone, IsBare};
-ghost use Rattle.session_threads.specs.Parts.{HasLists};
+ghost use Rattle.session_threads.specs.Served.{HasLists};
 ghost use Rattle.session_threads.specs.declared.working.Found.{Found};
 
 use crate::moving::{Started, finish_move, start_move};

@@ -3,4 +3,4 @@ use Rattle.py_ops.proofs.Substrings.{occurs_same}
 use Rattle.py_ops.proofs.affixes.occurs.Goals as goal
 
 pub returns : goal.returns
-returns c = occurs_same c.args.part.now c.args.text.now _ (contains_text _ c.args.part.now c.args.text.now c.contains.ensures.cases)
+returns c = occurs_same c.args.piece.now c.args.text.now _ (contains_text _ c.args.piece.now c.args.text.now c.contains.ensures.cases)

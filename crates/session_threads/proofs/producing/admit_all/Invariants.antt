@@ -1,5 +1,5 @@
 use Rattle.std.proofs.Common.{take}
-use Rattle.session_threads.specs.Parts.{HasAdmitted}
+use Rattle.session_threads.specs.Served.{HasAdmitted}
 use Rattle.session_threads.proofs.producing.admit_all.Given as goal
 
 abbrev pub invariant-loop-request : goal.invariant-loop-request

@@ -1,6 +1,6 @@
 use Rattle.std.proofs.Common.{◌≡◌}
 use Rattle.session_gate.specs.Facts.{OwesNone}
-use Rattle.session_threads.specs.Parts.{HasLists}
+use Rattle.session_threads.specs.Served.{HasLists}
 use Rattle.session_threads.proofs.working.drain.Given as goal
 
 abbrev pub invariant-loop : goal.invariant-loop

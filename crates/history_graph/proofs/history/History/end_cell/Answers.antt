@@ -4,7 +4,8 @@ use Rattle.std.proofs.lemmas.Result.{err_from_is_err_and}
 use Rattle.graph_model.specs.declared.graph.Graph.{Graph}
 use Rattle.history_graph.specs.Left.{AreOfLeft}
 use Rattle.history_graph.specs.Grown.{IsGrown}
-use Rattle.history_graph.specs.Room.{IsFirstOf}
+use Rattle.history_graph.specs.Texts.{HasManyTexts}
+use Rattle.history_graph.specs.Room.{IsFirstWith}
 use Rattle.history_graph.proofs.Ending.{Ended, is_next}
 use Rattle.history_graph.proofs.Leaving.{news_hold}
 use Rattle.history_graph.proofs.Judging.{all_fit, first_over, small}
@@ -16,8 +17,8 @@ returns-in-Some-clause-too_many c = λ u before.
     let h = c.args.self.now in
     let s = c.args.state.now in
     let heads = c.in_ok-heads.heads in
-    first_over h s c.args.marks.now c.in_ok-parts.parts c.in_ok-parts.ensures heads (c.in_ok-heads.ensures.heads u before) c.in-Some.tally
-    (room_at (length h.graph.cells) (length h.graph.versions) c.len.result (length (finite.keys s.globals)) (length (finite.keys heads)) c.in_ok-tally.field-0 (Some c.in-Some.tally)
+    first_over h s c.args.code.now c.args.marks.now c.in_ok-parts.parts c.in_ok-parts.ensures heads (c.in_ok-heads.ensures.heads u before) c.in-Some.tally
+    (room_at (length h.graph.cells) (length h.graph.versions) c.len.result (length (finite.keys s.globals)) (length (finite.keys heads)) (HasManyTexts h.graph s c.args.code.now) c.in_ok-tally.field-0 (Some c.in-Some.tally)
     (c.len.ensures ∙ ap (λ (ns : List (List ℕ)). length ns) c.in_ok-names.ensures) c.in-Some.is c.in_ok-tally.ensures)
 
 pub returns-in_err-news-clause-too_many : goal.returns-in_err-news-clause-too_many
@@ -25,11 +26,11 @@ returns-in_err-news-clause-too_many c =
     let h = c.args.self.now in
     let s = c.args.state.now in
     let heads = c.in_ok-heads.heads in
-    let room : IsFirstOf (length h.graph.cells) (length h.graph.versions) (length (finite.keys heads)) (length (finite.keys s.globals)) None =
-    room_at (length h.graph.cells) (length h.graph.versions) c.len.result (length (finite.keys s.globals)) (length (finite.keys heads)) c.in_ok-tally.field-0 None
+    let room : IsFirstWith (length h.graph.cells) (length h.graph.versions) (length (finite.keys heads)) (length (finite.keys s.globals)) (HasManyTexts h.graph s c.args.code.now) None =
+    room_at (length h.graph.cells) (length h.graph.versions) c.len.result (length (finite.keys s.globals)) (length (finite.keys heads)) (HasManyTexts h.graph s c.args.code.now) c.in_ok-tally.field-0 None
     (c.len.ensures ∙ ap (λ (ns : List (List ℕ)). length ns) c.in_ok-names.ensures) c.in_default.is c.in_ok-tally.ensures in
     let p = err_from_is_err_and c.from_residual-in_err-news.result c.from_residual-in_err-news.ensures.1 in
-    rw (p.1, p.2) (long_over h s c.args.marks.now c.in_ok-parts.parts c.in_ok-parts.ensures heads c.in_ok-heads.ensures.heads room c.in_err-news.field-0.0 c.in_err-news.ensures.err)
+    rw (p.1, p.2) (long_over h s c.args.code.now c.args.marks.now c.in_ok-parts.parts c.in_ok-parts.ensures heads c.in_ok-heads.ensures.heads room c.in_err-news.field-0.0 c.in_err-news.ensures.err)
 
 pub grow-requires-clause-news : goal.grow-requires-clause-news
 grow-requires-clause-news c =
@@ -41,10 +42,10 @@ grow-requires-clause-few c =
     let s = c.args.state.now in
     let heads = c.in_ok-heads.heads in
     let keys : c.as_slice.result.now ≡ finite.keys heads = c.as_slice.ensures ∙ c.in_ok-names.ensures in
-    let room : IsFirstOf (length h.graph.cells) (length h.graph.versions) (length (finite.keys heads)) (length (finite.keys s.globals)) None =
-    room_at (length h.graph.cells) (length h.graph.versions) c.len.result (length (finite.keys s.globals)) (length (finite.keys heads)) c.in_ok-tally.field-0 None
+    let room : IsFirstWith (length h.graph.cells) (length h.graph.versions) (length (finite.keys heads)) (length (finite.keys s.globals)) (HasManyTexts h.graph s c.args.code.now) None =
+    room_at (length h.graph.cells) (length h.graph.versions) c.len.result (length (finite.keys s.globals)) (length (finite.keys heads)) (HasManyTexts h.graph s c.args.code.now) c.in_ok-tally.field-0 None
     (c.len.ensures ∙ ap (λ (ns : List (List ℕ)). length ns) c.in_ok-names.ensures) c.in_default.is c.in_ok-tally.ensures in
-    few_news s c.in_ok-parts.parts (c.len-2.result + 1) (length h.graph.cells) (length h.graph.versions) (length (finite.keys s.globals)) heads c.in_ok-news.news room
+    few_news s c.in_ok-parts.parts (c.len-2.result + 1) (length h.graph.cells) (length h.graph.versions) (length (finite.keys s.globals)) heads c.in_ok-news.news room.0
     (subst (λ (ns : List (List ℕ)). AreOfLeft s c.in_ok-parts.parts (c.len-2.result + 1) heads ns c.in_ok-news.news) keys c.in_ok-news.ensures.ok)
 
 pub returns-clause-next : goal.returns-clause-next
@@ -77,11 +78,11 @@ returns-clause-fits c = λ u before.
     let heads = c.in_ok-heads.heads in
     let left = c.in_ok-heads.ensures.heads u before in
     let keys : c.as_slice.result.now ≡ finite.keys heads = c.as_slice.ensures ∙ c.in_ok-names.ensures in
-    let room : IsFirstOf (length h.graph.cells) (length h.graph.versions) (length (finite.keys heads)) (length (finite.keys s.globals)) None =
-    room_at (length h.graph.cells) (length h.graph.versions) c.len.result (length (finite.keys s.globals)) (length (finite.keys heads)) c.in_ok-tally.field-0 None
+    let room : IsFirstWith (length h.graph.cells) (length h.graph.versions) (length (finite.keys heads)) (length (finite.keys s.globals)) (HasManyTexts h.graph s c.args.code.now) None =
+    room_at (length h.graph.cells) (length h.graph.versions) c.len.result (length (finite.keys s.globals)) (length (finite.keys heads)) (HasManyTexts h.graph s c.args.code.now) c.in_ok-tally.field-0 None
     (c.len.ensures ∙ ap (λ (ns : List (List ℕ)). length ns) c.in_ok-names.ensures) c.in_default.is c.in_ok-tally.ensures in
-    all_fit h s marks now c.in_ok-parts.ensures heads left room
-    (small h s marks now c.in_ok-parts.ensures heads left (c.len-2.result + 1) c.in_ok-news.news
+    all_fit h s c.args.code.now marks now c.in_ok-parts.ensures heads left room
+    (small h s c.args.code.now marks now c.in_ok-parts.ensures heads left (c.len-2.result + 1) c.in_ok-news.news
     (subst (λ (ns : List (List ℕ)). AreOfLeft s now (c.len-2.result + 1) heads ns c.in_ok-news.news) keys c.in_ok-news.ensures.ok))
 
 pub returns-clause-few : goal.returns-clause-few
@@ -90,8 +91,8 @@ returns-clause-few c =
     let s = c.args.state.now in
     let heads = c.in_ok-heads.heads in
     let keys : c.as_slice.result.now ≡ finite.keys heads = c.as_slice.ensures ∙ c.in_ok-names.ensures in
-    let room : IsFirstOf (length h.graph.cells) (length h.graph.versions) (length (finite.keys heads)) (length (finite.keys s.globals)) None =
-    room_at (length h.graph.cells) (length h.graph.versions) c.len.result (length (finite.keys s.globals)) (length (finite.keys heads)) c.in_ok-tally.field-0 None
+    let room : IsFirstWith (length h.graph.cells) (length h.graph.versions) (length (finite.keys heads)) (length (finite.keys s.globals)) (HasManyTexts h.graph s c.args.code.now) None =
+    room_at (length h.graph.cells) (length h.graph.versions) c.len.result (length (finite.keys s.globals)) (length (finite.keys heads)) (HasManyTexts h.graph s c.args.code.now) c.in_ok-tally.field-0 None
     (c.len.ensures ∙ ap (λ (ns : List (List ℕ)). length ns) c.in_ok-names.ensures) c.in_default.is c.in_ok-tally.ensures in
-    few_then s c.in_ok-parts.parts (c.len-2.result + 1) (length (finite.keys s.globals)) heads c.in_ok-cell.cell c.in_ok-news.news h.graph c.grow.new.self room
+    few_then s c.in_ok-parts.parts (c.len-2.result + 1) (length (finite.keys s.globals)) heads c.in_ok-cell.cell c.in_ok-news.news h.graph c.grow.new.self room.0
     (subst (λ (ns : List (List ℕ)). AreOfLeft s c.in_ok-parts.parts (c.len-2.result + 1) heads ns c.in_ok-news.news) keys c.in_ok-news.ensures.ok) c.in_ok-grow.ensures.ok

@@ -2,7 +2,7 @@ use Rattle.std.proofs.Common.{◌≡◌, ap, arith}
 use Rattle.py_machine.specs.Errors.{recursion_error}
 use Rattle.py_meaning.specs.Acts.{run}
 use Rattle.py_meaning.specs.Meaning.{level}
-use Rattle.py_kernel.proofs.Deeper.{deeper}
+use Rattle.py_kernel.proofs.Levels.{some_left}
 use Rattle.py_kernel.proofs.below.Below.calls.Goals as goal
 
 pub returns-then-self-eq0-clause-runs : goal.returns-then-self-eq0-clause-runs
@@ -15,4 +15,4 @@ returns-then-self-eq0-clause-runs g c = λ draws b told.
 pub returns-clause-runs : goal.returns-clause-runs
 unfolding level
 returns-clause-runs g c = λ draws b told.
-    rw (deeper (λ n. run ((level n).calls c.args.callee.now c.args.args.now) draws c.args.machine.now) c.args.self.now.left (omega arith)) (rw c.lower.ensures.left at (c.called.ensures.runs draws b told))
+    rw (some_left (λ n. run ((level n).calls c.args.callee.now c.args.args.now) draws c.args.machine.now) c.args.self.now.left (omega arith)) (rw c.lower.ensures.left at (c.called.ensures.runs draws b told))

@@ -1,4 +1,4 @@
-use Rattle.py_kernel.proofs.Deeper.{level-left}
+use Rattle.py_kernel.proofs.Levels.{level-left}
 use Rattle.py_kernel.proofs.below.Below.compare.Goals as goal
 
 pub returns-clause-runs : goal.returns-clause-runs

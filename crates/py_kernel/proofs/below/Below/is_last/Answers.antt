@@ -1,5 +1,5 @@
 use Rattle.std.proofs.Common.{refl}
-use Rattle.py_kernel.proofs.Deeper.{level-left}
+use Rattle.py_kernel.proofs.Levels.{level-left}
 use Rattle.py_kernel.proofs.below.Below.is_last.Goals as goal
 
 pub returns : goal.returns
