@@ -1,5 +1,5 @@
-"""Checkpoints, written once more: every feasible plan of a session's history, and the bytes of the session under it; what bytes are
-read as, and what they are restored to.
+"""Checkpoints, written once more: every feasible plan of a session's history, what it costs, and the bytes of the session under it;
+what history_show may print of a session; what bytes are read as, and what they are restored to.
 
 Plans and bytes go by docs/PLANNING.md, docs/CHECKPOINTS.md and tests/histories.py alone, and all sets of versions and cells are tried.
 Reading and restoring go by the same documents and docs/REPLAY.md, with the rules of tests/reader.py and tests/cells.py for the codes
@@ -40,6 +40,14 @@ def feasible_plans(records, versions):
                 yield copied, again
 
 
+def cost(records, versions, plan, weights):
+    """What a plan costs. An absent version is copied for nothing."""
+    copy_base, per_byte, run_base, per_step = weights
+    copied, again = plan
+    copies = sum(copy_base + per_byte * versions[v - 1]["size"] for v in copied if not versions[v - 1]["absent"])
+    return copies + sum(run_base + per_step * records[c - 1][1] for c in again)
+
+
 def number(it):
     return struct.pack(">I", it)
 
@@ -70,6 +78,32 @@ def written(codes, session, records, versions, copied, again):
         out += number(it["by"]) + number(it["replaced"]) + bytes([kind]) + number(it["size"]) + list_bytes(it["names"], name_bytes)
         out += b"\1" + copy_bytes(session, it) if v in copied else b"\0"
     return out
+
+
+# ---- what history_show prints of a session
+
+# Weights under which the planner copies every version that can be copied, and runs again only what the handles need: nothing is carried
+# along an arc of weight 0, so no such version is reached from the source.
+COPYING = [0, 0, 1, 0]
+
+
+def session_lines(codes):
+    """The lines that history_show prints of a session with these cells under these weights, without those of the flow: its graph, and the
+    plan with its bytes, or that a version is stuck."""
+    session, records, versions = histories.history(codes)
+    graph, plans = histories.lines(records, versions), list(feasible_plans(records, versions))
+    if not plans:
+        return [*graph, "stuck"]
+    copied, again = max(plans, key=lambda it: (len(it[0]), -len(it[1])))
+    costs = cost(records, versions, (copied, again), COPYING)
+    copies = [f"copy v{v} {' '.join(versions[v - 1]['names'])}" for v in copied]
+    data = written(codes, session, records, versions, copied, again)
+    return [*graph, f"cost {costs} flow {costs}", *copies, *(f"run c{c}" for c in again), f"checkpoint {data.hex()}"]
+
+
+def without_flow(lines):
+    """Many flows are greatest, and of what is stuck one pair is named."""
+    return ["stuck" if it.startswith("stuck ") else it for it in lines if not it.startswith("arc ")]
 
 
 # ---- what bytes are read as

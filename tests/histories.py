@@ -204,7 +204,11 @@ def history(codes):
 
 def graph(codes):
     """The lines of the graph of a session."""
-    _, records, versions = history(codes)
+    return lines(*history(codes)[1:])
+
+
+def lines(records, versions):
+    """The lines of a graph."""
     return [*map(record_line, range(1, len(records) + 1), records), *map(version_line, range(1, len(versions) + 1), versions)]
 
 
