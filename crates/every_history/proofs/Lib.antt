@@ -4,3 +4,5 @@ pub mod Telling
 pub mod Recording
 pub mod Writing
 pub mod Histories
+pub mod Listed
+pub mod SameTexts

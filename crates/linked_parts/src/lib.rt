@@ -2,6 +2,9 @@
 //!
 //! Two names that reach a common object are linked, and so is what each of them is linked to. A part is a class of linked
 //! names, with the objects that they reach. (Li et al., ElasticNotebook, PVLDB 17(2): co-variables.)
+//!
+//! All names are searched at once, and each object is opened once. So the time grows with the names, the objects that they
+//! reach and the references in these, however many names share an object.
 #![tactic(auto)]
 
 mod after;

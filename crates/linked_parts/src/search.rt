@@ -1,6 +1,5 @@
 ghost use Rattle.std.specs.Prelude.{ℕ, ◌≡◌, ◌+◌, ◌<◌, ◌≤◌, length, replicate, IfOk, OnOk, None};
 ghost use Rattle.std.specs.FinMap as finite;
-ghost use Rattle.py_heap.specs.declared.state.State.{State};
 ghost use Rattle.py_heap.specs.References.{IsClosed};
 ghost use Rattle.linked_parts.specs.Labels.{name_count, nth_name, IsForest, IsOwner, Meets, IsSearch};
 

@@ -1,5 +1,5 @@
 -- A session with one cell more.
-use Rattle.std.proofs.Common.{◌≡◌, ℕ, zero, suc, ◌+◌, ◌-◌, ◌<◌, ◌^◌, Bool, true, false, cond, List, [], ◌∷◌, ◌++◌, length, is_some, refl, ap, sym, ◌∙◌, subst, inl, inr, arith}
+use Rattle.std.proofs.Common.{◌≡◌, ℕ, zero, suc, ◌+◌, ◌-◌, Bool, true, false, List, [], ◌∷◌, ◌++◌, length, is_some, refl, ap, sym, ◌∙◌, subst, inl, inr, arith}
 use Rattle.std.specs.Prelude.{Contains}
 use Rattle.std.specs.Str.{IsUtf8}
 use Rattle.std.specs.FinMap as finite
@@ -12,6 +12,7 @@ use Rattle.py_machine.specs.Runs.{Name}
 use Rattle.py_meaning.specs.Cells.{outcome, end_state, UsesUp}
 use Rattle.py_laws.proofs.Partners.{first_in, later_in}
 use Rattle.graph_model.specs.declared.graph.Graph.{Graph}
+use Rattle.graph_model.specs.declared.plan.Tally.{Tally}
 use Rattle.linked_parts.specs.Parts.{HasValue, IsPart, ArePartsOf}
 use Rattle.run_graph.specs.Parts.{HasHandle}
 use Rattle.run_graph.specs.Histories.{Run}
@@ -29,6 +30,7 @@ use Rattle.replay_laws.specs.Sessions.{StandsFor, IsCellFrom}
 use Rattle.replay_laws.proofs.Sizing.{handle_told, tells_alike}
 use Rattle.replay_laws.proofs.GoingOn.{entry_alike, one_more}
 use Rattle.notebook_meaning.specs.Cells.{recorded, unmoved}
+use Rattle.notebook_meaning.specs.Numbers.{IsPassed}
 use Rattle.notebook_meaning.specs.Lists.{MayRun}
 use Rattle.notebook_meaning.proofs.Recorded.{reads_alike}
 use Rattle.notebook_meaning.proofs.Written.{no_truth, no_size, one_has_none}
@@ -42,7 +44,7 @@ all_have s (x ∷ xs) h =
     let here : is_some (finite.get s.globals x) ≡ true = ap is_some v.1 in
     rw here (all_have s xs (λ y c. h y (later_in x xs y c)))
 
-size_plain : (s : State) (names : List Name) → IsClosed s → IsPart s names → (HasHandle s names → ⊥) → size_of names s ≡ length (part_text s names)
+pub size_plain : (s : State) (names : List Name) → IsClosed s → IsPart s names → (HasHandle s names → ⊥) → size_of names s ≡ length (part_text s names)
 size_plain s names closed part none =
     let free : holds_handle names s ≡ false = no_truth (holds_handle names s) (λ t. none ((handle_told s names closed).0 t)) in
     let all : have_values names s ≡ true = all_have s names (λ x c. in_part_value s names part x c) in
@@ -62,14 +64,14 @@ module _ (cells : List Entry) (t : State) (code : List ℕ) (utf8 : IsUtf8 code)
   abbrev Body : List Stmt
   Body = statements (read code)
 
-  done_is : (s : State) → entry_done read E s ≡ outcome Body (raised E s) draws
+  pub done_is : (s : State) → entry_done read E s ≡ outcome Body (raised E s) draws
   done_is s = ap (λ tree. outcome (statements tree) (raised E s) draws) (reads_alike code utf8)
 
-  uses_so : (s : State) → UsesUp Body (raised E s) draws → UsesUp (statements (read (recorded code))) (raised E s) draws
+  pub uses_so : (s : State) → UsesUp Body (raised E s) draws → UsesUp (statements (read (recorded code))) (raised E s) draws
   uses_so s u = subst (λ tree. UsesUp (statements tree) (raised E s) draws) (sym (reads_alike code utf8)) u
 
   -- the run that has the cell after as many as there are
-  one_cell : Run
+  pub one_cell : Run
   one_cell = record {
     cells = suc (length cells);
     state = λ n. beside t (entry_done read E t).1.state (n - length cells);
@@ -81,15 +83,15 @@ module _ (cells : List Entry) (t : State) (code : List ℕ) (utf8 : IsUtf8 code)
     size = λ n names. size_of names (beside t (entry_done read E t).1.state (n - length cells));
   }
 
-  before : one_cell.state (length cells) ≡ t
+  pub before : one_cell.state (length cells) ≡ t
   unfolding one_cell beside
   before = let z : length cells - length cells ≡ 0 = omega arith in ap (beside t (entry_done read E t).1.state) z
 
-  after : one_cell.state (suc (length cells)) ≡ (entry_done read E t).1.state
+  pub after : one_cell.state (suc (length cells)) ≡ (entry_done read E t).1.state
   unfolding one_cell beside
   after = let z : suc (length cells) - length cells ≡ 1 = omega arith in ap (beside t (entry_done read E t).1.state) z
 
-  cell_from : IsCellFrom read size_of E t (length cells) one_cell
+  pub cell_from : IsCellFrom read size_of E t (length cells) one_cell
   unfolding one_cell
   cell_from = record { before = before; after = after; marks = refl; code = refl; steps = refl; sizes = λ names. refl }
 
@@ -100,12 +102,8 @@ module _ (cells : List Entry) (t : State) (code : List ℕ) (utf8 : IsUtf8 code)
         let v = uses_so t u in
         record { ends = λ k. v.ends (sym both.result ∙ k); takes = both.drawn ∙ v.takes }
 
-    pub may_run : UsesUp Body (raised E t) draws → (raised E t).count < 2 ^ 32 → length cells + 1 < 2 ^ 32 → MayRun cells E
-    may_run u count few = record {
-      uses = same_uses u;
-      count = subst (λ (n : ℕ). n + cond counted 1 0 < 2 ^ 32) (sym stands.same.count) count;
-      few = few;
-    }
+    pub may_run : UsesUp Body (raised E t) draws → ((which : Tally) → ¬ IsPassed (cells ++ E ∷ []) which) → MayRun cells E
+    may_run u fits = record { uses = same_uses u; fits = fits }
 
 -- with its cell recorded, the session stands for one cell more
 pub grown : (cells : List Entry) (t s : State) (code : List ℕ) (utf8 : IsUtf8 code) (draws : List Drawn) (counted : Bool) (old now : History) (meter steps : ℕ) (marks : Marks)

@@ -1,5 +1,5 @@
 -- A list of asks that a notebook goes on with.
-use Rattle.std.proofs.Common.{◌≡◌, ℕ, Bool, true, false, List, [], Err, not, ◌&&◌, refl, ap, sym, ◌∙◌, subst, arith}
+use Rattle.std.proofs.Common.{◌≡◌, ℕ, Bool, true, false, List, [], ◌∷◌, ◌++◌, Err, not, ◌&&◌, refl, ap, sym, ◌∙◌, subst, arith}
 use Rattle.std.specs.Str.{IsUtf8}
 use Rattle.std.specs.FinMap as finite
 use Rattle.std.specs.Ordering.{nat_cmp}
@@ -9,7 +9,6 @@ use Rattle.std.proofs.lemmas.Option.{none-some}
 use Rattle.nb_outside.specs.declared.feed.Drawn.{Drawn}
 use Rattle.py_heap.specs.States.{empty}
 use Rattle.graph_model.specs.declared.plan.Tally.{Tally}
-use Rattle.graph_model.specs.declared.plan.Tally.TheVariants as tally
 use Rattle.linked_parts.specs.Parts.{IsPartOf, ArePartsOf}
 use Rattle.run_graph.specs.RunLists.{Entry}
 use Rattle.read_runs.specs.Reading.{read}
@@ -24,12 +23,13 @@ use Rattle.session_core.specs.declared.reply.Done.{Done}
 use Rattle.session_core.specs.Engines.{RunsOn}
 use Rattle.session_core.specs.Meanings.{Served, more, HasNoEnd}
 use Rattle.notebook_meaning.specs.Cells.{recorded, cell_of, with_ask, cells_of}
+use Rattle.notebook_meaning.specs.Numbers.{IsPassedFirst}
 use Rattle.notebook_meaning.specs.Lists.{MayServe, IsRunOfAsks}
 use Rattle.notebook_meaning.specs.Answers.{answer_after}
-use Rattle.notebook_meaning.specs.Notebooks.{Passes, notebooks}
+use Rattle.notebook_meaning.specs.Notebooks.{notebooks}
 use Rattle.notebook_meaning.proofs.Lists.{cells_of_more, goes_on}
 use Rattle.notebook_engine.specs.declared.notebook.Notebook.{Notebook}
-use Rattle.notebook_engine.specs.Holding.{HoldsCells, StandsForAsks, IsFull, HasRun}
+use Rattle.notebook_engine.specs.Holding.{HoldsCells, StandsForAsks, PassesWith, HasRun}
 
 no_parts : ArePartsOf empty (record { list = [] })
 no_parts = record {
@@ -61,24 +61,6 @@ pub served_stands : (n now : Notebook) (served : List Served) (ask : Ask) (draws
     → HoldsCells now (with_ask (cells_of served) ask draws) → StandsForAsks now (more served ask draws)
 served_stands n now served ask draws stands no_end may holds =
     (goes_on served ask draws stands.0 no_end may, subst (λ cells. HoldsCells now cells) (sym (cells_of_more served ask draws)) holds)
-
--- a number without room is passed
-pub full_passes : (n : Notebook) (served : List Served) (code : List ℕ) (silent store : Bool) (draws : List Drawn) (counted : Bool) (which : Tally)
-    → counted ≡ (cell_of code silent store draws).counted → StandsForAsks n served → IsFull n counted which → Passes (cells_of served) (Execute code silent store) draws which
-full_passes n served code silent store draws counted tally.Count is stands full =
-    let is_counted : (cell_of code silent store draws).counted ≡ true = sym is ∙ full.0 in
-    let e = stands.1.session.same.count in
-    let l = full.1 in
-    rw is_counted (omega (arith, e, l))
-full_passes n served code silent store draws counted tally.Cells is stands full =
-    let same = stands.1.session.same.count in
-    let cells = stands.1.session.history.cells in
-    let many = full.1 in
-    (λ is_counted. let few = full.0 (is ∙ is_counted) in rw is_counted (omega (arith, same, few)), omega (arith, cells, many))
-full_passes n served code silent store draws counted tally.Versions is stands full = full
-full_passes n served code silent store draws counted tally.Names is stands full = full
-full_passes n served code silent store draws counted tally.Texts is stands full = full
-full_passes n served code silent store draws counted tally.Bytes is stands full = full
 
 -- ---- what is answered
 
@@ -114,14 +96,18 @@ module _ (n : Notebook) (served : List Served) (stands : StandsForAsks n served)
       subst (λ (a : Ask). StandsForAsks now (more served a draws)) (sym (is ∙ ap (λ (z : List ℕ). Execute z silent store) (sym same)))
       (executed_stands now silent store text utf8 draws reply (subst (λ (b : Bool). HasRun now Cells silent text (record { code = recorded text; draws = draws; counted = b }) reply) raises ran))
 
-  fault_runs : (silent store : Bool) (code : List ℕ) (counted : Bool) (f : RunFault) → counted ≡ (not silent && store)
-      → ((which : Tally) (draws : List Drawn) → f ≡ fault.TooMany which draws → IsFull n counted which) → RunsOn notebooks served (Execute code silent store) (Err f)
-  fault_runs silent store code counted fault.OutOfMemory raises full = tt
-  fault_runs silent store code counted (fault.TooMany which draws) raises full = full_passes n served code silent store draws counted which raises stands (full which draws refl)
+  fault_runs : (silent store counted : Bool) (code text : List ℕ) (f : RunFault) → text ≡ code → counted ≡ (not silent && store)
+      → ((which : Tally) (draws : List Drawn) → f ≡ fault.TooMany which draws → PassesWith n (record { code = recorded text; draws = draws; counted = counted }) which)
+      → RunsOn notebooks served (Execute code silent store) (Err f)
+  fault_runs silent store counted code text fault.OutOfMemory same raises passes = tt
+  fault_runs silent store counted code text (fault.TooMany which draws) same raises passes =
+      subst (λ (b : Bool). IsPassedFirst (Cells ++ record { code = recorded code; draws = draws; counted = b } ∷ []) which) raises
+      (subst (λ (z : List ℕ). IsPassedFirst (Cells ++ record { code = recorded z; draws = draws; counted = counted } ∷ []) which) same (passes which draws refl Cells stands.1))
 
-  pub cell_fails : (ask : Ask) (silent store : Bool) (code : List ℕ) (counted : Bool) (f : RunFault) → ask ≡ Execute code silent store → counted ≡ (not silent && store)
-      → ((which : Tally) (draws : List Drawn) → f ≡ fault.TooMany which draws → IsFull n counted which) → RunsOn notebooks served ask (Err f)
-  cell_fails ask silent store code counted f is raises full = subst (λ (a : Ask). RunsOn notebooks served a (Err f)) (sym is) (fault_runs silent store code counted f raises full)
+  pub cell_fails : (ask : Ask) (silent store counted : Bool) (code text : List ℕ) (f : RunFault) → ask ≡ Execute code silent store → text ≡ code → counted ≡ (not silent && store)
+      → ((which : Tally) (draws : List Drawn) → f ≡ fault.TooMany which draws → PassesWith n (record { code = recorded text; draws = draws; counted = counted }) which)
+      → RunsOn notebooks served ask (Err f)
+  cell_fails ask silent store counted code text f is same raises passes = subst (λ (a : Ask). RunsOn notebooks served a (Err f)) (sym is) (fault_runs silent store counted code text f same raises passes)
 
   -- an ask for which nothing is drawn
   pub told_reply : (ask : Ask) (reply : Reply) (done : Done) → done ≡ record { reply = reply; draws = [] } → MayServe Cells ask [] → reply ≡ answer_after Cells ask []

@@ -15,6 +15,7 @@ use Rattle.session_core.specs.declared.reply.Reply.{Reply}
 use Rattle.session_core.specs.Meanings.{Served}
 use Rattle.notebook_meaning.specs.Cells.{cells_of, unmoved}
 use Rattle.notebook_meaning.specs.Codes.{HaveCodes}
+use Rattle.notebook_meaning.specs.Numbers.{IsPassedFirst}
 use Rattle.notebook_meaning.specs.Lists.{MayRun, IsRunOfAsks}
 use Rattle.notebook_meaning.specs.Answers.{executed, answer_from}
 use Rattle.restore_run.specs.Restoring.{IsRestoredOn}
@@ -39,10 +40,10 @@ IsUsable n = (cells : List Entry) × HoldsCells n cells
 abbrev pub IsImage : Notebook → List ℕ → ℕ → Type 0
 IsImage n bytes host = IsRestoredOn bytes host (record { kernel = n.kernel; history = n.history; objects = length n.kernel.state.heap })
 
--- this is the first of its numbers that has no room for a cell more
+-- of the count and the cells this is the first that has no room for a cell more
 abbrev pub IsFull : Notebook → Bool → Tally → Type 0
 IsFull n counted tally.Count = (counted ≡ true) × (4294967295 ≤ n.kernel.state.count)
-IsFull n counted tally.Cells = (counted ≡ true → n.kernel.state.count < 4294967295) × (4294967295 ≤ length n.history.graph.cells)
+IsFull n counted tally.Cells = (n.kernel.state.count < 4294967296) × (counted ≡ true → n.kernel.state.count < 4294967295) × (4294967295 ≤ length n.history.graph.cells)
 IsFull n counted tally.Versions = ⊥
 IsFull n counted tally.Names = ⊥
 IsFull n counted tally.Texts = ⊥
@@ -52,6 +53,10 @@ IsFull n counted tally.Bytes = ⊥
 pub record HasRoom (n : Notebook) (counted : Bool) : Type 0 where
   pub count : counted ≡ true → n.kernel.state.count < 4294967295
   pub cells : length n.history.graph.cells < 4294967295
+
+-- whatever cells it holds: with this cell, this is the first number that reaches 2^32
+abbrev pub PassesWith : Notebook → Entry → Tally → Type 0
+PassesWith n e which = (cells : List Entry) → HoldsCells n cells → IsPassedFirst (cells ++ e ∷ []) which
 
 -- after these cells, which the notebook held, it ran this one, and now it holds that one too; and this is the reply to it
 pub record HasRun (now : Notebook) (cells : List Entry) (silent : Bool) (code : List ℕ) (e : Entry) (reply : Reply) : Type 0 where

@@ -1,9 +1,8 @@
 -- What a list of asks has: one history, which is a history graph; and what passes a number is no run.
-use Rattle.std.proofs.Common.{◌≡◌, List, arith}
+use Rattle.std.proofs.Common.{◌≡◌, List}
 use Rattle.nb_outside.specs.declared.feed.Drawn.{Drawn}
 use Rattle.graph_model.specs.declared.graph.Graph.{Graph}
 use Rattle.graph_model.specs.declared.plan.Tally.{Tally}
-use Rattle.graph_model.specs.declared.plan.Tally.TheVariants as tally
 use Rattle.graph_model.specs.Faults.{IsGraph}
 use Rattle.run_graph.specs.RunLists.{Entry, run_of}
 use Rattle.run_graph.proofs.Only.{one_history}
@@ -15,9 +14,9 @@ use Rattle.replay_laws.specs.Sizing.{size_of}
 use Rattle.session_core.specs.declared.request.Ask.{Ask}
 use Rattle.session_core.specs.declared.request.Ask.TheVariants.{Execute, Info, Complete, Shutdown, Migrate}
 use Rattle.session_core.specs.Meanings.{Served, more}
-use Rattle.notebook_meaning.specs.Cells.{cell_of, cells_of}
-use Rattle.notebook_meaning.specs.Lists.{MayRun, MayServe, IsRunOfAsks}
-use Rattle.notebook_meaning.specs.Notebooks.{IsGraphOf, PassesWith, Passes}
+use Rattle.notebook_meaning.specs.Cells.{cells_of}
+use Rattle.notebook_meaning.specs.Lists.{MayServe, IsRunOfAsks}
+use Rattle.notebook_meaning.specs.Notebooks.{IsGraphOf, Passes}
 use Rattle.notebook_meaning.proofs.Lists.{last_may}
 
 pub has_one_graph : (cells : List Entry) (g h : Graph) → IsGraphOf cells g → IsGraphOf cells h → g ≡ h
@@ -26,16 +25,8 @@ has_one_graph cells g h a b = one_history (run_of read size_of cells) g h a.hist
 pub is_graph : (cells : List Entry) (g : Graph) → IsGraphOf cells g → IsGraph g
 is_graph cells g a = checks (run_of read size_of cells) (is_run read cells size_of) g a.history (has_names size_of cells) a.few_cells a.few_versions
 
-none_passes : (cells : List Entry) (e : Entry) (which : Tally) → MayRun cells e → PassesWith cells e which → ⊥
-none_passes cells e tally.Count may p = let l = may.count in omega (arith, l, p)
-none_passes cells e tally.Cells may p = let l = may.few in let many = p.1 in omega (arith, l, many)
-none_passes cells e tally.Versions may p = p
-none_passes cells e tally.Names may p = p
-none_passes cells e tally.Texts may p = p
-none_passes cells e tally.Bytes may p = p
-
 may_not : (cells : List Entry) (ask : Ask) (draws : List Drawn) (which : Tally) → MayServe cells ask draws → Passes cells ask draws which → ⊥
-may_not cells (Execute code silent store) draws which may p = none_passes cells (cell_of code silent store draws) which may.1 p
+may_not cells (Execute code silent store) draws which may p = may.1.fits which p.0
 may_not cells Info draws which may p = p
 may_not cells (Complete code) draws which may p = p
 may_not cells (Shutdown restart) draws which may p = p

@@ -10,11 +10,12 @@ ghost use Rattle.run_graph.specs.Soundness.{statements};
 ghost use Rattle.read_runs.specs.Reading.{read};
 ghost use Rattle.session_core.specs.Engines.{HasDrawn};
 ghost use Rattle.notebook_meaning.specs.Cells.{recorded};
-ghost use Rattle.notebook_engine.specs.Holding.{HoldsCells, HasRoom, IsFull, HasRun, fault_in};
+ghost use Rattle.notebook_engine.specs.Holding.{HoldsCells, HasRoom, IsFull, PassesWith, HasRun, fault_in};
 
 use crate::notebook::Notebook;
 use crate::replies::reply_of;
 use graph_model::Tally as Number;
+use history_graph::HistoryFault;
 use nb_outside::{Feed, draws_add_up};
 use plain_data::Items;
 use py_heap::State;
@@ -76,7 +77,8 @@ impl Notebook {
     pub(crate) fn full(&self, counted: bool) -> Option<Number>
         ensures { MatchOption result (HasRoom self.now counted) (IsFull self.now counted) }
     {
-        if counted && self.kernel.state.count() == u32::MAX {
+        let count = count_in(&self.kernel.state);
+        if counted && count == u32::MAX {
             return Some(Number::Count);
         }
         if self.history.graph().cells.len() >= u32::MAX as usize {
@@ -85,8 +87,8 @@ impl Notebook {
         None
     }
 
-    /// Runs a cell, records it, and answers it. `Err` if memory runs out, or a number of the history would reach 2^32. After
-    /// that the session may only be dropped.
+    /// Runs a cell, records it, and answers it. After an error the session may only be dropped: `TooMany` names the first of
+    /// its numbers that would reach 2^32 with the cell, with the draws that the cell took.
     pub(crate) fn run_cell<F: Feed>(
         &mut self,
         alloc: Global,
@@ -94,18 +96,22 @@ impl Notebook {
         silent: bool,
         counted: bool,
         feed: &mut F,
-    ) -> Result<Done, AllocError>
+    ) -> Result<Done, RunFault>
         requires closed { IsClosed self.old.kernel.state }
         requires room { HasRoom self.old counted }
         ensures ran { IfOk result (λ done. (cells : List Entry) → HoldsCells self.old cells
             → HasRun self.new cells silent code.now (record { code = recorded code.now; draws = done.draws; counted = counted }) done.reply) }
+        ensures passes { (which : Tally) (draws : List Drawn) → result ≡ Err (RunFault.TooMany which draws)
+            → PassesWith self.old (record { code = recorded code.now; draws = draws; counted = counted }) which }
         ensures host { self.new.kernel.host ≡ self.old.kernel.host }
-        ensures fed { IfOk result (λ done. Fed (F.seen feed.old) done.draws (F.seen feed.new)) }
-        ensures taken { (draws : List Drawn) × Fed (F.seen feed.old) draws (F.seen feed.new) }
+        ensures drawn { HasDrawn result (F.seen feed.old) (F.seen feed.new) }
     {
         let meter = self.kernel.state.meter();
         raise(&mut self.kernel.state, counted);
-        let (end, fault) = run_code(alloc, &mut self.kernel, code, feed)?;
+        let (end, fault) = match run_code(alloc, &mut self.kernel, code, feed) {
+            Ok(ran) => ran,
+            Err(_) => return Err(RunFault::OutOfMemory),
+        };
         let CellEnd {
             printed,
             result,
@@ -115,20 +121,23 @@ impl Notebook {
             marks,
         } = end;
         let state = &self.kernel.state;
+        let count = count_in(state);
         let (front, _) = cut_at(code, MOST_RECORDED);
         match self
             .history
             .end_cell(alloc, state, front, meter, steps, &marks)
         {
             Ok(()) => {}
-            Err(_) => return Err(AllocError),
+            Err(HistoryFault::TooMany(which)) => return Err(RunFault::TooMany { which, draws }),
+            Err(HistoryFault::OutOfMemory) => return Err(RunFault::OutOfMemory),
         }
-        let count = count_in(&self.kernel.state);
-        let reply = reply_of(alloc, count, silent, fault, printed, result, error)?;
-        Ok(Done { reply, draws })
+        match reply_of(alloc, count, silent, fault, printed, result, error) {
+            Ok(reply) => Ok(Done { reply, draws }),
+            Err(_) => Err(RunFault::OutOfMemory),
+        }
     }
 
-    /// Runs a cell if the session's numbers have room for it.
+    /// Runs a cell if the count and the number of cells have room for it. After an error the session may only be dropped.
     pub(crate) fn execute<F: Feed>(
         &mut self,
         alloc: Global,
@@ -140,7 +149,8 @@ impl Notebook {
         requires { IsClosed self.old.kernel.state }
         ensures ran { IfOk result (λ done. (cells : List Entry) → HoldsCells self.old cells
             → HasRun self.new cells silent code.now (record { code = recorded code.now; draws = done.draws; counted = counted }) done.reply) }
-        ensures full { (which : Tally) (draws : List Drawn) → result ≡ Err (RunFault.TooMany which draws) → IsFull self.old counted which }
+        ensures passes { (which : Tally) (draws : List Drawn) → result ≡ Err (RunFault.TooMany which draws)
+            → PassesWith self.old (record { code = recorded code.now; draws = draws; counted = counted }) which }
         ensures host { OnOk result (self.new.kernel.host ≡ self.old.kernel.host) }
         ensures drawn { HasDrawn result (F.seen feed.old) (F.seen feed.new) }
     {
@@ -151,9 +161,6 @@ impl Notebook {
                 draws: Items::new(alloc),
             });
         }
-        match self.run_cell(alloc, code, silent, counted, feed) {
-            Ok(done) => Ok(done),
-            Err(_) => Err(RunFault::OutOfMemory),
-        }
+        self.run_cell(alloc, code, silent, counted, feed)
     }
 }

@@ -1,5 +1,6 @@
 pub mod Cells
 pub mod Codes
+pub mod Numbers
 pub mod Lists
 pub mod Answers
 pub mod Notebooks

@@ -1,8 +1,9 @@
 -- Which lists of asks a session may have served.
-use Rattle.std.specs.Prelude.{◌≡◌, ◌+◌, ◌<◌, ◌^◌, false, List, [], ◌∷◌, length}
+use Rattle.std.specs.Prelude.{◌≡◌, false, List, [], ◌∷◌, ◌++◌}
 use Rattle.std.specs.Str.{IsUtf8}
 use Rattle.nb_outside.specs.declared.feed.Drawn.{Drawn}
 use Rattle.py_meaning.specs.Cells.{UsesUp}
+use Rattle.graph_model.specs.declared.plan.Tally.{Tally}
 use Rattle.run_graph.specs.Soundness.{statements}
 use Rattle.run_graph.specs.RunLists.{Entry, raised}
 use Rattle.read_runs.specs.Reading.{read}
@@ -11,12 +12,12 @@ use Rattle.session_core.specs.declared.request.Ask.TheVariants.{Execute, Info, C
 use Rattle.session_core.specs.Asks.{is_end}
 use Rattle.session_core.specs.Meanings.{Served}
 use Rattle.notebook_meaning.specs.Cells.{cell_of, with_ask, unmoved}
+use Rattle.notebook_meaning.specs.Numbers.{IsPassed}
 
--- after these cells, a cell takes just its draws, and leaves a count and a number of cells below 2^32
+-- after these cells, a cell takes just its draws, and leaves each number of the session below 2^32
 pub record MayRun (cells : List Entry) (e : Entry) : Type 0 where
   pub uses : UsesUp (statements (read e.code)) (raised e (unmoved cells)) e.draws
-  pub count : (raised e (unmoved cells)).count < 2 ^ 32
-  pub few : length cells + 1 < 2 ^ 32
+  pub fits : (which : Tally) → ¬ IsPassed (cells ++ e ∷ []) which
 
 -- a code is a text; only a cell draws; a move is no ask of such a list
 abbrev pub MayServe : List Entry → Ask → List Drawn → Type 0

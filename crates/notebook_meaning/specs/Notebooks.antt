@@ -1,27 +1,24 @@
 -- What a notebook is: the lists of asks that it may serve, what it answers, and what such a list leaves.
-use Rattle.std.specs.Prelude.{◌≡◌, ℕ, ◌+◌, ◌<◌, ◌≤◌, ◌^◌, true, List, length}
+use Rattle.std.specs.Prelude.{◌≡◌, ℕ, ◌<◌, ◌^◌, List, [], ◌∷◌, ◌++◌, length}
 use Rattle.nb_outside.specs.declared.feed.Drawn.{Drawn}
 use Rattle.graph_model.specs.declared.graph.Graph.{Graph}
 use Rattle.graph_model.specs.declared.plan.Plan.{Plan}
 use Rattle.graph_model.specs.declared.plan.Tally.{Tally}
-use Rattle.graph_model.specs.declared.plan.Tally.TheVariants as tally
-use Rattle.run_graph.specs.Histories.{IsHistory}
-use Rattle.run_graph.specs.RunLists.{Entry, raised, run_of}
-use Rattle.read_runs.specs.Reading.{read}
+use Rattle.run_graph.specs.RunLists.{Entry}
 use Rattle.checkpoint_bytes.specs.Texts.{checkpoint_text}
 use Rattle.checkpoint_spelling.specs.Spelled.{HasText}
-use Rattle.replay_laws.specs.Sizing.{size_of}
 use Rattle.replay_laws.specs.Tidied.{AreObjectsOf}
 use Rattle.session_core.specs.declared.request.Ask.{Ask}
 use Rattle.session_core.specs.declared.request.Ask.TheVariants.{Execute, Info, Complete, Shutdown, Migrate}
 use Rattle.session_core.specs.Meanings.{Meaning}
 use Rattle.notebook_meaning.specs.Cells.{cell_of, cells_of, unmoved}
+use Rattle.notebook_meaning.specs.Numbers.{IsHistoryOf, IsPassedFirst}
 use Rattle.notebook_meaning.specs.Lists.{IsRunOfAsks}
 use Rattle.notebook_meaning.specs.Answers.{answer_after}
 
 -- the history of these cells, with fewer than 2^32 cells and versions
 pub record IsGraphOf (cells : List Entry) (g : Graph) : Type 0 where
-  pub history : IsHistory (run_of read size_of cells) g
+  pub history : IsHistoryOf cells g
   pub few_cells : length cells < 2 ^ 32
   pub few_versions : length g.versions < 2 ^ 32
 
@@ -36,17 +33,9 @@ pub record IsTextOf (cells : List Entry) (plan : Plan) (bytes : List ℕ) : Type
   pub has_text : HasText (unmoved cells) graph plan
   pub text : bytes ≡ checkpoint_text (unmoved cells) graph plan
 
--- The count is the first number that would reach 2^32 with this cell, or the number of cells is. The cell then doesn't run.
-abbrev pub PassesWith : List Entry → Entry → Tally → Type 0
-PassesWith cells e tally.Count = 2 ^ 32 ≤ (raised e (unmoved cells)).count
-PassesWith cells e tally.Cells = (e.counted ≡ true → (raised e (unmoved cells)).count < 2 ^ 32) × (2 ^ 32 ≤ length cells + 1)
-PassesWith cells e tally.Versions = ⊥
-PassesWith cells e tally.Names = ⊥
-PassesWith cells e tally.Texts = ⊥
-PassesWith cells e tally.Bytes = ⊥
-
+-- with this cell, this is the first number that reaches 2^32. No other ask passes a number
 abbrev pub Passes : List Entry → Ask → List Drawn → Tally → Type 0
-Passes cells (Execute code silent store) draws which = PassesWith cells (cell_of code silent store draws) which
+Passes cells (Execute code silent store) draws which = IsPassedFirst (cells ++ cell_of code silent store draws ∷ []) which
 Passes cells Info draws which = ⊥
 Passes cells (Complete code) draws which = ⊥
 Passes cells (Shutdown restart) draws which = ⊥

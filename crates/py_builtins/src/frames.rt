@@ -1,11 +1,14 @@
-ghost use Rattle.std.specs.Prelude.{◌≡◌, IfOk};
+ghost use Rattle.std.specs.Prelude.{◌≡◌, IfOk, All};
+ghost use Rattle.std.specs.FinMap as finite;
+ghost use Rattle.py_machine.specs.declared.frame.FrameSlot.TheVariants as FrameSlot;
 ghost use Rattle.py_machine.specs.Runs.{Still};
+ghost use Rattle.py_machine.specs.Slots.{HasSlot};
 ghost use Rattle.py_meaning.specs.Acts.{run};
 ghost use Rattle.py_meaning.specs.Meaning as spec;
 
-use plain_data::{Text, TextMap};
+use plain_data::Text;
 use py_heap::Function;
-use py_machine::{Fault, Flow, Frame, FrameSlot, Machine, not_callable};
+use py_machine::{Fault, Flow, Frame, Machine, Slots, not_callable};
 use py_objects::kind_of;
 use py_value::Value;
 use std::alloc::{AllocError, Global};
@@ -19,24 +22,17 @@ pub fn not_called(alloc: Global, machine: &Machine, callee: &Value) -> Result<Va
     Err(Fault::Raised(not_callable(alloc, kind)?))
 }
 
-/// Puts empty locals into a frame.
-fn with_empty(alloc: Global, frame: Frame, names: &[Text]) -> Result<Frame, AllocError>
-    ensures { IfOk result (λ f. f ≡ spec.with_empty frame names.now) }
+/// Gives a local a value.
+fn hold(frame: &mut Frame, name: &Text, value: Value)
+    requires { HasSlot frame.old.slots name.now }
+    ensures { frame.new ≡ record { slots = finite.insert frame.old.slots name.now (FrameSlot.Held value) } }
 {
-    let mut frame = frame;
-    for name in names {
-        frame.slots.bind(name.copy(alloc)?, FrameSlot::Empty)?;
-    }
-    Ok(frame)
+    let _back = frame.slots.hold(name, value);
 }
 
-/// Puts locals that hold values into a frame.
-fn with_held(
-    alloc: Global,
-    frame: Frame,
-    names: &[Text],
-    values: &[Value],
-) -> Result<Frame, AllocError>
+/// Gives locals values, as long as there are more of both.
+fn with_held(frame: Frame, names: &[Text], values: &[Value]) -> Result<Frame, AllocError>
+    requires { All (HasSlot frame.slots) names.now }
     ensures { IfOk result (λ f. f ≡ spec.with_held frame names.now values.entry.now) }
 {
     let mut frame = frame;
@@ -44,9 +40,7 @@ fn with_held(
     for name in names {
         match rest {
             [value, more @ ..] => {
-                frame
-                    .slots
-                    .put(alloc, name, FrameSlot::Held(value.copy()?))?;
+                hold(&mut frame, name, value.copy()?);
                 rest = more;
             }
             [] => return Ok(frame),
@@ -55,16 +49,17 @@ fn with_held(
     Ok(frame)
 }
 
-/// The locals of a call: each is empty but the parameters, which hold the arguments.
+/// The locals of a call: each is empty but the parameters, which hold the arguments. Takes memory for one list of
+/// slots; copies no name.
 #[tactic(auto, unfolding(py_meaning::specs::Meaning::frame_of))]
 pub fn frame_of(alloc: Global, function: &Function, args: &[Value]) -> Result<Frame, AllocError>
     ensures { IfOk result (λ f. f ≡ spec.frame_of function.now args.now) }
 {
+    let numbers = function.numbers().share()?;
     let frame = Frame {
-        slots: TextMap::new(alloc),
+        slots: Slots::new(alloc, numbers, function.slots())?,
     };
-    let frame = with_empty(alloc, frame, function.locals().as_slice())?;
-    with_held(alloc, frame, function.def().params.as_slice(), args)
+    with_held(frame, function.def().params.as_slice(), args)
 }
 
 /// What a function gives if its body ended in this way.

@@ -5,3 +5,4 @@ pub mod Reached
 pub mod Closed
 pub mod OneOrder
 pub mod Validity
+pub mod Numbering

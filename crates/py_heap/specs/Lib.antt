@@ -5,3 +5,4 @@ pub mod References
 pub mod Reaching
 pub mod Searches
 pub mod Valid
+pub mod Numbering

@@ -96,7 +96,10 @@ fn functions_have_locals(rt: HostRuntime) -> Result<(), Fail> {
     let at = state.add(Object::Function(function))?;
     assert!(rt; state.is_function(at));
     assert_eq!(rt; state.function(at).def().name.as_str(), "f");
-    assert_eq!(rt; state.function(at).locals().len(), 1);
+    assert_eq!(rt; state.function(at).slots(), 1);
+    let numbers = state.function(at).numbers().get();
+    assert_eq!(rt; numbers.look(&text(alloc, "p")?).copied(), Some(0));
+    assert!(rt; numbers.look(&text(alloc, "q")?).is_none());
     Ok(())
 }
 

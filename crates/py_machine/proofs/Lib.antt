@@ -2,3 +2,4 @@ pub mod Sets
 pub mod Numbered
 pub mod Drawing
 pub mod Resting
+pub mod Slotted

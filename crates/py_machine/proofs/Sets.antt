@@ -20,7 +20,7 @@ module _ {K : Type 0} {R : K → K → Ordering} (total : IsTotalOrder R) (anti 
   pub itself : (x : K) → same x x ≡ true
   itself x = (eq_by_cmp_equiv total).refl x
 
-  from_same : (x y : K) → same x y ≡ true → x ≡ y
+  pub from_same : (x y : K) → same x y ≡ true → x ≡ y
   from_same x y h = anti x y (equal_from (R x y) h)
 
   differ_from : (x y : K) → same x y ≡ false → x ≡ y → ⊥

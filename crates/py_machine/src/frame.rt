@@ -1,4 +1,5 @@
-use plain_data::{Items, TextMap};
+use crate::slots::Slots;
+use plain_data::Items;
 use py_value::{Key, Value};
 
 /// What a local of a function is.
@@ -12,7 +13,7 @@ pub enum FrameSlot {
 /// The locals of a call.
 #[derive(Drop)]
 pub struct Frame {
-    pub slots: TextMap<FrameSlot>,
+    pub slots: Slots,
 }
 
 /// Where a statement leads.

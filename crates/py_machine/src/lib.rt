@@ -15,6 +15,7 @@ mod machine;
 mod marks;
 mod method;
 mod numbers;
+mod slots;
 mod text_rest;
 mod type_errors;
 
@@ -38,6 +39,7 @@ pub use method::{
     list_method_name, list_method_named, text_method_name, text_method_named,
 };
 pub use numbers::NumberSet;
+pub use slots::Slots;
 pub use text_rest::TextRest;
 pub use type_errors::{
     bad_operand, division_error, no_attribute, not_callable, not_in_text, not_ordered,

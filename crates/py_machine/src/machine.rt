@@ -136,12 +136,13 @@ impl Machine {
         ensures runs { Is (spec.bind name.now value self.old) result self.new }
         ensures drawn { self.new.drawn ≡ self.old.drawn }
     {
-        if let Some(frame) = &mut self.frame {
-            if frame.slots.look(name).is_some() {
-                frame.slots.put(alloc, name, FrameSlot::Held(value))?;
-                return Ok(());
-            }
-        }
+        let value = match &mut self.frame {
+            Some(frame) => match frame.slots.hold(name, value) {
+                Some(value) => value,
+                None => return Ok(()),
+            },
+            None => value,
+        };
         self.bind_global(alloc, name, value)
     }
 
@@ -161,8 +162,7 @@ impl Machine {
         ensures drawn { self.new.drawn ≡ self.old.drawn }
     {
         if let Some(frame) = &mut self.frame {
-            if frame.slots.look(name).is_some() {
-                frame.slots.put(alloc, name, FrameSlot::Empty)?;
+            if frame.slots.clear(name) {
                 return Ok(());
             }
         }

@@ -31,14 +31,18 @@ impl Marks {
         }
     }
 
-    /// Notes that a name is looked up.
+    /// Notes that a name is looked up. One that was looked up before takes one look-up in a set.
+    #[tactic(auto, using(crate::proofs::Sets::name_there))]
     pub fn look(&mut self, alloc: Global, name: &Text) -> Result<(), AllocError>
         ensures { OnOk result (self.new ≡ spec.noted (spec.Look name.now) self.old) }
     {
+        if self.looked.look(name).is_some() {
+            return Ok(());
+        }
         if self.bound.look(name).is_some() {
             return Ok(());
         }
-        add_name(alloc, &mut self.looked, name)
+        self.looked.bind(name.copy(alloc)?, ())
     }
 
     /// Notes that a name is bound.

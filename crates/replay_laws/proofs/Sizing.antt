@@ -56,7 +56,7 @@ module _ (s : State) (names : List Name) (closed : IsClosed s) where
 
 -- ---- in states that are the same
 
-both_some : (M : Value → Value → Type 0) (o u : Option Value) → BothOrNone M o u → is_some o ≡ is_some u
+pub both_some : (M : Value → Value → Type 0) (o u : Option Value) → BothOrNone M o u → is_some o ≡ is_some u
 both_some M (Some v) (Some w) h = refl
 both_some M None None h = refl
 both_some M (Some v) None h = absurd h
