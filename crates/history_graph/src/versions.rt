@@ -12,7 +12,7 @@ use crate::fault::HistoryFault;
 use crate::heads::Left;
 use graph_model::{Tally, Version};
 use linked_parts::{Part, Parts};
-use part_bytes::write_part;
+use part_bytes::part_len;
 use plain_data::{Items, Text, TextMap};
 use py_heap::State;
 use std::alloc::{AllocError, Global};
@@ -38,11 +38,10 @@ fn size_of(alloc: Global, state: &State, part: &Part) -> Result<u32, HistoryFaul
     if part.handle {
         return Ok(0);
     }
-    let bytes = write_part(alloc, state, part.names.as_slice())?;
-    if bytes.len() > u32::MAX as usize {
-        return Err(HistoryFault::TooMany(Tally::Bytes));
+    match part_len(alloc, state, part.names.as_slice())? {
+        Some(size) => Ok(size),
+        None => Err(HistoryFault::TooMany(Tally::Bytes)),
     }
-    Ok(bytes.len() as u32)
 }
 
 /// The version of a part that the cell with that number wrote.

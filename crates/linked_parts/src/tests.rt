@@ -4,7 +4,7 @@ ghost use Rattle.py_heap.specs.References.{IsClosed};
 use crate::parts_of;
 use plain_data::{Items, SharedText, Text};
 use py_heap::{Object, State};
-use py_machine::Marks;
+use py_machine::Notes;
 use py_value::Value;
 use std::alloc::{AllocError, Global};
 use std::test::Fail;
@@ -51,10 +51,10 @@ fn a_nested_list_links_until_a_cell_binds_the_name_anew(rt: HostRuntime) -> Resu
     ] {
         assert_eq!(rt; parts.find(&Text::new(alloc, name)?), number);
     }
-    let mut marks = Marks::new(alloc);
-    marks.look(alloc, &Text::new(alloc, "h")?)?;
-    marks.bind(alloc, &Text::new(alloc, "b")?)?;
-    parts.after(alloc, &a_state(alloc, 2)?, &marks)?;
+    let mut notes = Notes::new(alloc);
+    notes.look(alloc, &Text::new(alloc, "h")?)?;
+    notes.bind(alloc, &Text::new(alloc, "b")?)?;
+    parts.after(alloc, &a_state(alloc, 2)?, &notes.into_marks())?;
     for (name, number) in [
         ("a", Some(0)),
         ("b", Some(1)),

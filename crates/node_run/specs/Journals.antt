@@ -15,7 +15,7 @@ abbrev pub Answers : Type 0
 Answers = ℕ → Option (List Drawn)
 
 -- a legal journal of a session that was opened so, in which all that was asked of it is answered, each list in order, and control
--- first; and what its cells drew is what its feed gave
+-- first; and what its cells drew, that of which it died full included, is what its feed gave first
 pub record IsJournalOf (meaning : Meaning) (hosts : ℕ) (answers : Option (List Drawn)) (s : Taken) (es : List Entry) : Type 0 where
   pub legal : IsLegal meaning hosts es
   pub begins : (more : List Entry) × (es ≡ Opened s.host s.request s.channel ∷ more)

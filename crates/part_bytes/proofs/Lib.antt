@@ -1,5 +1,6 @@
 pub mod Orders
 pub mod ByAddress
 pub mod Pieces
+pub mod Lengths
 pub mod Small
 pub mod Closing

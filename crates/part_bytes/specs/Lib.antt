@@ -1,4 +1,5 @@
 pub mod Parts
 pub mod Texts
+pub mod Lengths
 pub mod Plain
 pub mod Examples

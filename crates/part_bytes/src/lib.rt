@@ -5,6 +5,7 @@
 #![tactic(auto)]
 
 mod laws;
+mod length;
 mod numbers;
 mod objects;
 mod part;
@@ -15,6 +16,7 @@ mod values;
 mod write;
 
 pub use laws::{the_order_is_that_of_first_reach, the_text_of_a_small_part};
+pub use length::part_len;
 pub use numbers::Numbers;
 pub use part::PartValue;
 pub use values::{write_count, write_four, write_text};

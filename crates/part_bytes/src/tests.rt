@@ -1,7 +1,7 @@
 ghost use Rattle.std.specs.Prelude.{IfOk};
 ghost use Rattle.py_heap.specs.References.{IsClosed};
 
-use crate::write_part;
+use crate::{part_len, write_part};
 use plain_data::{Items, SharedText, Text};
 use py_heap::{Dict, Object, State};
 use py_value::{Key, Value};
@@ -64,5 +64,45 @@ fn a_deep_nest_needs_no_stack(rt: HostRuntime) -> Result<(), Fail> {
     let state = a_nest(alloc, 999_999)?;
     let bytes = write_part(alloc, &state, &[Text::new(alloc, "x")?])?;
     assert_eq!(rt; bytes.len(), 10_000_010);
+    Ok(())
+}
+
+/// `x` has a list that has the text so many times.
+fn a_text_in_a_list(alloc: Global, text: &SharedText, times: u32) -> Result<State, AllocError>
+    ensures { IfOk result IsClosed }
+{
+    let mut state = State::new(alloc);
+    state.add(Object::List(Items::new(alloc)))?;
+    for _time in 0..times {
+        if state.is_list(0) {
+            state.push_item(0, Value::Text(text.share()?))?;
+        }
+    }
+    state.bind(alloc, &Text::new(alloc, "x")?, Value::Ref(0))?;
+    Ok(state)
+}
+
+#[test]
+fn a_text_is_counted_each_time(rt: HostRuntime) -> Result<(), Fail> {
+    let alloc = rt.alloc();
+    let names = [Text::new(alloc, "x")?];
+    let short = SharedText::from_str(alloc, "\u{e9}")?;
+    let state = a_text_in_a_list(alloc, &short, 2)?;
+    let length = (4 + 2 + 5) + (4 + 5 + 7 + 7);
+    assert_eq!(rt; part_len(alloc, &state, &names)?, Some(length));
+    assert_eq!(rt; write_part(alloc, &state, &names)?.len(), length as usize);
+    Ok(())
+}
+
+#[test]
+fn a_long_text_is_counted_without_a_copy(rt: HostRuntime) -> Result<(), Fail> {
+    let alloc = rt.alloc();
+    let names = [Text::new(alloc, "x")?];
+    let text = Text::from_string("a".repeat(alloc, 4_194_304)?);
+    let long = SharedText::new(alloc, text)?;
+    let most = a_text_in_a_list(alloc, &long, 1023)?;
+    assert_eq!(rt; part_len(alloc, &most, &names)?, Some(4_290_778_127));
+    let more = a_text_in_a_list(alloc, &long, 1024)?;
+    assert_eq!(rt; part_len(alloc, &more, &names)?, None);
     Ok(())
 }

@@ -41,6 +41,17 @@ fn slice_by_walk(text: &str, from: usize, to: usize) -> &str
     &rest[..rest.len() - after.len()]
 }
 
+/// How many characters a text has. No walk if each is one byte.
+fn count_chars(text: &str, is_ascii: bool) -> usize
+    requires { IsTrue is_ascii → IsAscii text.now }
+    ensures { result ≡ length (chars text.now) }
+{
+    if is_ascii {
+        return text.len();
+    }
+    text.chars().count()
+}
+
 /// A text with the number of its characters, and whether each is one byte.
 #[derive(Debug, Drop)]
 struct Measured {
@@ -67,8 +78,8 @@ impl Measured {
     fn new(text: Text) -> Measured
         ensures { result ≡ text }
     {
-        let len_chars = text.as_str().chars().count();
         let is_ascii = text.as_str().is_ascii();
+        let len_chars = count_chars(text.as_str(), is_ascii);
         Measured {
             text,
             len_chars,

@@ -1,22 +1,23 @@
 -- The locals of a call.
-use Rattle.std.proofs.Common.{◌≡◌, ℕ, ◌+◌, Bool, true, false, cond, List, [], ◌∷◌, ◌++◌, length, not, filter, Option, Some, None, refl, sym, ap, subst, ◌∙◌, drop, get_or, ◌<◌}
-use Rattle.std.specs.Prelude.{is_some, option_map, nat_eq}
+use Rattle.std.proofs.Common.{◌≡◌, ℕ, ◌+◌, Bool, true, false, cond, List, [], ◌∷◌, ◌++◌, length, not, filter, Option, Some, None, refl, sym, ap, subst, ◌∙◌, drop, get_or, ◌<◌, inl, inr, true≢false}
+use Rattle.std.specs.Prelude.{is_some, option_map, nat_eq, slice_get, Contains, ◌⊎◌}
 use Rattle.std.specs.List.{AllByRecursion}
 use Rattle.std.proofs.Common.{All, ◌-◌, ◌≤◌, suc, take, take_all, drop-cons}
 use native.Mathlib.Omega.{arith}
-use Rattle.std.proofs.lemmas.List.Elements.{All-from_recursion, All-weaker}
+use Rattle.std.proofs.lemmas.List.Elements.{All-from_recursion, All-weaker, Contains-get_or, Contains-append_right}
+use Rattle.std.proofs.lemmas.Map.Made.{Contains-tail}
+use Rattle.std.proofs.lemmas.Option.{slice_get_within, get_or_from_slice_get}
 use Rattle.std.specs.Ordering.{nat_cmp}
 use Rattle.std.specs.Cmp.Lexicographic.{slice_cmp, nat_list_cmp_total, pointwise, bytes_decides}
 use Rattle.std.specs.FinMap as finite
 use Rattle.py_tree.specs.declared.statements.Def.{Def, out-Def}
 use Rattle.py_tree.specs.Locals.{is_among, distinct_after, locals, locals_of, bound_in, globals_in}
-use Rattle.py_heap.specs.Numbering.{Numbers, numbered, numbered_from}
-use Rattle.py_heap.proofs.Numbering.{each_has_number, HasNumber}
+use Rattle.py_heap.specs.Numbering.{Numbers, AreNumbersOf}
 use Rattle.py_machine.specs.declared.frame.Frame.{Frame}
 use Rattle.py_machine.specs.declared.frame.FrameSlot.{FrameSlot}
 use Rattle.py_machine.specs.declared.frame.FrameSlot.TheVariants.{Empty, Held}
 use Rattle.py_machine.specs.Slots.{Locals, emptied, HasSlot}
-use Rattle.py_machine.proofs.Sets.{names_antisymmetric}
+use Rattle.py_machine.proofs.Sets.{itself, from_same, names_antisymmetric}
 use Rattle.py_machine.proofs.Slotted.{get_mapped, is_same}
 use Rattle.py_value.specs.declared.value.Value.{Value}
 use Rattle.py_meaning.specs.Meaning.{with_empty, with_held, frame_of}
@@ -29,31 +30,46 @@ Name = List ℕ
 emptied_get : (m : Numbers) (q : Name) → finite.get (emptied m) q ≡ option_map (λ i. Empty) (finite.get m q)
 emptied_get m q = get_mapped (λ i. Empty) m q
 
-emptied_cond : (b : Bool) (n : ℕ) (o : Option ℕ) → option_map (λ i. Empty) (cond b (Some n) o) ≡ cond b (Some Empty) (option_map (λ i. Empty) o)
-emptied_cond true n o = refl
-emptied_cond false n o = refl
-
-emptied_insert : (m : Numbers) (k : Name) (n : ℕ) → emptied (finite.insert m k n) ≡ finite.insert (emptied m) k Empty
-emptied_insert m k n = finite.same_map nat_list_cmp_total names_antisymmetric (emptied (finite.insert m k n)) (finite.insert (emptied m) k Empty) λ q.
-    emptied_get (finite.insert m k n) q
-    ∙ ap (option_map (λ i. Empty)) (finite.get-insert nat_list_cmp_total m k n q)
-    ∙ emptied_cond (is_same q k) n (finite.get m q)
-    ∙ sym (finite.get-insert nat_list_cmp_total (emptied m) k Empty q ∙ ap (cond (is_same q k) (Some Empty)) (emptied_get m q))
-
-emptied_empty : emptied finite.empty ≡ finite.empty
-emptied_empty = finite.same_map nat_list_cmp_total names_antisymmetric (emptied finite.empty) finite.empty λ q.
-    emptied_get finite.empty q ∙ ap (option_map (λ i. Empty)) (finite.get-empty (slice_cmp nat_cmp) q) ∙ sym (finite.get-empty (slice_cmp nat_cmp) q)
-
 abbrev framed : Locals → Frame
 framed slots = record { slots = slots }
 
-empty_from : (m : Numbers) (n : ℕ) (names : List Name) → framed (emptied (numbered_from m n names)) ≡ with_empty (framed (emptied m)) names
-empty_from m n [] = refl
-empty_from m n (name ∷ names) =
-    empty_from (finite.insert m name n) (n + 1) names ∙ ap (λ (slots : Locals). with_empty (framed slots) names) (emptied_insert m name n)
+-- a name of the list is unbound, and any other is as before
+module _ (q : Name) where
+  abbrev IsEmptied : List Name → Locals → Locals → Type 0
+  IsEmptied names before after = ((finite.get after q ≡ Some Empty) × Contains names q) ⊎ ((finite.get after q ≡ finite.get before q) × (Contains names q → ⊥))
 
-pub empty_frame : (names : List Name) → framed (emptied (numbered names)) ≡ with_empty (framed finite.empty) names
-empty_frame names = empty_from finite.empty 0 names ∙ ap (λ (slots : Locals). with_empty (framed slots) names) emptied_empty
+  one_emptied : (names : List Name) (name : Name) (before after : Locals) (b : Bool) → is_same q name ≡ b → IsEmptied names (finite.insert before name Empty) after → IsEmptied (name ∷ names) before after
+  one_emptied names name before after b e (inl h) = inl (h.0, Contains-append_right (name ∷ []) names q h.1)
+  one_emptied names name before after true e (inr h) =
+      let here : q ≡ name = from_same nat_list_cmp_total names_antisymmetric q name e in
+      inl (h.0 ∙ finite.get-insert nat_list_cmp_total before name Empty q ∙ ap (λ (c : Bool). cond c (Some Empty) (finite.get before q)) e, (0, omega arith, sym here))
+  one_emptied names name before after false e (inr h) =
+      let other : name ≡ q → ⊥ = λ here. true≢false (sym (subst (λ (x : Name). is_same x name ≡ true) here (itself nat_list_cmp_total names_antisymmetric name)) ∙ e) in
+      inr (h.0 ∙ finite.get-insert nat_list_cmp_total before name Empty q ∙ ap (λ (c : Bool). cond c (Some Empty) (finite.get before q)) e, λ c. h.1 (Contains-tail name names q other c))
+
+  all_emptied : (names : List Name) (slots : Locals) → IsEmptied names slots (with_empty (framed slots) names).slots
+  all_emptied [] slots = inr (refl, λ c. let less : c.0 < 0 = c.1 in omega (arith, less))
+  all_emptied (name ∷ names) slots =
+      one_emptied names name slots (with_empty (framed slots) (name ∷ names)).slots (is_same q name) refl (all_emptied names (finite.insert slots name Empty))
+
+  emptied_some : (o : Option ℕ) → is_some o ≡ true → option_map (λ i. Empty) o ≡ Some Empty
+  emptied_some (Some i) h = refl
+  emptied_some None h = cc
+
+  emptied_none : (names : List Name) (o : Option ℕ) → ((at : ℕ) → o ≡ Some at → slice_get names at ≡ Some q) → (Contains names q → ⊥) → option_map (λ i. Empty) o ≡ None
+  emptied_none names None h lacks = refl
+  emptied_none names (Some at) h lacks =
+      let there : slice_get names at ≡ Some q = h at refl in
+      absurd (lacks (at, slice_get_within names at q there, get_or_from_slice_get names at q q there))
+
+  emptied_by : (names : List Name) (m : Numbers) (after : Locals) → AreNumbersOf names m → IsEmptied names finite.empty after → finite.get (emptied m) q ≡ finite.get after q
+  emptied_by names m after h (inl e) = emptied_get m q ∙ emptied_some (finite.get m q) (h.each q e.1) ∙ sym e.0
+  emptied_by names m after h (inr e) = emptied_get m q ∙ emptied_none names (finite.get m q) (h.position q) e.1 ∙ sym (e.0 ∙ finite.get-empty (slice_cmp nat_cmp) q)
+
+pub empty_frame : (names : List Name) (m : Numbers) → AreNumbersOf names m → framed (emptied m) ≡ with_empty (framed finite.empty) names
+empty_frame names m h =
+    let after : Locals = (with_empty (framed finite.empty) names).slots in
+    ap framed (finite.same_map nat_list_cmp_total names_antisymmetric (emptied m) after λ q. emptied_by q names m after h (all_emptied q names finite.empty))
 
 -- ---- each parameter has a slot
 
@@ -89,18 +105,20 @@ module _ (P : Name → Type 0) where
   unfolding locals
   params_all def h = fronts (out-Def def).params (filter (λ name. not (is_among (globals_in (out-Def def).body) name)) (bound_in (out-Def def).body)) (distinct_all _ [] tt h)
 
-has_slot : (m : Numbers) (names : List Name) → AllByRecursion (HasNumber m) names → AllByRecursion (HasSlot (emptied m)) names
-has_slot m [] h = tt
-has_slot m (name ∷ names) h = (ap (λ (o : Option FrameSlot). is_some o) (emptied_get m name) ∙ same_some (finite.get m name) ∙ h.0, has_slot m names h.1)
-  where
-    same_some : (o : Option ℕ) → is_some (option_map (λ i. Empty) o) ≡ is_some o
-    same_some (Some i) = refl
-    same_some None = refl
+still_some : (o : Option ℕ) → is_some (option_map (λ i. Empty) o) ≡ is_some o
+still_some (Some i) = refl
+still_some None = refl
 
-pub params_slots : (def : Def) → All (HasSlot (emptied (numbered (locals_of def)))) (out-Def def).params
-params_slots def =
-    All-from_recursion (HasSlot (emptied (numbered (locals_of def)))) (out-Def def).params
-    (has_slot (numbered (locals_of def)) (out-Def def).params (params_all (HasNumber (numbered (locals_of def))) def (each_has_number (locals_of def))))
+has_slot : (m : Numbers) (name : Name) → is_some (finite.get m name) ≡ true → HasSlot (emptied m) name
+has_slot m name h = ap (λ (o : Option FrameSlot). is_some o) (emptied_get m name) ∙ still_some (finite.get m name) ∙ h
+
+each_slot : (m : Numbers) (names : List Name) → ((name : Name) → Contains names name → is_some (finite.get m name) ≡ true) → AllByRecursion (HasSlot (emptied m)) names
+each_slot m [] h = tt
+each_slot m (name ∷ names) h = (has_slot m name (h name (Contains-get_or (name ∷ names) 0 name (omega arith))), each_slot m names (λ other c. h other (Contains-append_right (name ∷ []) names other c)))
+
+pub params_slots : (def : Def) (m : Numbers) → AreNumbersOf (locals_of def) m → All (HasSlot (emptied m)) (out-Def def).params
+params_slots def m h =
+    All-from_recursion (HasSlot (emptied m)) (out-Def def).params (params_all (HasSlot (emptied m)) def (each_slot m (locals_of def) h.each))
 
 -- ---- slots stay
 
@@ -114,9 +132,10 @@ slots_kept slots name slot names h =
 
 -- ---- the locals of a call
 
-pub made : (def : Def) (args : List Value) (slots : Locals) (names : List Name) → slots ≡ emptied (numbered (locals_of def)) → names ≡ def.params → with_held (framed slots) names args ≡ frame_of def args
+pub made : (def : Def) (args : List Value) (m : Numbers) (slots : Locals) (names : List Name) → AreNumbersOf (locals_of def) m → slots ≡ emptied m → names ≡ def.params
+    → with_held (framed slots) names args ≡ frame_of def args
 unfolding frame_of
-made def args slots names e p = (λ i. with_held (framed (e i)) (p i) args) ∙ ap (λ (f : Frame). with_held f def.params args) (empty_frame (locals_of def))
+made def args m slots names h e p = (λ i. with_held (framed (e i)) (p i) args) ∙ ap (λ (f : Frame). with_held f def.params args) (empty_frame (locals_of def) m h)
 
 -- ---- one local more that holds a value
 

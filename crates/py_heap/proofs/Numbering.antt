@@ -1,15 +1,16 @@
--- Names that are numbered by their positions: the numbers are below the count, no two names have one, and each name has one.
-use Rattle.std.proofs.Common.{◌≡◌, ℕ, ◌+◌, ◌<◌, Bool, true, false, cond, List, [], ◌∷◌, length, Option, Some, refl, sym, ap, subst, ◌∙◌, Ordering, Less, Equal, Greater}
-use Rattle.std.specs.Prelude.{is_some}
+-- Names that are numbered by their positions.
+use Rattle.std.proofs.Common.{◌≡◌, ℕ, zero, suc, ◌+◌, ◌<◌, Bool, true, false, cond, List, [], ◌∷◌, ◌++◌, length, get_or, take, Option, Some, refl, sym, ap, subst, ◌∙◌, inl, inr, Ordering, Less, Equal, Greater}
+use Rattle.std.specs.Prelude.{is_some, slice_get}
 use Rattle.std.specs.Ordering.{nat_cmp, eq_by_cmp, is_eq}
 use Rattle.std.specs.Cmp.{eq_by_cmp_equiv}
 use Rattle.std.specs.Cmp.Lexicographic.{slice_cmp, nat_list_cmp_total}
-use Rattle.std.specs.List.{AllByRecursion}
 use Rattle.std.specs.FinMap as finite
 use Rattle.std.specs.FinMap.{slice_cmp-IsAntisymmetric, nat_cmp-IsAntisymmetric}
-use Rattle.std.proofs.lemmas.Option.{none-some, same_Some}
+use Rattle.std.proofs.lemmas.List.{length-take-le, take_more}
+use Rattle.std.proofs.lemmas.List.Elements.{Contains-push_cases}
+use Rattle.std.proofs.lemmas.Option.{none-some, same_Some, slice_get_within}
 use native.Mathlib.Omega.{arith}
-use Rattle.py_heap.specs.Numbering.{Numbers, numbered_from, numbered, IsNumbering}
+use Rattle.py_heap.specs.Numbering.{Numbers, AreNumbersOf, IsNumbering}
 
 abbrev Name : Type 0
 Name = List ℕ
@@ -30,59 +31,58 @@ got m k n q = finite.get-insert nat_list_cmp_total m k n q
 
 -- ---- the numbers are below the count and apart
 
-below_by : (b : Bool) (o : Option ℕ) (n i : ℕ) → ((j : ℕ) → o ≡ Some j → j < n) → cond b (Some n) o ≡ Some i → i < n + 1
-below_by true o n i h e = let same = same_Some n i e in omega (arith, same)
-below_by false o n i h e = let less = h i e in omega (arith, less)
-
-apart_by : (m : Numbers) (n : ℕ) (k x y : Name) (i : ℕ) (b c : Bool) → is_same x k ≡ b → is_same y k ≡ c → IsNumbering m n
-    → cond b (Some n) (finite.get m x) ≡ Some i → cond c (Some n) (finite.get m y) ≡ Some i → x ≡ y
-apart_by m n k x y i true true p q h e f = from_same x k p ∙ sym (from_same y k q)
-apart_by m n k x y i true false p q h e f = let same = same_Some n i e in let less = h.below y i f in absurd (omega (arith, same, less))
-apart_by m n k x y i false true p q h e f = let same = same_Some n i f in let less = h.below x i e in absurd (omega (arith, same, less))
-apart_by m n k x y i false false p q h e f = h.apart x y i e f
-
--- one name more, with the count as its number
-one_more : (m : Numbers) (n : ℕ) (k : Name) → IsNumbering m n → IsNumbering (finite.insert m k n) (n + 1)
-one_more m n k h = record {
-  below = λ x i e. below_by (is_same x k) (finite.get m x) n i (h.below x) (sym (got m k n x) ∙ e);
-  apart = λ x y i e f. apart_by m n k x y i (is_same x k) (is_same y k) refl refl h (sym (got m k n x) ∙ e) (sym (got m k n y) ∙ f);
+pub is_numbering : (names : List Name) (m : Numbers) → AreNumbersOf names m → IsNumbering m (length names)
+is_numbering names m h = record {
+  below = λ name at e. slice_get_within names at name (h.position name at e);
+  apart = λ name other at e f. same_Some name other (sym (h.position name at e) ∙ h.position other at f);
 }
 
-numbering_from : (m : Numbers) (n : ℕ) (names : List Name) → IsNumbering m n → IsNumbering (numbered_from m n names) (n + length names)
-numbering_from m n [] h = subst (IsNumbering m) (omega arith) h
-numbering_from m n (name ∷ names) h =
-    subst (IsNumbering (numbered_from (finite.insert m name n) (n + 1) names)) (omega arith) (numbering_from (finite.insert m name n) (n + 1) names (one_more m n name h))
+-- ---- one name after the other
 
-none_numbered : IsNumbering finite.empty 0
+pub none_numbered : AreNumbersOf [] finite.empty
 none_numbered = record {
-  below = λ x i e. absurd (none-some i (sym (finite.get-empty (slice_cmp nat_cmp) x) ∙ e));
-  apart = λ x y i e f. absurd (none-some i (sym (finite.get-empty (slice_cmp nat_cmp) x) ∙ e));
+  each = λ name c. let less : c.0 < 0 = c.1 in absurd (omega (arith, less));
+  position = λ name at e. absurd (none-some at (sym (finite.get-empty (slice_cmp nat_cmp) name) ∙ e));
 }
-
-pub is_numbering : (names : List Name) → IsNumbering (numbered names) (length names)
-is_numbering names = subst (IsNumbering (numbered names)) (omega arith) (numbering_from finite.empty 0 names none_numbered)
-
--- ---- each name has a number
-
-abbrev pub HasNumber : Numbers → Name → Type 0
-HasNumber m name = is_some (finite.get m name) ≡ true
 
 some_by : (b : Bool) (o : Option ℕ) (n : ℕ) → is_some o ≡ true → is_some (cond b (Some n) o) ≡ true
 some_by true o n h = refl
 some_by false o n h = h
 
-still_has : (m : Numbers) (n : ℕ) (names : List Name) (x : Name) → HasNumber m x → HasNumber (numbered_from m n names) x
-still_has m n [] x h = h
-still_has m n (name ∷ names) x h =
-    still_has (finite.insert m name n) (n + 1) names x (ap (λ (o : Option ℕ). is_some o) (got m name n x) ∙ some_by (is_same x name) (finite.get m x) n h)
+get_front : (names : List Name) (last name : Name) (i : ℕ) → slice_get names i ≡ Some name → slice_get (names ++ last ∷ []) i ≡ Some name
+get_front [] last name i e = absurd (none-some name e)
+get_front (x ∷ names) last name zero e = e
+get_front (x ∷ names) last name (suc i) e = get_front names last name i e
 
-newly_has : (m : Numbers) (n : ℕ) (name : Name) → HasNumber (finite.insert m name n) name
-newly_has m n name = ap (λ (o : Option ℕ). is_some o) (got m name n name ∙ ap (λ b. cond b (Some n) (finite.get m name)) ((eq_by_cmp_equiv nat_list_cmp_total).refl name))
+get_last : (names : List Name) (last : Name) → slice_get (names ++ last ∷ []) (length names) ≡ Some last
+get_last [] last = refl
+get_last (x ∷ names) last = get_last names last
 
-each_from : (m : Numbers) (n : ℕ) (names : List Name) → AllByRecursion (HasNumber (numbered_from m n names)) names
-each_from m n [] = tt
-each_from m n (name ∷ names) =
-    (still_has (finite.insert m name n) (n + 1) names name (newly_has m n name), each_from (finite.insert m name n) (n + 1) names)
+position_by : (names : List Name) (m : Numbers) (last name : Name) (at : ℕ) (b : Bool) → is_same name last ≡ b → AreNumbersOf names m
+    → cond b (Some (length names)) (finite.get m name) ≡ Some at → slice_get (names ++ last ∷ []) at ≡ Some name
+position_by names m last name at true same h e =
+    subst (λ k. slice_get (names ++ last ∷ []) k ≡ Some name) (same_Some (length names) at e) (get_last names last ∙ ap (λ (x : Name). Some x) (sym (from_same name last same)))
+position_by names m last name at false same h e = get_front names last name at (h.position name at e)
 
-pub each_has_number : (names : List Name) → AllByRecursion (HasNumber (numbered names)) names
-each_has_number names = each_from finite.empty 0 names
+-- with one name more, whose number is the count
+one_more : (names : List Name) (m : Numbers) (last : Name) → AreNumbersOf names m → AreNumbersOf (names ++ last ∷ []) (finite.insert m last (length names))
+one_more names m last h =
+    let n = length names in
+    let itself : is_same last last ≡ true = (eq_by_cmp_equiv nat_list_cmp_total).refl last in
+    record {
+      each = λ name c. ap (λ (o : Option ℕ). is_some o) (got m last n name) ∙ (elim (Contains-push_cases names last name c) [
+        | inl k ↦ some_by (is_same name last) (finite.get m name) n (h.each name k)
+        | inr e ↦ ap (λ b. is_some (cond b (Some n) (finite.get m name))) (subst (λ (other : Name). is_same other last ≡ true) e itself)
+      ]);
+      position = λ name at e. position_by names m last name at (is_same name last) refl h (sym (got m last n name) ∙ e);
+    }
+
+-- the names before a position, and the one that stands there
+pub front_more : (names : List Name) (at : ℕ) (name : Name) (m more : Numbers) → at < length names → name ≡ get_or names at name → AreNumbersOf (take at names) m
+    → more ≡ finite.insert m name at → AreNumbersOf (take (at + 1) names) more
+front_more names at name m more l is h e =
+    let size : length (take at names) ≡ at = length-take-le at names (omega (arith, l)) in
+    let longer : take at names ++ name ∷ [] ≡ take (at + 1) names = sym (take_more names at name l ∙ ap (λ (x : Name). take at names ++ x ∷ []) (sym is)) in
+    let next : AreNumbersOf (take at names ++ name ∷ []) (finite.insert m name at) =
+    subst (λ (k : ℕ). AreNumbersOf (take at names ++ name ∷ []) (finite.insert m name k)) size (one_more (take at names) m name h) in
+    subst (AreNumbersOf (take (at + 1) names)) (sym e) (subst (λ (front : List Name). AreNumbersOf front (finite.insert m name at)) longer next)

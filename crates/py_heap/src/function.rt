@@ -1,5 +1,5 @@
 ghost use Rattle.std.specs.Prelude.{◌≡◌, length, IfOk};
-ghost use Rattle.py_heap.specs.Numbering.{numbered};
+ghost use Rattle.py_heap.specs.Numbering.{AreNumbersOf};
 ghost use Rattle.py_tree.specs.Locals.{locals_of};
 
 use plain_data::{Shared, Text, TextMap};
@@ -21,7 +21,7 @@ impl Model for Function {
     ghost use Rattle.py_tree.specs.declared.statements.Def.{Def as Definition};
     ghost use Rattle.py_tree.specs.contracts.statements.Def as definition;
     ghost use Rattle.py_tree.specs.Locals.{locals_of};
-    ghost use Rattle.py_heap.specs.Numbering.{numbered};
+    ghost use Rattle.py_heap.specs.Numbering.{AreNumbersOf};
 
     ghost Value = { Definition };
 
@@ -29,7 +29,7 @@ impl Model for Function {
 
     ghost view = { λ f. f.def };
 
-    ghost invariant = { λ f. (f.numbers ≡ numbered (locals_of f.def)) × (f.slots ≡ length (locals_of f.def)) };
+    ghost invariant = { λ f. AreNumbersOf (locals_of f.def) f.numbers × (f.slots ≡ length (locals_of f.def)) };
 }
 
 impl Function {
@@ -69,7 +69,7 @@ impl Function {
 
     /// The number of each of its locals, from 0, in the order of their first positions.
     pub fn numbers(&self) -> &Shared<TextMap<usize>>
-        ensures { result.now ≡ numbered (locals_of self.now) }
+        ensures { AreNumbersOf (locals_of self.now) result.now }
     {
         &self.numbers
     }
@@ -84,7 +84,7 @@ impl Function {
 
 /// The number of each name: its position, from 0.
 fn numbers_of(alloc: Global, names: &[Text]) -> Result<TextMap<usize>, AllocError>
-    ensures { IfOk result (λ numbers. numbers ≡ numbered names.now) }
+    ensures { IfOk result (λ numbers. AreNumbersOf names.now numbers) }
 {
     let mut numbers = TextMap::new(alloc);
     for (at, name) in names.iter().enumerate() {

@@ -1,5 +1,5 @@
 -- A cell's end, from the run that gave it.
-use Rattle.std.proofs.Common.{◌≡◌, ℕ, true, List, [], Option, Result, Ok, Err, refl, sym, subst}
+use Rattle.std.proofs.Common.{◌≡◌, ℕ, true, List, [], Option, Result, Ok, Err, refl, sym, ap, subst}
 use Rattle.std.proofs.lemmas.List.{append-nil}
 use Rattle.nb_outside.specs.Feeds.{Seen, Fed}
 use Rattle.nb_outside.proofs.Feeding.{fed_none}
@@ -11,7 +11,7 @@ use Rattle.py_machine.specs.declared.machine.Machine.{Machine}
 use Rattle.py_machine.specs.Runs.{Outcome, Stop, asks, start, tells, told, Runs}
 use Rattle.py_meaning.specs.declared.end.CellError.{CellError}
 use Rattle.py_meaning.specs.Acts.{run}
-use Rattle.py_meaning.specs.Cells.{Asks, UsesUp, outcome, result_in, error_in, end_of, end}
+use Rattle.py_meaning.specs.Cells.{Asks, UsesUp, outcome, result_in, error_in, end_of, end, end_state}
 use Rattle.py_meaning.specs.Meaning.{cell}
 
 abbrev Shown : Type 0
@@ -32,6 +32,9 @@ pub end_is : (body : List Stmt) (s : State) (m n : Machine) (r : Result Shown Fa
     → result ≡ result_in (told r) → error ≡ error_in (told r)
     → record { printed = n.printed; result = result; error = error; steps = n.steps; draws = n.drawn; marks = n.marks } ≡ end body s n.drawn
 end_is body s m n r result error e h t f g = end_fields (outcome body s n.drawn) n (told r) result error (ended body s m n r e h t) f g
+
+pub state_is : (body : List Stmt) (s : State) (m n : Machine) (r : Result Shown Fault) → m ≡ start s → Runs (run (cell body)) m r n → tells r ≡ true → n.state ≡ end_state body s n.drawn
+state_is body s m n r e h t = sym (ap (λ (o : Outcome Shown). o.1.state) (ended body s m n r e h t))
 
 -- what tells doesn't ask
 tells_no_ask : (r : Result Shown Fault) → tells r ≡ true → told r ≡ Err asks → ⊥

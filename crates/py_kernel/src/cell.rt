@@ -152,6 +152,6 @@ pub fn run_cell<F: Feed>(
         error,
         steps,
         draws: drawn,
-        marks,
+        marks: marks.into_marks(),
     })
 }

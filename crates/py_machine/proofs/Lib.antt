@@ -3,3 +3,4 @@ pub mod Numbered
 pub mod Drawing
 pub mod Resting
 pub mod Slotted
+pub mod Noted

@@ -4,5 +4,6 @@ pub mod Methods
 pub mod Marked
 pub mod Changes
 pub mod Slots
+pub mod Notes
 pub mod Runs
 pub mod Rests

@@ -14,6 +14,7 @@ mod kind;
 mod machine;
 mod marks;
 mod method;
+mod notes;
 mod numbers;
 mod slots;
 mod text_rest;
@@ -38,6 +39,7 @@ pub use method::{
     BoundMethod, DictMethod, ListMethod, TextMethod, dict_method_name, dict_method_named,
     list_method_name, list_method_named, text_method_name, text_method_named,
 };
+pub use notes::Notes;
 pub use numbers::NumberSet;
 pub use slots::Slots;
 pub use text_rest::TextRest;

@@ -6,7 +6,7 @@ ghost use Rattle.py_machine.specs.Runs.{Is, Runs, Grows, Feeding};
 use crate::builtins::builtin_named;
 use crate::error::{Fault, memory_error, name_error, step_limit_error, unbound_error};
 use crate::frame::{Change, Frame, FrameSlot};
-use crate::marks::Marks;
+use crate::notes::Notes;
 use nb_outside::{Drawn, Feed};
 use plain_data::{Items, Text};
 use py_heap::{HeapFault, Object, State};
@@ -28,7 +28,7 @@ pub struct Machine {
     /// What the cell drew so far.
     pub drawn: Items<Drawn>,
     /// What the cell did so far.
-    pub marks: Marks,
+    pub marks: Notes,
     /// The locals of the call that runs, if one does.
     pub frame: Option<Frame>,
 }
@@ -43,7 +43,7 @@ impl Machine {
             steps: 0,
             printed: Text::new(alloc, "")?,
             drawn: Items::new(alloc),
-            marks: Marks::new(alloc),
+            marks: Notes::new(alloc),
             frame: None,
         })
     }
@@ -374,7 +374,7 @@ impl Machine {
         self.drawn.push(Drawn::Failed)?;
         let draw = feed.draw();
         self.drawn.set(at, draw);
-        self.marks.drew = true;
+        self.marks.draw();
         Ok(draw)
     }
 

@@ -1,5 +1,5 @@
 -- The pieces of a text between the occurrences of a separator.
-use Rattle.std.proofs.Common.{◌≡◌, ◌≢◌, ◌≤◌, ◌<◌, ℕ, suc, ◌-◌, ◌+◌, false, List, [], ◌∷◌, ◌++◌, length, drop, None, refl, sym, ap, ◌∙◌, arith, append_assoc, append-nil}
+use Rattle.std.proofs.Common.{◌≡◌, ◌≢◌, ◌≤◌, ◌<◌, ℕ, suc, ◌-◌, ◌+◌, false, List, [], ◌∷◌, ◌++◌, length, drop, None, refl, sym, ap, ◌∙◌, arith, append_assoc, append-nil, length-append}
 use Rattle.std.specs.Str.Pattern.{FindsText, SplitsAroundMatch}
 use Rattle.std.proofs.lemmas.Bool.{cond-true, cond-false, false_from_ne_true}
 use Rattle.std.specs.Prelude.{sum_by}
@@ -82,3 +82,10 @@ one_more separator text front back some p =
 
 pub last_one : (separator text : List ℕ) → FindsText separator text None → length (as_texts (split_at separator text)) ≡ 1
 last_one separator text h = ap (λ t. length (as_texts t)) (split_end separator text h)
+
+-- pieces that are found, and at least one more, are more than so many
+pub more_than : (most : ℕ) (all rest whole : List Value) → all ++ rest ≡ whole → most ≤ length all → 0 < length rest → most < length whole
+more_than most all rest whole is many some =
+    let e : length (all ++ rest) ≡ length whole = ap length is in
+    let f : length (all ++ rest) ≡ length all + length rest = length-append all rest in
+    omega arith

@@ -1,4 +1,4 @@
-ghost use Rattle.std.specs.Prelude.{◌≡◌, ◌<◌, ◌≤◌, ◌^◌, length, IfOk, SomeIff};
+ghost use Rattle.std.specs.Prelude.{◌≡◌, ◌<◌, ◌≤◌, ◌^◌, length, IfOk, MatchOption, SomeIff};
 ghost use Rattle.py_machine.specs.Runs.{Is, Still, charge as meter_charge};
 ghost use Rattle.py_meaning.specs.Acts.{run};
 ghost use Rattle.py_meaning.specs.Operators.{joined as new_list, list_units};
@@ -7,8 +7,9 @@ ghost use Rattle.py_meaning.specs.Methods as spec;
 
 use plain_data::{Items, SharedText};
 use py_heap::{METER_LIMIT, Object};
-use py_machine::{Fault, Machine, empty_separator, memory_error, wrong_argument};
+use py_machine::{Fault, MAX_STEPS, Machine, empty_separator, memory_error, wrong_argument};
 use py_objects::take_steps;
+use py_ops::joined;
 use py_value::Value;
 use std::alloc::{AllocError, Global};
 
@@ -82,24 +83,35 @@ fn count_of(text: &str, separator: &str) -> usize
     count
 }
 
-/// The pieces of a text between the occurrences of a separator.
-fn pieces(alloc: Global, text: &str, separator: &str) -> Result<Items<Value>, AllocError>
+/// The pieces of a text between the occurrences of a separator, if they are at most `most`. Else what was made is dropped.
+fn pieces(
+    alloc: Global,
+    text: &str,
+    separator: &str,
+    most: usize,
+) -> Result<Option<Items<Value>>, AllocError>
     requires { 0 < length separator.now }
-    ensures { IfOk result (λ all. all ≡ spec.as_texts (split_at separator.now text.entry.now)) }
+    ensures { IfOk result (λ found. MatchOption found (most < length (spec.as_texts (split_at separator.now text.entry.now))) (λ all. all ≡ spec.as_texts (split_at separator.now text.entry.now))) }
 {
     let mut all = Items::new(alloc);
     let mut rest = text;
     while let Some((piece, more)) = rest.split_once(separator) {
+        if all.len() >= most {
+            return Ok(None);
+        }
         all.push(Value::Text(SharedText::from_str(alloc, piece)?))?;
         rest = more;
     }
+    if all.len() >= most {
+        return Ok(None);
+    }
     all.push(Value::Text(SharedText::from_str(alloc, rest)?))?;
-    Ok(all)
+    Ok(Some(all))
 }
 
 /// A new list of the pieces of a text. Its charge and its steps come before it is made.
 #[tactic(auto, unfolding(py_meaning::specs::Operators::joined))]
-fn split_text(
+fn split_into_many(
     alloc: Global,
     machine: &mut Machine,
     text: &str,
@@ -110,10 +122,34 @@ fn split_text(
     ensures drawn { machine.new.drawn ≡ machine.old.drawn }
 {
     charge_pieces(alloc, machine, text, separator)?;
-    take_steps(alloc, machine, count_of(text, separator))?;
-    let all = pieces(alloc, text, separator)?;
-    let at = machine.add(Object::List(all))?;
-    Ok(Value::Ref(at))
+    let count = count_of(text, separator);
+    take_steps(alloc, machine, count)?;
+    match pieces(alloc, text, separator, count)? {
+        Some(all) => {
+            let at = machine.add(Object::List(all))?;
+            Ok(Value::Ref(at))
+        }
+        None => unreachable!(),
+    }
+}
+
+/// A new list of the pieces of a text. If the cell has a step left for each, one pass finds them; else they are counted
+/// first.
+fn split_text(
+    alloc: Global,
+    machine: &mut Machine,
+    text: &str,
+    separator: &str,
+) -> Result<Value, Fault>
+    requires { 0 < length separator.now }
+    ensures runs { Still (run (new_list (spec.as_texts (split_at separator.now text.now)))) machine.old result machine.new }
+    ensures drawn { machine.new.drawn ≡ machine.old.drawn }
+{
+    let left = MAX_STEPS.saturating_sub(machine.steps);
+    match pieces(alloc, text, separator, left as usize)? {
+        Some(all) => joined(alloc, machine, all),
+        None => split_into_many(alloc, machine, text, separator),
+    }
 }
 
 /// A new list of the pieces of a text between the occurrences of a separator.

@@ -18,22 +18,25 @@ use Rattle.session_core.specs.Meanings.{Served, Meaning, HasNoEnd, IsPacked}
 use Rattle.session_core.specs.Engines.{Packs}
 use Rattle.session_core.specs.Legal.{Phase, settled, arriving, Progress, after, progress_of, IsReason, MayTry, MayGo, HasPlan, MayCome, MayBeResumed, IsLegal, if_settled, asked_by, asked}
 use Rattle.session_core.specs.Stepping.{IsEarly, HasGone, HasEnded, reason_of}
+use Rattle.session_core.specs.Feeding.{drawn_by, drawn_in}
 use Rattle.session_core.proofs.Progressing.{progress_more, asked_more, legal_more}
+use Rattle.session_core.proofs.Feeding.{drawn_still}
 
 is_move_of : (P : ℕ → Weights → Type 0) (ask : Ask) (to : ℕ) (weights : Weights) → ask ≡ Migrate to weights → P to weights → IsMove P ask
 is_move_of P ask to weights is h = subst (IsMove P) (sym is) h
 
 module _ (meaning : Meaning) (hosts : ℕ) where
-  -- one entry that ends a request
+  -- one entry that ends a request and draws nothing
   ended_by : (old new : List Entry) (e : Entry) (request : Request) → new ≡ old ++ e ∷ [] → MayCome meaning hosts (progress_of old) e
       → asked_by (progress_of old).phase e ≡ request ∷ [] → (after (progress_of old) e).phase ≡ settled
-      → (after (progress_of old) e).served ≡ (progress_of old).served → (after (progress_of old) e).dead ≡ (progress_of old).dead → HasEnded meaning hosts old new request
-  ended_by old new e request is may asks phase served dead = let now = ap progress_of is ∙ progress_more old e in record {
+      → (after (progress_of old) e).served ≡ (progress_of old).served → drawn_by e ≡ [] → (after (progress_of old) e).dead ≡ (progress_of old).dead → HasEnded meaning hosts old new request
+  ended_by old new e request is may asks phase served none dead = let now = ap progress_of is ∙ progress_more old e in record {
     goes_on = (e ∷ [], is);
     legal = λ legal. subst (IsLegal meaning hosts) (sym is) (legal_more meaning hosts old e legal may);
     answers = ap asked is ∙ asked_more old e ∙ ap (λ z. asked old ++ z) asks;
     phase = ap (λ p. p.phase) now ∙ phase;
     served = ap (λ p. p.served) now ∙ served;
+    drawn = drawn_still old new e is none;
     dead = ap (λ p. p.dead) now ∙ dead;
   }
 
@@ -41,7 +44,7 @@ module _ (meaning : Meaning) (hosts : ℕ) where
       → new ≡ old ++ Refused (progress_of old).owner request reason ∷ [] → IsReason meaning hosts (progress_of old) to weights reason → HasEnded meaning hosts old new request
   refused old new request reason to weights ask phase is why =
       ended_by old new (Refused (progress_of old).owner request reason) request is
-      (phase, refl, is_move_of (λ t w. IsReason meaning hosts (progress_of old) t w reason) request.ask to weights ask why) refl phase refl refl
+      (phase, refl, is_move_of (λ t w. IsReason meaning hosts (progress_of old) t w reason) request.ask to weights ask why) refl phase refl refl refl
 
   pub early : (p : Progress) (to : ℕ) (weights : Weights) (reason : MoveRefusal) → IsEarly hosts p to reason → IsReason meaning hosts p to weights reason
   early p to weights DeadKernel h = h
@@ -58,7 +61,7 @@ module _ (meaning : Meaning) (hosts : ℕ) where
   resumed old new request to weights ask phase is may =
       ended_by old new (Resumed (progress_of old).owner request) request is
       (resumes (progress_of old) (progress_of old).phase request phase (is_move_of (MayTry meaning hosts (progress_of old)) request.ask to weights ask may))
-      (ap (λ z. if_settled z request) phase) refl refl refl
+      (ap (λ z. if_settled z request) phase) refl refl refl refl
 
   -- ---- a move that sets out
 
@@ -83,19 +86,24 @@ module _ (meaning : Meaning) (hosts : ℕ) where
   away_asked old request to = let e = Sealed (progress_of old).owner request to in
       asked_more (old ++ e ∷ []) (Moved to) ∙ append-nil (asked (old ++ e ∷ [])) ∙ asked_more old e
 
+  away_drawn : (old : List Entry) (request : Request) (to : ℕ) → drawn_in (away old request to) ≡ drawn_in old
+  unfolding away
+  away_drawn old request to = let e = Sealed (progress_of old).owner request to in
+      drawn_still (old ++ e ∷ []) ((old ++ e ∷ []) ++ Moved to ∷ []) (Moved to) refl refl ∙ drawn_still old (old ++ e ∷ []) e refl refl
+
   away_more : (old : List Entry) (request : Request) (to : ℕ) (e : Entry) → away old request to ++ e ∷ [] ≡ old ++ Sealed (progress_of old).owner request to ∷ Moved to ∷ e ∷ []
   unfolding away
   away_more old request to e = let s = Sealed (progress_of old).owner request to in
       append_assoc (old ++ s ∷ []) (Moved to ∷ []) (e ∷ []) ∙ append_assoc old (s ∷ []) (Moved to ∷ e ∷ [])
 
-  -- it ends with an entry that asks nothing
+  -- it ends with an entry that asks nothing and draws nothing
   arrived : (old new : List Entry) (request : Request) (to : ℕ) (weights : Weights) (e : Entry) → request.ask ≡ Migrate to weights → (progress_of old).phase ≡ settled
       → MayGo meaning hosts (progress_of old) to weights → new ≡ away old request to ++ e ∷ []
       → MayCome meaning hosts (record (progress_of old) { phase = arriving request to }) e → asked_by (arriving request to) e ≡ []
       → (after (record (progress_of old) { phase = arriving request to }) e).phase ≡ settled
-      → (after (record (progress_of old) { phase = arriving request to }) e).served ≡ (progress_of old).served
+      → (after (record (progress_of old) { phase = arriving request to }) e).served ≡ (progress_of old).served → drawn_by e ≡ []
       → (after (record (progress_of old) { phase = arriving request to }) e).dead ≡ (progress_of old).dead → HasEnded meaning hosts old new request
-  arrived old new request to weights e ask phase may is comes asks then served dead =
+  arrived old new request to weights e ask phase may is comes asks then served none dead =
       let gone = away_progress old request to in
       let now = ap progress_of is ∙ progress_more (away old request to) e ∙ ap (λ p. after p e) gone in record {
         goes_on = (Sealed (progress_of old).owner request to ∷ Moved to ∷ e ∷ [], is ∙ away_more old request to e);
@@ -105,6 +113,7 @@ module _ (meaning : Meaning) (hosts : ℕ) where
             ∙ ap (λ z. asked (away old request to) ++ z) asks ∙ append-nil (asked (away old request to)) ∙ away_asked old request to;
         phase = ap (λ p. p.phase) now ∙ then;
         served = ap (λ p. p.served) now ∙ served;
+        drawn = drawn_still (away old request to) new e is none ∙ away_drawn old request to;
         dead = ap (λ p. p.dead) now ∙ dead;
       }
 
@@ -114,9 +123,9 @@ module _ (meaning : Meaning) (hosts : ℕ) where
   unfolding away
   gone old new request again to weights certified Holds ask same phase may plan (inl (objects, all, holds, is)) =
       arrived old new request to weights (Adopted (progress_of old).owner to again certified objects) ask phase may is
-      (refl, refl, same, is_move_of (λ _ w. HasPlan meaning hosts (progress_of old) certified w) request.ask to weights ask plan, all) refl refl refl refl
+      (refl, refl, same, is_move_of (λ _ w. HasPlan meaning hosts (progress_of old) certified w) request.ask to weights ask plan, all) refl refl refl refl refl
   gone old new request again to weights certified Holds ask same phase may plan (inr (holds, is)) =
-      arrived old new request to weights (Resumed (progress_of old).owner again) ask phase may is (refl, same) refl refl refl refl
+      arrived old new request to weights (Resumed (progress_of old).owner again) ask phase may is (refl, same) refl refl refl refl refl
 
   -- who owns it then has it
   pub gone_held : (old new : List Entry) (request again : Request) (to : ℕ) (certified : Certified) (Holds : ℕ → Type 0)

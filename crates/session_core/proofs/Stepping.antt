@@ -15,7 +15,9 @@ use Rattle.session_core.specs.Meanings.{Served, Meaning, more, HasNoEnd}
 use Rattle.session_core.specs.Legal.{Phase, settled, Progress, after, all_after, before_all, progress_of, IsCause, MayCome, IsLegal, if_settled, asked_by, asked}
 use Rattle.session_core.specs.Entries.{IsEnd}
 use Rattle.session_core.specs.Machine.{IsNoted}
+use Rattle.session_core.specs.Feeding.{drawn_by, drawn_in}
 use Rattle.session_core.proofs.Progressing.{progress_more, asked_more, legal_more}
+use Rattle.session_core.proofs.Feeding.{drawn_still}
 
 none_of_two : (a b : Bool) → a || b ≡ false → (a ≡ false) × (b ≡ false)
 none_of_two true b h = let no : ⊥ = cc in absurd no
@@ -120,3 +122,17 @@ module _ (meaning : Meaning) (hosts : ℕ) where
 
   pub dead_served : (old new : List Entry) (r : Request) → Ends old new r → (progress_of old).dead ≡ true → (progress_of new).served ≡ (progress_of old).served
   dead_served old new r (e, ends, (may, is)) dead = ap (λ es. (progress_of es).served) is ∙ ap (λ p. p.served) (progress_more old e) ∙ (dead_after (progress_of old) e r ends may dead).1
+
+  dead_draws_none : (p : Progress) (e : Entry) (r : Request) → IsEnd (λ x. x ≡ r) e → MayCome meaning hosts p e → p.dead ≡ true → drawn_by e ≡ []
+  dead_draws_none p (Opened host request channel) r h may is = absurd h
+  dead_draws_none p (Ran host request draws reply) r h may is = let alive = may.1 in let no : ⊥ = cc in absurd no
+  dead_draws_none p (Died host request count cause) r h may is = let alive = may.1 in let no : ⊥ = cc in absurd no
+  dead_draws_none p (Dead host request count) r h may is = refl
+  dead_draws_none p (Sealed host request to) r h may is = absurd h
+  dead_draws_none p (Moved to) r h may is = absurd h
+  dead_draws_none p (Adopted from to request certified objects) r h may is = absurd h
+  dead_draws_none p (Refused host request reason) r h may is = refl
+  dead_draws_none p (Resumed host request) r h may is = refl
+
+  pub dead_drawn : (old new : List Entry) (r : Request) → Ends old new r → (progress_of old).dead ≡ true → drawn_in new ≡ drawn_in old
+  dead_drawn old new r (e, ends, (may, is)) dead = drawn_still old new e is (dead_draws_none (progress_of old) e r ends may dead)

@@ -15,6 +15,7 @@ use Rattle.session_core.specs.declared.engine.PackFault.{PackFault}
 use Rattle.session_core.specs.declared.engine.PackFault.TheVariants as pack
 use Rattle.session_core.specs.Meanings.{Served, Meaning, IsPacked}
 use Rattle.session_core.specs.Legal.{Progress, progress_of, settled, IsLegal, asked}
+use Rattle.session_core.specs.Feeding.{drawn_in}
 
 -- why a session dies at a fault of its engine
 abbrev pub cause_of : RunFault → DiedCause
@@ -51,13 +52,14 @@ abbrev pub GoesOn : List Entry → List Entry → Type 0
 GoesOn old new = (more : List Entry) × (new ≡ old ++ more)
 
 -- A request ended: the journal goes on, a legal one stays legal, and what was added answers this request and no other. The
--- session is settled, what was served is as before, and so is whether the session is dead.
+-- session is settled. What was served is as before, and so are what the entries say was drawn and whether the session is dead.
 pub record HasEnded (meaning : Meaning) (hosts : ℕ) (old new : List Entry) (request : Request) : Type 0 where
   pub goes_on : GoesOn old new
   pub legal : IsLegal meaning hosts old → IsLegal meaning hosts new
   pub answers : asked new ≡ asked old ++ request ∷ []
   pub phase : (progress_of new).phase ≡ settled
   pub served : (progress_of new).served ≡ (progress_of old).served
+  pub drawn : drawn_in new ≡ drawn_in old
   pub dead : (progress_of new).dead ≡ (progress_of old).dead
 
 -- why a pack that failed keeps a session where it is; none for want of memory

@@ -97,7 +97,8 @@ impl<E: Engine + Drop> Alone<E> {
     }
 
     /// Answers one request. A cell ran, died or found the session dead; a move was adopted, refused or, for want of memory,
-    /// resumed. The journal goes on by the entries that say so. The draws that it records are what the feed gave.
+    /// resumed. The journal goes on by the entries that say so. The draws that it records are what the feed gave. Only a death
+    /// for want of memory doesn't record what its cell drew.
     pub fn answer<F: Feed>(self, alloc: Global, feed: &mut F, request: Request) -> Alone<E>
         requires { 3 ≤ self.spare }
         ensures goes_on { GoesOn self.entries result.entries }

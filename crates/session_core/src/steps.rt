@@ -1,8 +1,6 @@
 //! The steps of a session on one thread. Each puts at the journal's end entries that may come there.
 
-ghost use Rattle.std.specs.Prelude.{◌≡◌, ℕ, ◌+◌, ◌≤◌, ◌<◌, true, false, List, [], ◌∷◌, ◌++◌, Some, IfSome, IfNone, MatchOption, Ok, Err};
-ghost use Rattle.nb_outside.specs.declared.feed.Drawn.{Drawn};
-ghost use Rattle.nb_outside.specs.Feeds.{Fed};
+ghost use Rattle.std.specs.Prelude.{◌≡◌, ℕ, ◌+◌, ◌≤◌, ◌<◌, true, false, [], ◌∷◌, ◌++◌, Some, IfSome, IfNone, MatchOption, Ok, Err};
 ghost use Rattle.graph_model.specs.declared.plan.Weights.{Weights};
 ghost use Rattle.session_core.specs.declared.request.Ask.TheVariants as asks;
 ghost use Rattle.session_core.specs.declared.entry.Entry.{Entry};
@@ -12,7 +10,7 @@ ghost use Rattle.session_core.specs.Legal.{settled, progress_of, CanGo, IsReason
 ghost use Rattle.session_core.specs.Machine.{IsNoted};
 ghost use Rattle.session_core.specs.Stepping.{cause_of, IsEarly, IsFree, IsPackOf, HasGone, HasEnded};
 ghost use Rattle.session_core.specs.Engines.{Packs};
-ghost use Rattle.session_core.specs.Feeding.{drawn_in};
+ghost use Rattle.session_core.specs.Feeding.{TellsDraws, Drew};
 
 use crate::engine::{Engine, PackFault, Packed, RunFault};
 use crate::entry::{DiedCause, Entry, MoveRefusal};
@@ -31,7 +29,8 @@ fn settled_owner(journal: &Journal) -> u32
     journal.owner().unwrap()
 }
 
-/// Serves a request that is no move on a session that is alive: it ran, or the session died.
+/// Serves a request that is no move on a session that is alive: it ran, or the session died. The entry that says so has the
+/// draws that were taken from the feed; only a death for want of memory doesn't say them.
 pub fn serve<E: Engine, F: Feed>(
     alloc: Global,
     journal: &mut Journal,
@@ -50,8 +49,8 @@ pub fn serve<E: Engine, F: Feed>(
     ensures ends { result ≡ true → (progress_of journal.new.entries).dead ≡ is_end request.ask }
     ensures dead { result ≡ false → (progress_of journal.new.entries).dead ≡ true }
     ensures served { result ≡ false → (progress_of journal.new.entries).served ≡ (progress_of journal.old.entries).served }
-    ensures fed { (draws : List Drawn) × Fed (F.seen feed.old) draws (F.seen feed.new)
-        × (result ≡ true → (drawn_in journal.new.entries ≡ drawn_in journal.old.entries ++ draws)) }
+    ensures fed { (entry : Entry) × (journal.new.entries ≡ journal.old.entries ++ entry ∷ []) × Drew entry (F.seen feed.old) (F.seen feed.new)
+        × (result ≡ true → TellsDraws entry) }
     ensures spare { journal.old.spare ≡ journal.new.spare + 1 }
 {
     let host = settled_owner(journal);

@@ -1,12 +1,12 @@
 -- A session that was just opened, and one that is finished.
 use Rattle.std.proofs.Common.{◌≡◌, ◌<◌, ℕ, false, true≢false, List, [], ◌∷◌, refl, sym, subst}
 use Rattle.nb_outside.specs.Feeds.{Seen, HasAll}
-use Rattle.nb_outside.proofs.Feeding.{fed_none}
 use Rattle.session_core.specs.declared.request.Header.{Header}
 use Rattle.session_core.specs.declared.request.Channel.{Channel}
 use Rattle.session_core.specs.declared.entry.Entry.{Entry}
 use Rattle.session_core.specs.declared.entry.Entry.TheVariants.{Opened}
 use Rattle.session_core.specs.Meanings.{Served, Meaning}
+use Rattle.session_core.proofs.Feeding.{fed_first}
 use Rattle.session_queues.specs.declared.items.MainItem.TheVariants.{Opening}
 use Rattle.session_queues.specs.declared.shared.SharedQueues.{SharedQueues}
 use Rattle.session_queues.specs.Ends.{Held, Outgoing, opened_ends, nothing_pushed}
@@ -23,14 +23,7 @@ module _ (meaning : Meaning) (Stands : List Served → Type 0) (host_is : ℕ) (
       counts = λ never. absurd (true≢false (sym never));
     };
     answered = ([], (refl, refl));
-    drawn = record {
-      start = seen;
-      lost = [];
-      all = all;
-      fed = fed_none seen;
-      none_lost = λ _. refl;
-      none_lost_alive = λ _. refl;
-    };
+    fed = fed_first seen.made (Opened host request channel ∷ []) seen refl all refl;
     published = (refl, (Opened host request channel ∷ [], refl));
   }
 

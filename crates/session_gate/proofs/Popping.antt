@@ -90,7 +90,7 @@ module _ (meaning : Meaning) (Stands : List Served → Type 0) (host : ℕ) (see
   with_ends ends new owed h answered queues = record {
     kept = h.kept;
     answered = (owed, answered);
-    drawn = h.drawn;
+    fed = h.fed;
     published = (h.published.0 ∙ ap (λ (q : SharedQueues). q.out) (sym queues), h.published.1);
   }
 

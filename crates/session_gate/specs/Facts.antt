@@ -10,11 +10,11 @@ use Rattle.session_core.specs.Asks.{IsMove}
 use Rattle.session_core.specs.Engines.{Packs}
 use Rattle.session_core.specs.Meanings.{Served, Meaning}
 use Rattle.session_core.specs.Legal.{Phase, settled, sealed, arriving, progress_of, IsLegal}
+use Rattle.session_core.specs.Feeding.{HasFed}
 use Rattle.session_queues.specs.declared.shared.SharedQueues.{SharedQueues}
 use Rattle.session_queues.specs.Passes.{KeepsAll}
 use Rattle.session_queues.specs.Ends.{Held, Outgoing, AreFirst}
 use Rattle.session_gate.specs.Answered.{IsAnswered}
-use Rattle.session_gate.specs.Drawing.{HasDrawn}
 
 -- what a contract sees of a session's owner: engine and feed, the journal with its room, the ends of the queues, the session's
 -- number and the number of hosts
@@ -45,7 +45,7 @@ IsPublished entries ends out = (out.out_queue ≡ ends.queues.out) × AreFirst o
 pub record IsResident (meaning : Meaning) (Stands : List Served → Type 0) (host : ℕ) (seen : Seen) (hosts : ℕ) (is_dead : Bool) (count : ℕ) (entries : List Entry) (ends : Held) (out : Outgoing) : Type 0 where
   pub kept : IsKept meaning Stands host hosts is_dead count entries
   pub answered : (owed : List Request) × IsAnswered entries ends owed
-  pub drawn : HasDrawn seen entries
+  pub fed : HasFed seen.made entries seen
   pub published : IsPublished entries ends out
 
 module _ {E F : Type 0} where

@@ -4,17 +4,17 @@ use Rattle.session_core.specs.declared.request.Request.{Request}
 use Rattle.session_core.specs.declared.entry.Entry.{Entry}
 use Rattle.session_core.specs.declared.entry.Entry.TheVariants.{Opened, Ran, Died, Dead, Sealed, Moved, Adopted, Refused, Resumed}
 use Rattle.session_core.specs.Legal.{Progress, after}
+use Rattle.session_core.specs.Feeding.{drawn_by}
 use Rattle.session_gate.specs.declared.served.ServedAs.{ServedAs}
 use Rattle.session_gate.specs.declared.served.ServedAs.TheVariants as how
-use Rattle.session_gate.specs.Drawing.{draws_by, loses}
 
--- the entry changes neither what was served nor whether the session is dead, and nothing was drawn for it
+-- the entry changes neither what was served nor whether the session is dead, and records no draws
 abbrev pub IsStill : Progress → Entry → Type 0
-IsStill p e = ((after p e).served ≡ p.served) × ((after p e).dead ≡ p.dead) × (draws_by e ≡ []) × (loses e ≡ false)
+IsStill p e = ((after p e).served ≡ p.served) × ((after p e).dead ≡ p.dead) × (drawn_by e ≡ [])
 
 -- the same, and the owner is as before
 abbrev pub IsQuiet : Progress → Entry → Type 0
-IsQuiet p e = ((after p e).served ≡ p.served) × ((after p e).dead ≡ p.dead) × ((after p e).owner ≡ p.owner) × (draws_by e ≡ []) × (loses e ≡ false)
+IsQuiet p e = ((after p e).served ≡ p.served) × ((after p e).dead ≡ p.dead) × ((after p e).owner ≡ p.owner) × (drawn_by e ≡ [])
 
 -- the owner's answer to a request that is no move; it is Dead if the session was dead, and only then
 abbrev pub IsServed : ServedAs → ℕ → Request → Bool → Entry → Type 0

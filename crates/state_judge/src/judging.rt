@@ -1,4 +1,4 @@
-ghost use Rattle.std.specs.Prelude.{ℕ, ◌≡◌, ◌↔◌, ◌<◌, List, Contains, IsTrue, length, MatchOption, MatchResult, IfOk, IfErr, OnOk, Ok};
+ghost use Rattle.std.specs.Prelude.{ℕ, ◌≡◌, ◌↔◌, ◌<◌, ◌^◌, List, Contains, IsTrue, length, SomeIff, MatchOption, MatchResult, IfOk, IfErr, OnOk, Ok};
 ghost use Rattle.flow_model.specs.First.{IsFirst};
 ghost use Rattle.py_heap.specs.declared.state.State.{State};
 ghost use Rattle.py_heap.specs.References.{IsClosed};
@@ -14,7 +14,7 @@ ghost use Rattle.state_judge.specs.Agreeing.{IsAsSaid, Disagrees, IsUnlike, IsLo
 use graph_model::{Graph, Version};
 use history_graph::{add_names, by_least, is_in};
 use linked_parts::{Part, Parts};
-use part_bytes::write_part;
+use part_bytes::part_len;
 use plain_data::{Text, TextMap};
 use py_heap::State;
 use std::alloc::{AllocError, Global};
@@ -66,17 +66,27 @@ fn part_with<'a>(parts: &'a Parts, index: &TextMap<usize>, names: &[Text]) -> Op
     }
 }
 
-/// The length of the text of a part, or 0 if a handle is in it.
-fn size_of_part(alloc: Global, state: &State, part: &Part) -> Result<usize, AllocError>
+/// The length of the text of a part, or 0 if a handle is in it; None if that is 2^32 or more.
+fn size_of_part(alloc: Global, state: &State, part: &Part) -> Result<Option<u32>, AllocError>
     requires closed { IsClosed state.now }
     requires part { IsPartOf state.now part.now }
-    ensures { IfOk result (λ size. size ≡ size_of part.now.names state.now) }
+    ensures { IfOk result (λ size. SomeIff size (size_of part.now.names state.now < 2 ^ 32) (size_of part.now.names state.now)) }
 {
     if part.handle {
-        return Ok(0);
+        return Ok(Some(0));
     }
-    let bytes = write_part(alloc, state, part.names.as_slice())?;
-    Ok(bytes.len())
+    part_len(alloc, state, part.names.as_slice())
+}
+
+/// Whether a size that was found is the version's.
+fn has_size(found: Option<u32>, version: &Version) -> bool
+    ensures { (n : ℕ) → SomeIff found (n < 2 ^ 32) n → IsTrue result ↔ (n ≡ version.now.size) }
+{
+    let said = version.size;
+    match found {
+        Some(size) => size == said,
+        None => false,
+    }
 }
 
 /// Whether a part has the version's handle and size.
@@ -89,8 +99,8 @@ fn is_like(alloc: Global, state: &State, part: &Part, version: &Version) -> Resu
     if part.handle != version.handle {
         return Ok(false);
     }
-    let size = size_of_part(alloc, state, part)?;
-    Ok(size == version.size as usize)
+    let found = size_of_part(alloc, state, part)?;
+    Ok(has_size(found, version))
 }
 
 /// Whether the version's names are one part, with its handle and its size.

@@ -49,8 +49,8 @@ abbrev pub opened_with : Taken → List Entry → List Entry
 opened_with s entries = Opened s.host s.request s.channel ∷ entries
 
 -- A run that took in these bytes ended so and left this in the source. Written were the frames of its errors, and then those of the
--- session's opening and of the entries that answer its requests as a session that never moves does. What they drew is what its
--- feed gave first.
+-- session's opening and of the entries that answer its requests as a session that never moves does. What they say was drawn, at
+-- a death of a full session too, is what its feed gave first.
 pub record WritesAsUnmoved (gives : Answers) (s : Taken) (bytes : List ℕ) (cut : Cutting bytes) (end : RunEnd) (left : List ℕ) (IsAdded : List ℕ → Type 0) : Type 0 where
   pub ends : EndsAt end (Some left) cut.rest
   pub entries : List Entry

@@ -1,6 +1,6 @@
-use Rattle.std.proofs.Common.{◌≡◌, drop}
-use Rattle.py_heap.specs.Numbering.{numbered, numbered_from}
+use Rattle.std.proofs.Common.{take}
+use Rattle.py_heap.specs.Numbering.{AreNumbersOf}
 use Rattle.py_heap.proofs.function.numbers_of.Given as goal
 
 abbrev pub invariant-loop-at : goal.invariant-loop-at
-invariant-loop-at l = numbered l.names ≡ numbered_from l.numbers l.at (drop l.at l.names)
+invariant-loop-at l = AreNumbersOf (take l.at l.names) l.numbers

@@ -1,7 +1,7 @@
 use Rattle.std.proofs.Common.{◌≡◌, true, false, refl, sym, ap, ◌∙◌}
 use Rattle.session_core.specs.Legal.{progress_of}
 use Rattle.session_core.proofs.Stepping.{ends_legal, ends_goes_on, ends_phase, ends_owner, ends_asked}
-use Rattle.session_core.proofs.Feeding.{fed_served, fed_died}
+use Rattle.session_core.proofs.Feeding.{fed_by}
 use Rattle.session_core.proofs.alone.served.Goals as goal
 
 pub invariant_of-result : goal.invariant_of-result
@@ -50,12 +50,10 @@ returns-clause-goes_on g c =
 
 pub returns-then-not-serve-clause-fed : goal.returns-then-not-serve-clause-fed
 returns-then-not-serve-clause-fed g c = λ answers h.
-    let failed : c.serve.result ≡ false = c.if-not-serve.true in
     let fed = c.serve.ensures.fed in
-    fed_died answers c.args.journal.entries c.serve.new.journal.entries fed.0 _ _ (c.serve.ensures.served failed) (sym c.requires.alone.dead) (c.serve.ensures.dead failed) fed.1 h
+    fed_by answers c.args.journal.entries c.serve.new.journal.entries fed.0 _ _ fed.1 (sym c.requires.alone.dead) fed.2 h
 
 pub returns-clause-fed : goal.returns-clause-fed
 returns-clause-fed g c = λ answers h.
-    let ran : c.serve.result ≡ true = c.if-not-serve.false in
     let fed = c.serve.ensures.fed in
-    fed_served answers c.args.journal.entries c.serve.new.journal.entries fed.0 _ _ (fed.2 ran) (sym c.requires.alone.dead) fed.1 h
+    fed_by answers c.args.journal.entries c.serve.new.journal.entries fed.0 _ _ fed.1 (sym c.requires.alone.dead) fed.2 h

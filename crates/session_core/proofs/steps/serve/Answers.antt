@@ -2,9 +2,8 @@ use Rattle.std.proofs.Common.{◌≡◌, true, false, ◌||◌, refl, sym, ap, �
 use Rattle.session_core.specs.declared.entry.Entry.TheVariants.{Ran, Died}
 use Rattle.session_core.specs.Asks.{is_end}
 use Rattle.session_core.specs.Legal.{progress_of}
-use Rattle.session_core.specs.Feeding.{drawn}
 use Rattle.session_core.proofs.Progressing.{progress_more}
-use Rattle.session_core.proofs.Feeding.{drawn_more, fed_at_fault}
+use Rattle.session_core.proofs.Feeding.{drew_at_fault}
 use Rattle.session_core.proofs.Stepping.{alive_has_no_end, cause_is}
 use Rattle.session_core.proofs.steps.serve.Goals as goal
 
@@ -61,12 +60,16 @@ returns-in-Err-clause-served g c = λ _.
 
 pub returns-in-Ok-clause-fed : goal.returns-in-Ok-clause-fed
 returns-in-Ok-clause-fed g c =
-    let es = c.args.journal.now.entries in
     let draws = c.in-Ok.done.draws in
-    let ran = Ran c.settled_owner-host.result c.args.request draws c.in-Ok.done.reply in
-    (draws, c.in-Ok.ensures.drawn, λ _. ap (λ p. drawn p.served) (ap progress_of c.push.ensures.entries ∙ progress_more es ran) ∙ drawn_more (progress_of es).served c.args.request.ask draws)
+    (Ran c.settled_owner-host.result c.args.request draws c.in-Ok.done.reply, c.push.ensures.entries, (draws, c.in-Ok.ensures.drawn, λ _. refl), λ _. tt)
 
 pub returns-in-Err-clause-fed : goal.returns-in-Err-clause-fed
 returns-in-Err-clause-fed g c =
-    let taken = fed_at_fault c.in-Err.fault _ _ c.in-Err.ensures.drawn in
-    (taken.0, taken.1, λ ran. let never : false ≡ true = ran in cc)
+    let host = c.settled_owner-host.result in
+    let count = c.count-count.result in
+    let cause = c.died_by-cause.result in (
+      Died host c.args.request count cause,
+      c.push-in-Err.ensures.entries,
+      drew_at_fault c.in-Err.fault cause host c.args.request count _ _ c.in-Err.ensures.drawn c.died_by-cause.ensures,
+      λ ran. let never : false ≡ true = ran in cc,
+    )

@@ -1,4 +1,6 @@
-use Rattle.std.proofs.lemmas.Bool.{eqb-true, eq-eqb, false≢true}
+use Rattle.std.proofs.Common.{refl}
+use Rattle.std.proofs.lemmas.Bool.{false≢true}
+use Rattle.replay_laws.specs.Sizing.{size_of}
 use Rattle.state_judge.proofs.Agreed.{same_bits, other_bits, other_flag, like_said}
 use Rattle.state_judge.proofs.judging.is_like.Goals as goal
 
@@ -10,10 +12,11 @@ returns-then-part-version c = (
 
 pub returns : goal.returns
 returns c =
+    let s = c.args.state.now in
     let part = c.args.part.now in
     let version = c.args.version.now in
+    let n = size_of part.names s in
     let flag = same_bits part.handle version.handle c.if-part-version.false in
-    let like = like_said c.args.state.now part c.requires.closed c.requires.part version c.requires.names flag c.in_ok-size.size c.in_ok-size.ensures in (
-      λ t. like.0 (eqb-true c.in_ok-size.size version.size t),
-      λ said. eq-eqb c.in_ok-size.size version.size (like.1 said),
-    )
+    let like = like_said s part c.requires.closed c.requires.part version c.requires.names flag n refl in
+    let is = c.has_size.ensures n c.in_ok-found.ensures in
+    (λ t. like.0 (is.0 t), λ said. is.1 (like.1 said))

@@ -7,7 +7,7 @@ use Rattle.py_machine.proofs.machine.Machine.take.Goals as goal
 pub returns-clause-takes : goal.returns-clause-takes
 returns-clause-takes g c =
     let same = set_last c.args.self.now.drawn c.push.new.self c.set.new.self Failed c.draw-draw.result c.len-at.result c.in_ok-push.ensures.ok c.len-at.ensures c.set.ensures in
-    ap (λ z. record c.args.self.now { drawn = z; marks = record c.args.self.now.marks { drew = true } }) same
+    rw (c.draw.ensures) (ap (λ z. record c.args.self.now { drawn = z; marks = record c.args.self.now.marks { drew = true } }) same)
 
 pub returns-clause-fed : goal.returns-clause-fed
 returns-clause-fed g c =

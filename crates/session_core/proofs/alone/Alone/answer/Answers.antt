@@ -1,7 +1,7 @@
 use Rattle.std.proofs.Common.{◌≡◌, true, false, ◌++◌, ◌∷◌, [], sym, ap, ◌∙◌, subst}
 use Rattle.session_core.specs.Legal.{asked}
 use Rattle.session_core.specs.Stepping.{GoesOn}
-use Rattle.session_core.proofs.Stepping.{ends_legal, ends_goes_on, ends_phase, ends_asked, dead_stays, dead_served}
+use Rattle.session_core.proofs.Stepping.{ends_legal, ends_goes_on, ends_phase, ends_asked, dead_stays, dead_served, dead_drawn}
 use Rattle.session_core.specs.Feeding.{HasFed}
 use Rattle.session_core.proofs.Feeding.{fed_still}
 use Rattle.session_core.proofs.alone.Alone.answer.Goals as goal
@@ -37,6 +37,13 @@ returns-then-dead-clause-fed g c = λ answers h.
     let new = c.answer_dead.new.journal.entries in
     let ends = c.answer_dead.ensures.noted c.self.inside.hosts in
     let was = sym c.self.invariant.dead ∙ c.if-dead.true in
-    fed_still answers old new _ (dead_served g.E.Engine.meaning c.self.inside.hosts old new c.args.request ends was)
+    fed_still answers old new _ (ends_goes_on g.E.Engine.meaning c.self.inside.hosts old new c.args.request ends)
+    (dead_drawn g.E.Engine.meaning c.self.inside.hosts old new c.args.request ends was)
     (dead_stays g.E.Engine.meaning c.self.inside.hosts old new c.args.request ends was ∙ sym was)
+    (subst (λ z. HasFed answers z.entries (g.F.Feed.seen c.args.feed.now)) (sym c.self.view_is) h)
+
+pub returns-then-is_move-clause-fed : goal.returns-then-is_move-clause-fed
+returns-then-is_move-clause-fed g c = λ answers h.
+    let ended = c.attempt-engine.ensures.ended in
+    fed_still answers c.self.inside.journal.entries c.attempt-engine.new.journal.entries _ ended.goes_on ended.drawn ended.dead
     (subst (λ z. HasFed answers z.entries (g.F.Feed.seen c.args.feed.now)) (sym c.self.view_is) h)

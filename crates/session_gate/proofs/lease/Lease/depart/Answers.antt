@@ -17,7 +17,7 @@ note-requires-clause-may g c = let r = c.self.inside.resident in let v = c.self.
     (c.self.invariant, c.owner-host.ensures, departs g.E.Engine.meaning r.hosts (progress_of r.entries) c.args.packed c.args.request.ask c.aim_of-to.result (subst (λ (h : Holds g.row.E.Denot g.row.F.Denot). IsMove (λ to weights. CanGo g.E.Engine.meaning h.hosts (progress_of h.entries) to × Packs g.E.Engine.meaning (progress_of h.entries).served weights (Ok c.args.packed)) c.args.request.ask) (sym c.self.view_is) c.requires.packed) c.aim_of-to.ensures)
 
 pub note-requires-clause-quiet : goal.note-requires-clause-quiet
-note-requires-clause-quiet g c = (refl, refl, refl, refl, refl)
+note-requires-clause-quiet g c = (refl, refl, refl, refl)
 
 pub note-requires-clause-owes : goal.note-requires-clause-owes
 note-requires-clause-owes g c = let r = c.self.inside.resident in

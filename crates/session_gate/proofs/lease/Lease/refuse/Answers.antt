@@ -12,7 +12,7 @@ note-requires-clause-may g c = let r = c.self.inside.resident in let v = c.self.
     (c.self.invariant, c.owner-host.ensures, subst (λ (h : Holds g.row.E.Denot g.row.F.Denot). IsMove (λ to weights. IsReason g.E.Engine.meaning h.hosts (progress_of h.entries) to weights c.args.reason) c.args.request.ask) (sym v) c.requires.reason)
 
 pub note-requires-clause-quiet : goal.note-requires-clause-quiet
-note-requires-clause-quiet g c = (refl, refl, refl, refl, refl)
+note-requires-clause-quiet g c = (refl, refl, refl, refl)
 
 pub note-requires-clause-owes : goal.note-requires-clause-owes
 note-requires-clause-owes g c = let r = c.self.inside.resident in

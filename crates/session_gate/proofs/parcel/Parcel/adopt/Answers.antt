@@ -17,7 +17,7 @@ adopt-requires-clause-may g c = let i = c.self.inside in let v = c.self.view_is 
     (subst (λ (p : Away g.row.E.Denot g.row.F.Denot). g.E.Engine.meaning.HasObjects (progress_of p.held.entries).served c.args.objects) (sym v) c.requires.objects)
 
 pub adopt-requires-clause-still : goal.adopt-requires-clause-still
-adopt-requires-clause-still g c = (refl, refl, refl, refl)
+adopt-requires-clause-still g c = (refl, refl, refl)
 
 pub adopt-requires-clause-owes : goal.adopt-requires-clause-owes
 adopt-requires-clause-owes g c = let i = c.self.inside in

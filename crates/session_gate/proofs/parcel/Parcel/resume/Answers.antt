@@ -17,7 +17,7 @@ note-requires-clause-may g c = let i = c.self.inside in
     (subst (λ (p : Away g.row.E.Denot g.row.F.Denot). (progress_of p.held.entries).phase ≡ arriving p.again p.to) (sym c.self.view_is) c.requires) c.self.invariant.from
 
 pub note-requires-clause-quiet : goal.note-requires-clause-quiet
-note-requires-clause-quiet g c = (refl, refl, refl, refl, refl)
+note-requires-clause-quiet g c = (refl, refl, refl, refl)
 
 pub note-requires-clause-owes : goal.note-requires-clause-owes
 note-requires-clause-owes g c = let i = c.self.inside in

@@ -18,7 +18,7 @@ note-requires-clause-may g c = let v = c.self.view_is in let h = c.self.invarian
 )
 
 pub note-requires-clause-quiet : goal.note-requires-clause-quiet
-note-requires-clause-quiet g c = (refl, refl, refl, refl, refl)
+note-requires-clause-quiet g c = (refl, refl, refl, refl)
 
 pub note-requires-clause-owes : goal.note-requires-clause-owes
 note-requires-clause-owes g c = answered_more c.args.self.now.entries (Dead c.owner-host.result c.args.request c.self.inside.count) c.args.self.now.ends (c.args.request ∷ []) refl c.requires.owes refl
