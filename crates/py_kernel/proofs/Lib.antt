@@ -3,3 +3,4 @@ pub mod Staying
 pub mod Turning
 pub mod Ending
 pub mod Extending
+pub mod Leaves

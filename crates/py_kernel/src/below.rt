@@ -6,6 +6,7 @@ ghost use Rattle.py_meaning.specs.Meaning as spec;
 ghost use Rattle.py_meaning.specs.Compared as compares;
 ghost use Rattle.py_kernel.specs.Nests.{Evals, Execs};
 
+use crate::expressions::{literal_value, name_value};
 use nb_outside::Feed;
 use plain_data::Items;
 use py_machine::{Fault, Flow, Machine, recursion_error};
@@ -32,6 +33,7 @@ impl<
     E: Fn(Global, u32, &mut Machine, &mut F, &Expr) -> Result<Value, Fault>,
     X: Fn(Global, u32, &mut Machine, &mut F, &Stmt) -> Result<Flow, Fault>,
 > Below<F, E, X> {
+    /// Evaluates an expression. A name or a constant, as most expressions are, takes no call of the evaluator.
     pub(crate) fn eval(
         &self,
         machine: &mut Machine,
@@ -44,7 +46,14 @@ impl<
         ensures grows { Grows machine.old machine.new }
         ensures fed { Feeding machine.old.drawn (F.seen feed.old) machine.new.drawn (F.seen feed.new) }
     {
-        (self.eval)(self.alloc, self.left, machine, feed, expression)
+        if self.left == 0 {
+            return Err(Fault::Raised(recursion_error(self.alloc)?));
+        }
+        match expression {
+            Expr::Name(name) => name_value(self.alloc, machine, name),
+            Expr::Literal(literal) => literal_value(self.alloc, machine, literal),
+            _ => (self.eval)(self.alloc, self.left, machine, feed, expression),
+        }
     }
 
     pub(crate) fn exec(

@@ -1,6 +1,6 @@
 ghost use Rattle.std.specs.Prelude.{◌≡◌};
 ghost use Rattle.py_machine.specs.Runs.{Runs, Still, Grows, Feeding};
-ghost use Rattle.py_meaning.specs.Acts.{run};
+ghost use Rattle.py_meaning.specs.Acts.{run, chain, step, look};
 ghost use Rattle.py_tree.specs.declared.expressions.Expr.{out-Expr};
 ghost use Rattle.py_tree.specs.declared.expressions.Relation.{out-Relation};
 ghost use Rattle.py_meaning.specs.Meaning.{level};
@@ -9,7 +9,7 @@ ghost use Rattle.py_kernel.specs.Nests.{Evals, Execs};
 
 use crate::below::Below;
 use nb_outside::Feed;
-use plain_data::SharedText;
+use plain_data::Text;
 use py_heap::Object;
 use py_machine::{Fault, Flow, Machine};
 use py_objects::truth_of;
@@ -18,9 +18,22 @@ use py_tree::{Expr, Literal, Op, Operand, Relation, Stmt};
 use py_value::Value;
 use std::alloc::Global;
 
+/// The value of a name.
+pub(crate) fn name_value(alloc: Global, machine: &mut Machine, name: &Text) -> Result<Value, Fault>
+    ensures runs { Still (run (chain step (λ _. look name.now))) machine.old result machine.new }
+    ensures drawn { machine.new.drawn ≡ machine.old.drawn }
+{
+    machine.step(alloc)?;
+    machine.look(alloc, name)
+}
+
 /// The value of a constant.
 #[tactic(auto, unfolding(py_meaning::specs::Meaning::literal_value))]
-fn literal_value(alloc: Global, machine: &mut Machine, literal: &Literal) -> Result<Value, Fault>
+pub(crate) fn literal_value(
+    alloc: Global,
+    machine: &mut Machine,
+    literal: &Literal,
+) -> Result<Value, Fault>
     ensures runs { Still (run (spec.literal_value literal.now)) machine.old result machine.new }
     ensures drawn { machine.new.drawn ≡ machine.old.drawn }
 {
@@ -364,10 +377,7 @@ impl<
         ensures fed { Feeding machine.old.drawn (F.seen feed.old) machine.new.drawn (F.seen feed.new) }
     {
         match expression {
-            Expr::Name(name) => {
-                machine.step(self.alloc)?;
-                machine.look(self.alloc, name)
-            }
+            Expr::Name(name) => name_value(self.alloc, machine, name),
             Expr::Literal(literal) => literal_value(self.alloc, machine, literal),
             Expr::ListOf(items) => self.display(machine, feed, items.as_slice()),
             Expr::Conditional { test, yes, no } => {

@@ -1,4 +1,5 @@
 pub mod Finishing
+pub mod Keeping
 pub mod Passing
 pub mod Referring
 pub mod Undrawn

@@ -8,6 +8,7 @@ mod again;
 mod fault;
 mod restored;
 mod run;
+mod trees;
 mod walk;
 
 pub use fault::RestoreFault;

@@ -54,8 +54,9 @@ fn restored(alloc: Global, state: State, host: u32, graph: Graph) -> Result<Rest
 /// Restores a session from the bytes of a checkpoint, on a host: the cells that its plan runs again are run, and what it copies is
 /// loaded. The answer is a state that has all that the checkpoint's graph says, or the first fault.
 ///
-/// Nothing of what cells print is kept. Memory beside the state: the checkpoint's parts until the walk ends, and the state once more
-/// while its objects are numbered.
+/// Nothing of what cells print is kept. Memory beside the state: until the walk ends the checkpoint's parts, and the trees of at most
+/// 1,000 codes of at most 1,000 bytes each, which aren't read again if they come again; and then the state once more while its objects
+/// are numbered.
 pub fn restore(alloc: Global, bytes: &[u8], host: u32) -> Result<Restored, RestoreFault>
     ensures restored { IfOk result (IsRestoredOn bytes.now host) }
     ensures fault { IfErr result (λ f. f ≢ RestoreFault.OutOfMemory → IsRestoreFault bytes.now f) }

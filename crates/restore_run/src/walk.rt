@@ -13,6 +13,7 @@ ghost use Rattle.restore_run.specs.Walking.{IsBetween, OnCopiedAt};
 
 use crate::again::{Ran, run_again};
 use crate::fault::RestoreFault;
+use crate::trees::Trees;
 use checkpoint_reader::Checkpoint;
 use graph_model::{CellRecord, Version};
 use part_bytes::PartValue;
@@ -33,6 +34,7 @@ fn has(numbers: &[u32], number: u32) -> bool
 fn pass(
     alloc: Global,
     kernel: &mut Kernel,
+    trees: &mut Trees,
     read: &Checkpoint,
     number: u32,
     cell: &CellRecord,
@@ -49,7 +51,7 @@ fn pass(
     if !has(read.plan.rerun.as_slice(), number) {
         return Ok(());
     }
-    match run_again(alloc, kernel, cell)? {
+    match run_again(alloc, kernel, trees, cell)? {
         Ran::Ended => Ok(()),
         Ran::Drew => Err(RestoreFault::DrewAgain(number)),
     }
@@ -137,10 +139,11 @@ pub(crate) fn walk(alloc: Global, read: &Checkpoint, host: u32) -> Result<Kernel
 {
     let cells = read.graph.cells.as_slice();
     let mut kernel = Kernel::new(alloc, host);
+    let mut trees = Trees::new(alloc);
     let mut next = 0;
     for index in 0..cells.len() {
         let number = index as u32 + 1;
-        pass(alloc, &mut kernel, read, number, &cells[index])?;
+        pass(alloc, &mut kernel, &mut trees, read, number, &cells[index])?;
         next = give_back(alloc, &mut kernel.state, read, number, next)?;
     }
     Ok(kernel)
