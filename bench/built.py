@@ -1,4 +1,5 @@
 """The built programs that the benches measure and that tests/run asks, and what the benches give them."""
+import collections
 import importlib.machinery
 import importlib.util
 import json
@@ -62,15 +63,18 @@ def help_asked(text):
 # ---- runs of the server
 
 KERNEL = "11111111-1111-4111-8111-111111111111"
-# Starts a program with words between two files and waits for it; prints its status and the peak memory in KiB, the program's and its own.
+# Starts a program with words between two files and waits for it; prints its status, the seconds from its start to its end, and the
+# peak memory in KiB, the program's and its own.
 WAITER = """
-import os, sys
+import os, sys, time
 given, wrote, *words = sys.argv[1:]
 moved = [(os.POSIX_SPAWN_OPEN, 0, given, os.O_RDONLY, 0), (os.POSIX_SPAWN_OPEN, 1, wrote, os.O_WRONLY | os.O_TRUNC, 0)]
+start = time.perf_counter()
 child = os.posix_spawn(words[0], words, {}, file_actions=moved)
 _, status, usage = os.wait4(child, 0)
+taken = time.perf_counter() - start
 own = next(it.split()[1] for it in open("/proc/self/status") if it.startswith("VmHWM"))
-print(os.waitstatus_to_exitcode(status), usage.ru_maxrss, own)
+print(os.waitstatus_to_exitcode(status), taken, usage.ru_maxrss, own)
 """
 
 
@@ -111,7 +115,11 @@ def made_code(number):
     return [f'add(d, "k{number % 7}", {number})', "total += len(d)", "for k in d:\n    total += len(d[k])", "print(total)"][number % 4]
 
 
-def made(cells, every=0):
+# Weights that say nothing of time: one for each byte, step, copy and cell that runs again.
+ONES = {"copy_base": 1, "per_byte": 1, "run_base": 1, "per_step": 1}
+
+
+def made(cells, every=0, weights=ONES):
     """An opening and so many cells, from two frontends in turn; if `every` isn't 0, a move to the next of three hosts after so many."""
 
     def one(kind, name, session, content):
@@ -124,7 +132,6 @@ def made(cells, every=0):
     for number in range(1, cells + 1):
         yield one("execute_request", f"c{number}", "f1" if number % 2 else "f2", {"code": made_code(number)})
         if every and number % every == 0:
-            weights = {"copy_base": 1, "per_byte": 1, "run_base": 1, "per_step": 1}
             yield one("migrate_request", f"m{number}", "f1", {"to": number // every % 3, **weights})
 
 
@@ -150,8 +157,12 @@ def answered(program, words, data):
     return done.stdout
 
 
+# How a run went: its status, its seconds, and the peak memory in MiB, the program's and that of the process that started it.
+Waited = collections.namedtuple("Waited", "status seconds peak own")
+
+
 def waited(given, wrote, *words):
-    """Runs a program between two files: its status, and the peak memory in MiB, its own and that of the process that started it."""
+    """Runs a program between two files."""
     told = subprocess.run([sys.executable, "-ISc", WAITER, given, wrote, *words], stdout=subprocess.PIPE, check=True)
-    status, peak, own = map(int, told.stdout.split())
-    return status, peak / 1024, own / 1024
+    status, seconds, peak, own = told.stdout.split()
+    return Waited(int(status), float(seconds), int(peak) / 1024, int(own) / 1024)

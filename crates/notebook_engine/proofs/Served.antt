@@ -41,7 +41,7 @@ no_parts = record {
 -- a notebook in the empty state, with no history
 pub opened_holds : (n : Notebook) → n.kernel.state ≡ empty → n.history ≡ record { graph = record { cells = []; versions = [] }; parts = record { list = [] } } → HoldsCells n []
 opened_holds n s h =
-    let z : Notebook = record { kernel = record n.kernel { state = empty }; history = record { graph = record { cells = []; versions = [] }; parts = record { list = [] } } } in
+    let z : Notebook = record n { kernel = record n.kernel { state = empty }; history = record { graph = record { cells = []; versions = [] }; parts = record { list = [] } } } in
     let base : HoldsCells z [] = record {
       session = begins_so read size_of;
       parts = no_parts;
@@ -49,8 +49,8 @@ opened_holds n s h =
       few_versions = omega arith;
       codes = tt;
     } in
-    subst (λ history. HoldsCells (record { kernel = n.kernel; history = history }) []) (sym h)
-    (subst (λ state. HoldsCells (record { kernel = record n.kernel { state = state }; history = record { graph = record { cells = []; versions = [] }; parts = record { list = [] } } }) []) (sym s) base)
+    subst (λ history. HoldsCells (record n { history = history }) []) (sym h)
+    (subst (λ state. HoldsCells (record n { kernel = record n.kernel { state = state }; history = record { graph = record { cells = []; versions = [] }; parts = record { list = [] } } }) []) (sym s) base)
 
 -- a shutdown: a restart begins anew, and else all stays
 pub shut_holds : (n now : Notebook) (cells : List Entry) (restart : Bool) → HoldsCells n cells → (restart ≡ true → HoldsCells now []) → (restart ≡ false → now ≡ n) → HoldsCells now (with_ask cells (Shutdown restart) [])

@@ -16,12 +16,14 @@ use crate::notebook::Notebook;
 use crate::replies::reply_of;
 use graph_model::Tally as Number;
 use history_graph::HistoryFault;
+use kept_trees::Trees;
 use nb_outside::{Feed, draws_add_up};
 use plain_data::Items;
 use py_heap::State;
 use py_kernel::Kernel;
 use py_meaning::CellEnd;
 use py_reader::{ReadError, SyntaxFault, read_cell};
+use py_tree::Tree;
 use session_core::{Done, RunFault};
 use std::alloc::{AllocError, Global};
 use text_cuts::cut_at;
@@ -46,10 +48,11 @@ fn count_in(state: &State) -> u32
     state.count()
 }
 
-/// Runs the code of a cell, or no statement if it has no tree, and says why it has none.
+/// Runs the code of a cell, or no statement if it has no tree, and says why it has none. A code whose tree is kept isn't read again.
 fn run_code<F: Feed>(
     alloc: Global,
     kernel: &mut Kernel,
+    trees: &mut Trees,
     code: &str,
     feed: &mut F,
 ) -> Result<(CellEnd, Option<SyntaxFault>), AllocError>
@@ -61,10 +64,13 @@ fn run_code<F: Feed>(
     ensures fed { IfOk result (λ ran. Fed (F.seen feed.old) ran.0.draws (F.seen feed.new)) }
     ensures taken { (draws : List Drawn) × Fed (F.seen feed.old) draws (F.seen feed.new) }
 {
+    if let Some(body) = trees.look(alloc, code) {
+        return Ok((kernel.run_cell(alloc, body.as_slice(), feed)?, None));
+    }
     match read_cell(alloc, code) {
-        Ok(tree) => {
-            let end = kernel.run_cell(alloc, tree.body.as_slice(), feed);
-            drop(tree);
+        Ok(Tree { body }) => {
+            let end = kernel.run_cell(alloc, body.as_slice(), feed);
+            trees.keep(alloc, code, body);
             Ok((end?, None))
         }
         Err(ReadError::Fault(fault)) => Ok((kernel.run_cell(alloc, &[], feed)?, Some(fault))),
@@ -108,7 +114,7 @@ impl Notebook {
     {
         let meter = self.kernel.state.meter();
         raise(&mut self.kernel.state, counted);
-        let (end, fault) = match run_code(alloc, &mut self.kernel, code, feed) {
+        let (end, fault) = match run_code(alloc, &mut self.kernel, &mut self.trees, code, feed) {
             Ok(ran) => ran,
             Err(_) => return Err(RunFault::OutOfMemory),
         };

@@ -7,6 +7,7 @@ ghost use Rattle.notebook_engine.specs.Holding.{HoldsCells};
 use crate::notebook::Notebook;
 use graph_model::Weights;
 use history_graph::History;
+use kept_trees::Trees;
 use nb_outside::{Feed, draws_add_up};
 use plain_data::Items;
 use py_kernel::Kernel;
@@ -77,6 +78,7 @@ impl Engine for Notebook {
         Notebook {
             kernel: Kernel::new(alloc, host),
             history: History::new(alloc),
+            trees: Trees::new(alloc),
         }
     }
 

@@ -1,19 +1,23 @@
 ghost use Rattle.std.specs.Prelude.{◌≡◌};
 
 use history_graph::History;
+use kept_trees::Trees;
 use py_kernel::Kernel;
 use restore_run::Restored;
+use std::alloc::Global;
 
 /// A session: the kernel on which its cells run, and their history.
 #[derive(Drop)]
 pub struct Notebook {
     pub kernel: Kernel,
     pub history: History,
+    /// What was read of the codes of its cells since it was opened or restored.
+    pub(crate) trees: Trees,
 }
 
 impl Notebook {
     /// The session that was restored. Takes no memory.
-    pub fn of(restored: Restored) -> Notebook
+    pub fn of(alloc: Global, restored: Restored) -> Notebook
         ensures kernel { result.kernel ≡ restored.kernel }
         ensures history { result.history ≡ restored.history }
     {
@@ -22,6 +26,10 @@ impl Notebook {
             history,
             ..
         } = restored;
-        Notebook { kernel, history }
+        Notebook {
+            kernel,
+            history,
+            trees: Trees::new(alloc),
+        }
     }
 }

@@ -81,7 +81,7 @@ impl Notebook {
                 if objects > u32::MAX as usize {
                     return Err(AllocError);
                 }
-                Ok((Notebook::of(restored), objects as u32))
+                Ok((Notebook::of(alloc, restored), objects as u32))
             }
             Err(fault) => Err(ran_out(fault)),
         }

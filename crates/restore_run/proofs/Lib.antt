@@ -1,5 +1,4 @@
 pub mod Finishing
-pub mod Keeping
 pub mod Passing
 pub mod Referring
 pub mod Undrawn

@@ -1,13 +1,11 @@
-ghost use Rattle.std.specs.Prelude.{◌≡◌, ◌≤◌, [], Ok, IfOk};
+ghost use Rattle.std.specs.Prelude.{◌≡◌, ◌≤◌, [], Ok};
 ghost use Rattle.py_meaning.specs.Cells.{outcome, Asks};
-ghost use Rattle.run_graph.specs.Soundness.{statements};
 ghost use Rattle.read_runs.specs.Reading as reading;
 ghost use Rattle.replay_laws.specs.Walks.{done_again};
 
-use crate::trees::Trees;
 use graph_model::CellRecord;
+use kept_trees::Trees;
 use nb_outside::NoFeed;
-use plain_data::{Items, Text};
 use py_kernel::Kernel;
 use py_reader::{ReadError, read_cell};
 use py_tree::{Stmt, Tree};
@@ -37,17 +35,6 @@ fn run_body(alloc: Global, kernel: &mut Kernel, body: &[Stmt]) -> Result<Ran, Al
     }
 }
 
-/// The statements of a code. One without a tree has none.
-fn read(alloc: Global, code: &Text) -> Result<Items<Stmt>, AllocError>
-    ensures { IfOk result (λ body. body ≡ statements (reading.read code.now)) }
-{
-    match read_cell(alloc, code.as_str()) {
-        Ok(Tree { body }) => Ok(body),
-        Err(ReadError::Fault(_)) => Ok(Items::new(alloc)),
-        Err(ReadError::OutOfMemory) => Err(AllocError),
-    }
-}
-
 /// Runs the recorded code of a cell again, from the recorded meter and without draws. A code without a tree runs nothing. A code whose
 /// tree is kept isn't read again.
 pub(crate) fn run_again(
@@ -62,11 +49,17 @@ pub(crate) fn run_again(
     ensures host { kernel.new.host ≡ kernel.old.host }
 {
     kernel.state.set_meter(cell.meter);
-    if let Some(body) = trees.look(&cell.code) {
+    let code = cell.code.as_str();
+    if let Some(body) = trees.look(alloc, code) {
         return run_body(alloc, kernel, body.as_slice());
     }
-    let body = read(alloc, &cell.code)?;
-    let ran = run_body(alloc, kernel, body.as_slice())?;
-    trees.keep(alloc, &cell.code, body)?;
-    Ok(ran)
+    match read_cell(alloc, code) {
+        Ok(Tree { body }) => {
+            let ran = run_body(alloc, kernel, body.as_slice())?;
+            trees.keep(alloc, code, body);
+            Ok(ran)
+        }
+        Err(ReadError::Fault(_)) => run_body(alloc, kernel, &[]),
+        Err(ReadError::OutOfMemory) => Err(AllocError),
+    }
 }

@@ -8,7 +8,6 @@ mod again;
 mod fault;
 mod restored;
 mod run;
-mod trees;
 mod walk;
 
 pub use fault::RestoreFault;

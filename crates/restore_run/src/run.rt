@@ -55,7 +55,7 @@ fn restored(alloc: Global, state: State, host: u32, graph: Graph) -> Result<Rest
 /// loaded. The answer is a state that has all that the checkpoint's graph says, or the first fault.
 ///
 /// Nothing of what cells print is kept. Memory beside the state: until the walk ends the checkpoint's parts, and the trees of at most
-/// 1,000 codes of at most 1,000 bytes each, which aren't read again if they come again; and then the state once more while its objects
+/// 100 codes of at most 1,000 bytes each, which aren't read again if they come again; and then the state once more while its objects
 /// are numbered.
 pub fn restore(alloc: Global, bytes: &[u8], host: u32) -> Result<Restored, RestoreFault>
     ensures restored { IfOk result (IsRestoredOn bytes.now host) }

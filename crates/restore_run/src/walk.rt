@@ -13,9 +13,9 @@ ghost use Rattle.restore_run.specs.Walking.{IsBetween, OnCopiedAt};
 
 use crate::again::{Ran, run_again};
 use crate::fault::RestoreFault;
-use crate::trees::Trees;
 use checkpoint_reader::Checkpoint;
 use graph_model::{CellRecord, Version};
+use kept_trees::Trees;
 use part_bytes::PartValue;
 use part_loader::load;
 use py_heap::State;
