@@ -34,8 +34,15 @@ fn faults_of_the_outside(rt: HostRuntime) -> Result<(), Fail> {
     assert_eq!(rt; status, 4);
     assert_eq!(rt; written.len(), 0);
     let (status, written) = answered(&rt, &["run"], input.as_slice(), &[], &[2])?;
+    assert_eq!(rt; status, 0);
+    assert_eq!(rt; written.len(), 5605);
+    let long = cells_of(rt.alloc(), &["print('x' * 70000)", "1"])?;
+    let (_, whole) = answered(&rt, &["run"], long.as_slice(), &[], &[])?;
+    let (status, written) = answered(&rt, &["run"], long.as_slice(), &[], &[2])?;
     assert_eq!(rt; status, 4);
-    assert_eq!(rt; written.len(), 1386);
+    assert_eq!(rt; written.len(), 65_536);
+    assert!(rt; written.len() < whole.len());
+    assert!(rt; whole.as_slice().starts_with(written.as_slice()));
     Ok(())
 }
 

@@ -1,8 +1,8 @@
 -- Bytes written piece by piece.
-use Rattle.std.proofs.Common.{◌≡◌, ℕ, List, [], ◌++◌, take, drop, Option, Some, None, Result, Ok, Err, OnErr, refl, ap, sym, ◌∙◌, subst, append_assoc}
+use Rattle.std.proofs.Common.{◌≡◌, ℕ, List, [], ◌++◌, take, drop, Option, Some, None, Result, Ok, Err, OnOk, OnErr, refl, ap, sym, ◌∙◌, subst, append_assoc}
 use Rattle.std.proofs.lemmas.List.{append-nil, take-append-drop}
 use Rattle.nb_outside.specs.Streams.{Adds}
-use Rattle.node_run.specs.Frames.{AddsFront}
+pub use Rattle.node_run.specs.Frames.{AddsFront, WritesSoFar}
 
 pub Adds-none : (old : Option (List ℕ)) → Adds old old []
 Adds-none None = refl
@@ -13,12 +13,6 @@ Adds-both None mid new a b p q = subst (λ m. Adds m new b) p q
 Adds-both (Some had) mid new a b p q =
     let step : new ≡ Some ((had ++ a) ++ b) = subst (λ m. Adds m new b) p q in
     step ∙ ap Some (append_assoc had a b)
-
--- the front of the bytes is added, and the rest is left
-pub record WritesSoFar (old new : Option (List ℕ)) (bytes rest : List ℕ) : Type 0 where
-  pub done : List ℕ
-  pub parts : bytes ≡ done ++ rest
-  pub adds : Adds old new done
 
 pub none_written : (old : Option (List ℕ)) (bytes : List ℕ) → WritesSoFar old old bytes bytes
 none_written old bytes = record { done = []; parts = refl; adds = Adds-none old }
@@ -60,3 +54,21 @@ front_second old mid new a b first (front, back, parts, adds) =
 pub map_err : {A E : Type 0} {P Q : Type 0} (r : Result A E) → OnErr r P → (P → Q) → OnErr r Q
 map_err (Ok a) h f = tt
 map_err (Err e) h f = f h
+
+-- ---- bytes that are gathered before they are written
+
+-- a piece is gathered, and of what was gathered the first bytes are written
+pub gathered_on : (old mid new : Option (List ℕ)) (bytes rest had kept piece more : List ℕ) → WritesSoFar old mid bytes (had ++ rest) → rest ≡ piece ++ more
+    → WritesSoFar mid new (had ++ piece) kept → WritesSoFar old new bytes (kept ++ more)
+gathered_on old mid new bytes rest had kept piece more w is step = piece_written old mid new bytes (had ++ rest) step.done (kept ++ more) w
+    (ap (λ ys. had ++ ys) is ∙ sym (append_assoc had piece more) ∙ ap (λ ys. ys ++ more) step.parts ∙ append_assoc step.done kept more) step.adds
+
+-- only the first bytes of what was gathered, and of the next piece
+pub gathered_front : (old mid new : Option (List ℕ)) (bytes rest had piece more : List ℕ) → WritesSoFar old mid bytes (had ++ rest) → rest ≡ piece ++ more
+    → AddsFront mid new (had ++ piece) → AddsFront old new bytes
+gathered_front old mid new bytes rest had piece more w is front = front_written old mid new bytes (had ++ rest) (had ++ piece) more w
+    (ap (λ ys. had ++ ys) is ∙ sym (append_assoc had piece more)) front
+
+pub map_ok : {A E : Type 0} {P Q : Type 0} (r : Result A E) → OnOk r P → (P → Q) → OnOk r Q
+map_ok (Ok a) h f = f h
+map_ok (Err e) h f = tt

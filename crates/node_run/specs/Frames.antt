@@ -36,3 +36,9 @@ run_frames (run ∷ runs) = journal_frames run.0 1 (journal_of run) ++ run_frame
 -- the first of the bytes were added
 abbrev pub AddsFront : Option (List ℕ) → Option (List ℕ) → List ℕ → Type 0
 AddsFront old new bytes = (front : List ℕ) × (back : List ℕ) × (bytes ≡ front ++ back) × Adds old new front
+
+-- the front of the bytes was added, and the rest is left
+pub record WritesSoFar (old new : Option (List ℕ)) (bytes rest : List ℕ) : Type 0 where
+  pub done : List ℕ
+  pub parts : bytes ≡ done ++ rest
+  pub adds : Adds old new done

@@ -1,14 +1,15 @@
 //! The frames of errors and journals, written one after the other.
 
-ghost use Rattle.std.specs.Prelude.{◌≡◌, ◌+◌, ◌≤◌, ◌++◌, Err, IfOk, OnOk, OnErr};
+ghost use Rattle.std.specs.Prelude.{◌≡◌, ◌+◌, ◌≤◌, ◌++◌, [], Err, IfOk, OnOk, OnErr};
 ghost use Rattle.nb_outside.specs.Counts.{HasRisen};
 ghost use Rattle.nb_outside.specs.Streams.{Adds};
 ghost use Rattle.reply_frames.specs.Nodes.{frame_of};
 ghost use Rattle.reply_frames.specs.Replies.{entry_frames, entry_length};
-ghost use Rattle.node_run.specs.Frames.{AddsFront, error_frames, journal_frames, run_frames};
+ghost use Rattle.node_run.specs.Frames.{AddsFront, WritesSoFar, error_frames, journal_frames, run_frames};
 
 use crate::streams::write_all;
 use nb_outside::Sink;
+use plain_data::Items;
 use reply_frames::{NodeError, frames_of, node_error_frame};
 use session_core::{Alone, Engine, Entry};
 use std::alloc::Global;
@@ -86,30 +87,81 @@ fn write_errors<K: Sink>(
     Ok(())
 }
 
-/// Writes the frames of an entry of this kernel's journal, with running numbers from this one on, and gives the next number.
-fn write_entry<K: Sink>(
+/// So many bytes are gathered before they are written: a write costs some microseconds, however few its bytes.
+const GATHERED: usize = 65_536;
+
+/// Writes what was gathered, and then nothing is.
+fn flush<K: Sink>(sink: &mut K, gathered: &mut Items<u8>) -> Result<(), WriteFault>
+    ensures ok { OnOk result (Adds (K.written sink.old) (K.written sink.new) gathered.old) }
+    ensures empty { OnOk result (gathered.new ≡ []) }
+    ensures err { OnErr result (AddsFront (K.written sink.old) (K.written sink.new) gathered.old) }
+    ensures fault { result ≡ Err WriteFault.Sink → HasRisen (K.faults sink.old) (K.faults sink.new) }
+    ensures faults_stay { K.faults sink.old ≤ K.faults sink.new }
+{
+    match send(sink, gathered.as_slice()) {
+        Ok(()) => {
+            gathered.clear();
+            Ok(())
+        }
+        Err(fault) => Err(fault),
+    }
+}
+
+/// Ends for want of memory. What was gathered is written before.
+fn give_up<K: Sink>(sink: &mut K, gathered: &mut Items<u8>) -> WriteFault
+    ensures front { AddsFront (K.written sink.old) (K.written sink.new) gathered.old }
+    ensures fault { result ≡ WriteFault.Sink → HasRisen (K.faults sink.old) (K.faults sink.new) }
+    ensures faults_stay { K.faults sink.old ≤ K.faults sink.new }
+{
+    match flush(sink, gathered) {
+        Ok(()) => WriteFault::OutOfMemory,
+        Err(fault) => fault,
+    }
+}
+
+/// Adds bytes to those that are gathered, and writes all if they are many.
+fn gather<K: Sink>(sink: &mut K, gathered: &mut Items<u8>, bytes: &[u8]) -> Result<(), WriteFault>
+    ensures ok { OnOk result (WritesSoFar (K.written sink.old) (K.written sink.new) (gathered.old ++ bytes.now) gathered.new) }
+    ensures err { OnErr result (AddsFront (K.written sink.old) (K.written sink.new) (gathered.old ++ bytes.now)) }
+    ensures fault { result ≡ Err WriteFault.Sink → HasRisen (K.faults sink.old) (K.faults sink.new) }
+    ensures faults_stay { K.faults sink.old ≤ K.faults sink.new }
+{
+    match gathered.extend_from_slice(bytes) {
+        Ok(()) => {
+            if gathered.len() < GATHERED {
+                return Ok(());
+            }
+            flush(sink, gathered)
+        }
+        Err(_) => Err(give_up(sink, gathered)),
+    }
+}
+
+/// Gathers the frames of an entry of this kernel's journal, with running numbers from this one on, and gives the next number.
+fn gather_entry<K: Sink>(
     alloc: Global,
     sink: &mut K,
+    gathered: &mut Items<u8>,
     kernel: u128,
     running: u64,
     entry: &Entry,
 ) -> Result<u64, WriteFault>
     ensures next { IfOk result (λ next. next ≡ running + entry_length entry.now) }
-    ensures ok { OnOk result (Adds (K.written sink.old) (K.written sink.new) (entry_frames kernel entry.now running)) }
-    ensures err { OnErr result (AddsFront (K.written sink.old) (K.written sink.new) (entry_frames kernel entry.now running)) }
+    ensures ok { OnOk result (WritesSoFar (K.written sink.old) (K.written sink.new) (gathered.old ++ entry_frames kernel entry.now running) gathered.new) }
+    ensures err { OnErr result (AddsFront (K.written sink.old) (K.written sink.new) (gathered.old ++ entry_frames kernel entry.now running)) }
     ensures fault { result ≡ Err WriteFault.Sink → HasRisen (K.faults sink.old) (K.faults sink.new) }
     ensures faults_stay { K.faults sink.old ≤ K.faults sink.new }
 {
     match frames_of(alloc, kernel, entry, running) {
-        Ok((frames, next)) => match send(sink, frames.as_slice()) {
+        Ok((frames, next)) => match gather(sink, gathered, frames.as_slice()) {
             Ok(()) => Ok(next),
             Err(fault) => Err(fault),
         },
-        Err(_) => Err(WriteFault::OutOfMemory),
+        Err(_) => Err(give_up(sink, gathered)),
     }
 }
 
-/// Writes the frames of a kernel's journal, numbered from 1.
+/// Writes the frames of a kernel's journal, numbered from 1, many at a time.
 fn write_journal<K: Sink>(
     alloc: Global,
     sink: &mut K,
@@ -121,14 +173,15 @@ fn write_journal<K: Sink>(
     ensures fault { result ≡ Err WriteFault.Sink → HasRisen (K.faults sink.old) (K.faults sink.new) }
     ensures faults_stay { K.faults sink.old ≤ K.faults sink.new }
 {
+    let mut gathered = Items::new(alloc);
     let mut running = 1;
     for entry in entries {
-        match write_entry(alloc, sink, kernel, running, entry) {
+        match gather_entry(alloc, sink, &mut gathered, kernel, running, entry) {
             Ok(next) => running = next,
             Err(fault) => return Err(fault),
         }
     }
-    Ok(())
+    flush(sink, &mut gathered)
 }
 
 /// Writes the frames of each session's journal, numbered from 1.

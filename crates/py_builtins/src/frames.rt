@@ -23,6 +23,7 @@ pub fn not_called(alloc: Global, machine: &Machine, callee: &Value) -> Result<Va
 }
 
 /// Gives a local a value.
+#[inline(always)]
 fn hold(frame: &mut Frame, name: &Text, value: Value)
     requires { HasSlot frame.old.slots name.now }
     ensures { frame.new ≡ record { slots = finite.insert frame.old.slots name.now (FrameSlot.Held value) } }
@@ -31,6 +32,7 @@ fn hold(frame: &mut Frame, name: &Text, value: Value)
 }
 
 /// Gives locals values, as long as there are more of both.
+#[inline(always)]
 fn with_held(frame: Frame, names: &[Text], values: &[Value]) -> Result<Frame, AllocError>
     requires { All (HasSlot frame.slots) names.now }
     ensures { IfOk result (λ f. f ≡ spec.with_held frame names.now values.entry.now) }
@@ -51,6 +53,7 @@ fn with_held(frame: Frame, names: &[Text], values: &[Value]) -> Result<Frame, Al
 
 /// The locals of a call: each is empty but the parameters, which hold the arguments. Takes memory for one list of
 /// slots; copies no name.
+#[inline(always)]
 #[tactic(auto, unfolding(py_meaning::specs::Meaning::frame_of))]
 pub fn frame_of(alloc: Global, function: &Function, args: &[Value]) -> Result<Frame, AllocError>
     ensures { IfOk result (λ f. f ≡ spec.frame_of function.now args.now) }
@@ -63,6 +66,7 @@ pub fn frame_of(alloc: Global, function: &Function, args: &[Value]) -> Result<Fr
 }
 
 /// What a function gives if its body ended in this way.
+#[inline(always)]
 pub fn returned(ended: Flow) -> Value
     ensures { result ≡ spec.returned ended }
 {

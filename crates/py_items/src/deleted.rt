@@ -68,7 +68,7 @@ fn pair_deleted(alloc: Global, machine: &mut Machine, address: u32, key: Key) ->
     if has_key(machine, address, &key) {
         return machine.change(address, Change::Drop(key));
     }
-    Err(Fault::Raised(no_key(key_text(alloc, &key)?)))
+    Err(Fault::Raised(no_key(alloc, key_text(alloc, &key)?)?))
 }
 
 #[tactic(auto, unfolding(py_meaning::specs::Items::dict_deleted))]

@@ -40,7 +40,7 @@ fn dict_indexed(alloc: Global, machine: &Machine, pairs: &Dict, at: &Value) -> R
     let key = keyed(alloc, machine, at)?;
     match pairs.get(&key) {
         Some(value) => Ok(value.copy()?),
-        None => Err(Fault::Raised(no_key(key_text(alloc, &key)?))),
+        None => Err(Fault::Raised(no_key(alloc, key_text(alloc, &key)?)?)),
     }
 }
 

@@ -34,6 +34,7 @@ impl<
     X: Fn(Global, u32, &mut Machine, &mut F, &Stmt) -> Result<Flow, Fault>,
 > Below<F, E, X> {
     /// Evaluates an expression. A name or a constant, as most expressions are, takes no call of the evaluator.
+    #[inline(always)]
     pub(crate) fn eval(
         &self,
         machine: &mut Machine,
@@ -56,6 +57,7 @@ impl<
         }
     }
 
+    #[inline(always)]
     pub(crate) fn exec(
         &self,
         machine: &mut Machine,

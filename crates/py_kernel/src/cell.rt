@@ -142,7 +142,7 @@ pub fn run_cell<F: Feed>(
     *state = after;
     let (result, error) = match outcome {
         Ok(result) => (result, None),
-        Err(Fault::Raised(error)) => (None, Some(CellError::Raised(error))),
+        Err(Fault::Raised(error)) => (None, Some(CellError::Raised(error.into_inner()))),
         Err(Fault::DrawFailed) => (None, Some(CellError::Feed)),
         Err(Fault::OutOfMemory) => return Err(AllocError),
     };

@@ -19,6 +19,7 @@ use py_value::Value;
 use std::alloc::Global;
 
 /// The value of a name.
+#[inline(always)]
 pub(crate) fn name_value(alloc: Global, machine: &mut Machine, name: &Text) -> Result<Value, Fault>
     ensures runs { Still (run (chain step (λ _. look name.now))) machine.old result machine.new }
     ensures drawn { machine.new.drawn ≡ machine.old.drawn }
@@ -28,6 +29,7 @@ pub(crate) fn name_value(alloc: Global, machine: &mut Machine, name: &Text) -> R
 }
 
 /// The value of a constant.
+#[inline(always)]
 #[tactic(auto, unfolding(py_meaning::specs::Meaning::literal_value))]
 pub(crate) fn literal_value(
     alloc: Global,

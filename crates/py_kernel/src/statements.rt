@@ -20,6 +20,7 @@ use py_tree::{Arm, Def, Expr, Op, Stmt, Target};
 use py_value::Value;
 use std::alloc::Global;
 
+#[inline(always)]
 fn text_units(value: &Value) -> u64
     ensures { result ≡ spec.text_units value.now }
 {
@@ -30,6 +31,7 @@ fn text_units(value: &Value) -> u64
 }
 
 /// Binds a name. A text that a global name is bound to is charged by its bytes.
+#[inline(always)]
 #[tactic(auto, unfolding(py_meaning::specs::Meaning::store))]
 pub(crate) fn store(
     alloc: Global,
@@ -115,6 +117,7 @@ fn define(alloc: Global, machine: &mut Machine, def: &Shared<Def>) -> Result<Flo
 }
 
 /// What an augmented assignment stores.
+#[inline(always)]
 fn augmented(
     alloc: Global,
     machine: &mut Machine,

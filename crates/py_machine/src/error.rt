@@ -1,7 +1,7 @@
 ghost use Rattle.std.specs.Prelude.{◌≡◌, IfOk};
 ghost use Rattle.py_machine.specs.Errors as spec;
 
-use plain_data::Text;
+use plain_data::{Boxed, Text};
 use std::alloc::{AllocError, Global};
 use std::error::Error;
 use std::fmt;
@@ -79,8 +79,8 @@ pub enum Fault {
     OutOfMemory,
     /// A draw failed.
     DrawFailed,
-    /// The run raised this error.
-    Raised(PyError),
+    /// The run raised this error. It is boxed: a value that is handed on is copied with the room that an error takes.
+    Raised(Boxed<PyError>),
 }
 
 impl fmt::Display for Fault {
@@ -88,7 +88,10 @@ impl fmt::Display for Fault {
         match self {
             Fault::OutOfMemory => write!(f, "out of memory"),
             Fault::DrawFailed => write!(f, "a draw failed"),
-            Fault::Raised(error) => write!(f, "{error}"),
+            Fault::Raised(error) => {
+                let error = error.get();
+                write!(f, "{error}")
+            }
         }
     }
 }
@@ -106,72 +109,77 @@ impl From<AllocError> for Fault {
     }
 }
 
+/// The error of this kind with this text, in the box that `Fault::Raised` holds.
+pub(crate) fn boxed_error(
+    alloc: Global,
+    kind: ErrorKind,
+    text: Text,
+) -> Result<Boxed<PyError>, AllocError>
+    ensures { IfOk result (λ error. error ≡ record { kind = kind; text = text }) }
+{
+    Boxed::new(alloc, PyError { kind, text })
+}
+
 /// The error of a number past 128 bits.
-pub fn overflow_error(alloc: Global) -> Result<PyError, AllocError>
+#[cold]
+#[inline(never)]
+pub fn overflow_error(alloc: Global) -> Result<Boxed<PyError>, AllocError>
     ensures { IfOk result (λ error. error ≡ spec.overflow_error) }
 {
     let text = Text::new(alloc, "number past 128 bits")?;
-    Ok(PyError {
-        kind: ErrorKind::Overflow,
-        text,
-    })
+    boxed_error(alloc, ErrorKind::Overflow, text)
 }
 
 /// The error of level 801.
-pub fn recursion_error(alloc: Global) -> Result<PyError, AllocError>
+#[cold]
+#[inline(never)]
+pub fn recursion_error(alloc: Global) -> Result<Boxed<PyError>, AllocError>
     ensures { IfOk result (λ error. error ≡ spec.recursion_error) }
 {
     let text = Text::new(alloc, "maximum recursion depth exceeded")?;
-    Ok(PyError {
-        kind: ErrorKind::Recursion,
-        text,
-    })
+    boxed_error(alloc, ErrorKind::Recursion, text)
 }
 
 /// The error of a step past the limit.
-pub fn step_limit_error(alloc: Global) -> Result<PyError, AllocError>
+#[cold]
+#[inline(never)]
+pub fn step_limit_error(alloc: Global) -> Result<Boxed<PyError>, AllocError>
     ensures { IfOk result (λ error. error ≡ spec.step_limit_error) }
 {
     let text = Text::new(alloc, "1000000 steps")?;
-    Ok(PyError {
-        kind: ErrorKind::StepLimit,
-        text,
-    })
+    boxed_error(alloc, ErrorKind::StepLimit, text)
 }
 
 /// The error of a charge past the meter's limit.
-pub fn memory_error(alloc: Global) -> Result<PyError, AllocError>
+#[cold]
+#[inline(never)]
+pub fn memory_error(alloc: Global) -> Result<Boxed<PyError>, AllocError>
     ensures { IfOk result (λ error. error ≡ spec.memory_error) }
 {
     let text = Text::new(alloc, "meter spent")?;
-    Ok(PyError {
-        kind: ErrorKind::Memory,
-        text,
-    })
+    boxed_error(alloc, ErrorKind::Memory, text)
 }
 
 /// The error of a name that has no value.
-pub fn name_error(alloc: Global, name: &Text) -> Result<PyError, AllocError>
+#[cold]
+#[inline(never)]
+pub fn name_error(alloc: Global, name: &Text) -> Result<Boxed<PyError>, AllocError>
     ensures { IfOk result (λ error. error ≡ spec.name_error name.now) }
 {
     let name = name.as_str();
     let text = format!(in alloc; "name '{name}' is not defined")?;
-    Ok(PyError {
-        kind: ErrorKind::Name,
-        text: Text::from_string(text),
-    })
+    boxed_error(alloc, ErrorKind::Name, Text::from_string(text))
 }
 
 /// The error of a local that isn't bound by now.
-pub fn unbound_error(alloc: Global, name: &Text) -> Result<PyError, AllocError>
+#[cold]
+#[inline(never)]
+pub fn unbound_error(alloc: Global, name: &Text) -> Result<Boxed<PyError>, AllocError>
     ensures { IfOk result (λ error. error ≡ spec.unbound_error name.now) }
 {
     let name = name.as_str();
     let text = format!(in alloc;
         "cannot access local variable '{name}' where it is not associated with a value"
     )?;
-    Ok(PyError {
-        kind: ErrorKind::UnboundLocal,
-        text: Text::from_string(text),
-    })
+    boxed_error(alloc, ErrorKind::UnboundLocal, Text::from_string(text))
 }

@@ -49,6 +49,7 @@ impl Machine {
     }
 
     /// Counts a step.
+    #[inline(always)]
     #[tactic(auto, unfolding(crate::specs::Runs::step))]
     pub fn step(&mut self, alloc: Global) -> Result<(), Fault>
         ensures runs { Is (spec.step self.old) result self.new }
@@ -62,6 +63,7 @@ impl Machine {
     }
 
     /// Raises the meter.
+    #[inline(always)]
     #[tactic(auto, unfolding(crate::specs::Runs::charge))]
     pub fn charge(&mut self, alloc: Global, units: u64) -> Result<(), Fault>
         ensures runs { Is (spec.charge units self.old) result self.new }
@@ -74,6 +76,7 @@ impl Machine {
     }
 
     /// The value of a name: a local's, or else a global's, or else a built-in function.
+    #[inline(always)]
     #[tactic(auto, unfolding(crate::specs::Runs::look))]
     pub fn look(&mut self, alloc: Global, name: &Text) -> Result<Value, Fault>
         ensures runs { Is (spec.look name.now self.old) result self.new }
@@ -89,6 +92,7 @@ impl Machine {
         self.look_global(alloc, name)
     }
 
+    #[inline(always)]
     fn look_global(&mut self, alloc: Global, name: &Text) -> Result<Value, Fault>
         ensures runs { Is (spec.looked name.now None self.old) result self.new }
         ensures drawn { self.new.drawn ≡ self.old.drawn }
@@ -131,6 +135,7 @@ impl Machine {
     }
 
     /// Gives a local or a global a value.
+    #[inline(always)]
     #[tactic(auto, unfolding(crate::specs::Runs::bind))]
     pub fn bind(&mut self, alloc: Global, name: &Text, value: Value) -> Result<(), Fault>
         ensures runs { Is (spec.bind name.now value self.old) result self.new }
@@ -146,6 +151,7 @@ impl Machine {
         self.bind_global(alloc, name, value)
     }
 
+    #[inline(always)]
     fn bind_global(&mut self, alloc: Global, name: &Text, value: Value) -> Result<(), Fault>
         ensures runs { Is (Ok tt, spec.bound name.now value None self.old) result self.new }
         ensures drawn { self.new.drawn ≡ self.old.drawn }
@@ -179,6 +185,7 @@ impl Machine {
     }
 
     /// Whether a name is a local of the call that runs.
+    #[inline(always)]
     #[tactic(auto, unfolding(crate::specs::Runs::is_local))]
     pub fn is_local(&self, name: &Text) -> bool
         ensures { (Ok result, self.now) ≡ spec.is_local name.now self.now }
@@ -190,6 +197,7 @@ impl Machine {
     }
 
     /// Begins a call with these locals, and gives the frame outside.
+    #[inline(always)]
     #[tactic(auto, unfolding(crate::specs::Runs::enter))]
     pub fn enter(&mut self, frame: Frame) -> Result<Option<Frame>, Fault>
         ensures runs { Is (spec.enter frame self.old) result self.new }
@@ -199,6 +207,7 @@ impl Machine {
     }
 
     /// Ends a call, inside this frame. After an error it isn't called: the cell ends then.
+    #[inline(always)]
     #[tactic(auto, unfolding(crate::specs::Runs::leave))]
     pub fn leave(&mut self, outer: Option<Frame>) -> Result<(), Fault>
         ensures runs { Is (spec.leave outer self.old) result self.new }
@@ -218,6 +227,7 @@ impl Machine {
     }
 
     /// The object at an address, if there is one.
+    #[inline(always)]
     pub fn object_at(&self, at: u32) -> Option<&Object>
         ensures { option_copied result ≡ slice_get self.now.state.heap at }
     {

@@ -53,6 +53,7 @@ impl Notes {
     }
 
     /// Remembers of a name that is marked whether it is bound or unbound.
+    #[inline(never)]
     fn remember(&mut self, alloc: Global, name: &Text, bound: bool) -> Result<(), AllocError>
         requires { IsMarked bound self.old name.now }
         ensures { self.new ≡ self.old }
@@ -62,6 +63,7 @@ impl Notes {
     }
 
     /// Whether a name is remembered. Then one more look at it changes nothing.
+    #[inline(always)]
     fn is_seen(&self, name: &Text) -> bool
         ensures { result ≡ true → spec.noted (spec.Look name.now) self.now ≡ self.now }
     {
@@ -69,6 +71,7 @@ impl Notes {
     }
 
     /// Whether a name is remembered as bound or unbound.
+    #[inline(always)]
     fn is_seen_bound(&self, name: &Text) -> bool
         ensures { result ≡ true → spec.has_member self.now.bound name.now ≡ true }
     {
@@ -78,18 +81,21 @@ impl Notes {
         }
     }
 
+    #[inline(never)]
     fn is_bound(&self, name: &Text) -> bool
         ensures { result ≡ spec.has_member self.now.bound name.now }
     {
         self.marks.bound.look(name).is_some()
     }
 
+    #[inline(never)]
     fn is_looked(&self, name: &Text) -> bool
         ensures { result ≡ spec.has_member self.now.looked name.now }
     {
         self.marks.looked.look(name).is_some()
     }
 
+    #[inline(never)]
     fn add_looked(&mut self, alloc: Global, name: &Text) -> Result<(), AllocError>
         ensures { OnOk result (self.new ≡ record self.old { looked = spec.with_member self.old.looked name.now }) }
     {
@@ -97,6 +103,7 @@ impl Notes {
         Ok(())
     }
 
+    #[inline(never)]
     fn add_bound(&mut self, alloc: Global, name: &Text) -> Result<(), AllocError>
         ensures { OnOk result (self.new ≡ record self.old { bound = spec.with_member self.old.bound name.now }) }
     {
@@ -105,6 +112,7 @@ impl Notes {
     }
 
     /// Notes that a name is looked up.
+    #[inline(always)]
     pub fn look(&mut self, alloc: Global, name: &Text) -> Result<(), AllocError>
         ensures { OnOk result (self.new ≡ spec.noted (spec.Look name.now) self.old) }
     {
@@ -121,6 +129,7 @@ impl Notes {
     }
 
     /// Notes that a name is bound.
+    #[inline(always)]
     pub fn bind(&mut self, alloc: Global, name: &Text) -> Result<(), AllocError>
         ensures { OnOk result (self.new ≡ spec.noted (spec.Bind name.now) self.old) }
     {

@@ -59,6 +59,7 @@ impl Slots {
     }
 
     /// The slot of a name, if it has one. One look-up in a map.
+    #[inline(always)]
     pub fn look(&self, name: &Text) -> Option<&FrameSlot>
         ensures { option_copied result ≡ finite.get self.now name.now }
     {
@@ -70,6 +71,7 @@ impl Slots {
 
     /// Gives a local a value. A name that has no slot gets it back, and nothing changes. One look-up in a map; takes no
     /// memory.
+    #[inline(always)]
     pub fn hold(&mut self, name: &Text, value: Value) -> Option<Value>
         ensures { MatchOption result (IsSome (finite.get self.old name.now) × (self.new ≡ finite.insert self.old name.now (FrameSlot.Held value))) (λ back. (back ≡ value) × (finite.get self.old name.now ≡ None) × (self.new ≡ self.old)) }
     {

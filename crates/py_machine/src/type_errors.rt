@@ -1,9 +1,9 @@
 ghost use Rattle.std.specs.Prelude.{◌≡◌, IfOk};
 ghost use Rattle.py_machine.specs.Errors as spec;
 
-use crate::error::{ErrorKind, PyError};
+use crate::error::{ErrorKind, PyError, boxed_error};
 use crate::kind::{ValueKind, kind_name};
-use plain_data::Text;
+use plain_data::{Boxed, Text};
 use py_tree::Op;
 use std::alloc::{AllocError, Global};
 
@@ -39,22 +39,21 @@ fn kinds_text(alloc: Global, left: ValueKind, right: ValueKind) -> Result<Text, 
 }
 
 /// The error of an operator between values of these kinds.
+#[cold]
+#[inline(never)]
 pub fn unsupported_operands(
     alloc: Global,
     op: Op,
     left: ValueKind,
     right: ValueKind,
-) -> Result<PyError, AllocError>
+) -> Result<Boxed<PyError>, AllocError>
     ensures { IfOk result (λ error. error ≡ spec.unsupported_operands op left right) }
 {
     let op = op_text(op);
     let kinds = kinds_text(alloc, left, right)?;
     let kinds = kinds.as_str();
     let text = format!(in alloc; "unsupported operand type(s) for {op}: {kinds}")?;
-    Ok(PyError {
-        kind: ErrorKind::Type,
-        text: Text::from_string(text),
-    })
+    boxed_error(alloc, ErrorKind::Type, Text::from_string(text))
 }
 
 fn sign_text(minus: bool) -> &'static str
@@ -64,127 +63,125 @@ fn sign_text(minus: bool) -> &'static str
 }
 
 /// The error of a sign before a value of this kind.
-pub fn bad_operand(alloc: Global, minus: bool, operand: ValueKind) -> Result<PyError, AllocError>
+#[cold]
+#[inline(never)]
+pub fn bad_operand(
+    alloc: Global,
+    minus: bool,
+    operand: ValueKind,
+) -> Result<Boxed<PyError>, AllocError>
     ensures { IfOk result (λ error. error ≡ spec.bad_operand minus operand) }
 {
     let sign = sign_text(minus);
     let operand = kind_name(operand);
     let text = format!(in alloc; "bad operand type for unary {sign}: '{operand}'")?;
-    Ok(PyError {
-        kind: ErrorKind::Type,
-        text: Text::from_string(text),
-    })
+    boxed_error(alloc, ErrorKind::Type, Text::from_string(text))
 }
 
 /// The error of an order of values of these kinds.
+#[cold]
+#[inline(never)]
 pub fn not_ordered(
     alloc: Global,
     op: Op,
     left: ValueKind,
     right: ValueKind,
-) -> Result<PyError, AllocError>
+) -> Result<Boxed<PyError>, AllocError>
     ensures { IfOk result (λ error. error ≡ spec.not_ordered op left right) }
 {
     let op = op_text(op);
     let kinds = kinds_text(alloc, left, right)?;
     let kinds = kinds.as_str();
     let text = format!(in alloc; "'{op}' not supported between instances of {kinds}")?;
-    Ok(PyError {
-        kind: ErrorKind::Type,
-        text: Text::from_string(text),
-    })
+    boxed_error(alloc, ErrorKind::Type, Text::from_string(text))
 }
 
 /// The error of `in` on a value of a kind that holds nothing.
-pub fn not_searched(alloc: Global, kind: ValueKind) -> Result<PyError, AllocError>
+#[cold]
+#[inline(never)]
+pub fn not_searched(alloc: Global, kind: ValueKind) -> Result<Boxed<PyError>, AllocError>
     ensures { IfOk result (λ error. error ≡ spec.not_searched kind) }
 {
     let kind = kind_name(kind);
     let text = format!(in alloc; "argument of type '{kind}' is not iterable")?;
-    Ok(PyError {
-        kind: ErrorKind::Type,
-        text: Text::from_string(text),
-    })
+    boxed_error(alloc, ErrorKind::Type, Text::from_string(text))
 }
 
 /// The error of a value of this kind that is looked for in a text.
-pub fn not_in_text(alloc: Global, kind: ValueKind) -> Result<PyError, AllocError>
+#[cold]
+#[inline(never)]
+pub fn not_in_text(alloc: Global, kind: ValueKind) -> Result<Boxed<PyError>, AllocError>
     ensures { IfOk result (λ error. error ≡ spec.not_in_text kind) }
 {
     let kind = kind_name(kind);
     let text = format!(in alloc; "'in <string>' requires string as left operand, not {kind}")?;
-    Ok(PyError {
-        kind: ErrorKind::Type,
-        text: Text::from_string(text),
-    })
+    boxed_error(alloc, ErrorKind::Type, Text::from_string(text))
 }
 
 /// The error of a value of this kind that is to be a key.
-pub fn unhashable(alloc: Global, kind: ValueKind) -> Result<PyError, AllocError>
+#[cold]
+#[inline(never)]
+pub fn unhashable(alloc: Global, kind: ValueKind) -> Result<Boxed<PyError>, AllocError>
     ensures { IfOk result (λ error. error ≡ spec.unhashable kind) }
 {
     let kind = kind_name(kind);
     let text = format!(in alloc; "unhashable type: '{kind}'")?;
-    Ok(PyError {
-        kind: ErrorKind::Type,
-        text: Text::from_string(text),
-    })
+    boxed_error(alloc, ErrorKind::Type, Text::from_string(text))
 }
 
 /// The error of a call with more or fewer arguments than the function of this name takes.
-pub fn wrong_number(alloc: Global, name: &str) -> Result<PyError, AllocError>
+#[cold]
+#[inline(never)]
+pub fn wrong_number(alloc: Global, name: &str) -> Result<Boxed<PyError>, AllocError>
     ensures { IfOk result (λ error. error ≡ spec.wrong_number name.now) }
 {
     let text = format!(in alloc; "wrong number of arguments for {name}()")?;
-    Ok(PyError {
-        kind: ErrorKind::Type,
-        text: Text::from_string(text),
-    })
+    boxed_error(alloc, ErrorKind::Type, Text::from_string(text))
 }
 
 /// The error of an argument of a kind that the function of this name doesn't take.
-pub fn wrong_argument(alloc: Global, name: &str) -> Result<PyError, AllocError>
+#[cold]
+#[inline(never)]
+pub fn wrong_argument(alloc: Global, name: &str) -> Result<Boxed<PyError>, AllocError>
     ensures { IfOk result (λ error. error ≡ spec.wrong_argument name.now) }
 {
     let text = format!(in alloc; "wrong argument for {name}()")?;
-    Ok(PyError {
-        kind: ErrorKind::Type,
-        text: Text::from_string(text),
-    })
+    boxed_error(alloc, ErrorKind::Type, Text::from_string(text))
 }
 
 /// The error of a divisor that is 0.
-pub fn division_error(alloc: Global) -> Result<PyError, AllocError>
+#[cold]
+#[inline(never)]
+pub fn division_error(alloc: Global) -> Result<Boxed<PyError>, AllocError>
     ensures { IfOk result (λ error. error ≡ spec.division_error) }
 {
     let text = Text::new(alloc, "division by zero")?;
-    Ok(PyError {
-        kind: ErrorKind::ZeroDivision,
-        text,
-    })
+    boxed_error(alloc, ErrorKind::ZeroDivision, text)
 }
 
 /// The error of a call of a value of this kind, which can't be called.
-pub fn not_callable(alloc: Global, kind: ValueKind) -> Result<PyError, AllocError>
+#[cold]
+#[inline(never)]
+pub fn not_callable(alloc: Global, kind: ValueKind) -> Result<Boxed<PyError>, AllocError>
     ensures { IfOk result (λ error. error ≡ spec.not_callable kind) }
 {
     let kind = kind_name(kind);
     let text = format!(in alloc; "'{kind}' object is not callable")?;
-    Ok(PyError {
-        kind: ErrorKind::Type,
-        text: Text::from_string(text),
-    })
+    boxed_error(alloc, ErrorKind::Type, Text::from_string(text))
 }
 
 /// The error of a method that values of this kind don't have.
-pub fn no_attribute(alloc: Global, kind: ValueKind, name: &Text) -> Result<PyError, AllocError>
+#[cold]
+#[inline(never)]
+pub fn no_attribute(
+    alloc: Global,
+    kind: ValueKind,
+    name: &Text,
+) -> Result<Boxed<PyError>, AllocError>
     ensures { IfOk result (λ error. error ≡ spec.no_attribute kind name.now) }
 {
     let kind = kind_name(kind);
     let name = name.as_str();
     let text = format!(in alloc; "'{kind}' object has no attribute '{name}'")?;
-    Ok(PyError {
-        kind: ErrorKind::Attribute,
-        text: Text::from_string(text),
-    })
+    boxed_error(alloc, ErrorKind::Attribute, Text::from_string(text))
 }

@@ -58,6 +58,6 @@ pub(crate) fn pop_key(
             machine.change(at, Change::Drop(key))?;
             Ok(value)
         }
-        None => Err(Fault::Raised(no_key(key_text(alloc, &key)?))),
+        None => Err(Fault::Raised(no_key(alloc, key_text(alloc, &key)?)?)),
     }
 }

@@ -88,6 +88,7 @@ fn object_true(machine: &Machine, at: u32) -> bool
 }
 
 /// Whether a value counts as true. (Python reference: truth value testing.)
+#[inline(always)]
 #[tactic(auto, unfolding(py_meaning::specs::Truth::truth_of, py_machine::specs::Runs::object_at))]
 pub fn truth_of(machine: &Machine, value: &Value) -> Result<bool, Fault>
     ensures { Still (run (truth.truth_of value.now)) machine.now result machine.now }

@@ -42,6 +42,7 @@ fn is_not_in(
 /// Whether a comparison of two values holds: `op` is one of the eight from `Equal` to `NotIn`. Pairs inside lists and dicts
 /// have `left` levels left, and a RecursionError comes if there is none; each pair takes a step. A TypeError comes if the
 /// values have no order, or if nothing can be in the second. (Python reference: comparisons.)
+#[inline(always)]
 pub fn compare(
     alloc: Global,
     left: u32,

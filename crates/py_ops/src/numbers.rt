@@ -13,6 +13,7 @@ use py_value::Value;
 use std::alloc::Global;
 
 /// The number that a value acts as: True is 1 and False is 0.
+#[inline(always)]
 pub fn as_number(value: &Value) -> Option<i128>
     ensures { result ≡ spec.as_number value.now }
 {
@@ -24,6 +25,7 @@ pub fn as_number(value: &Value) -> Option<i128>
     }
 }
 
+#[inline(always)]
 #[tactic(auto, unfolding(py_meaning::specs::Numbers::number))]
 fn sum(alloc: Global, machine: &Machine, a: &i128, b: &i128) -> Result<Value, Fault>
     ensures { Still (run (spec.number (a.now +ℤ b.now))) machine.now result machine.now }
@@ -34,6 +36,7 @@ fn sum(alloc: Global, machine: &Machine, a: &i128, b: &i128) -> Result<Value, Fa
     }
 }
 
+#[inline(always)]
 #[tactic(auto, unfolding(py_meaning::specs::Numbers::number))]
 fn difference(alloc: Global, machine: &Machine, a: &i128, b: &i128) -> Result<Value, Fault>
     ensures { Still (run (spec.number (a.now -ℤ b.now))) machine.now result machine.now }
@@ -138,6 +141,7 @@ fn not_calculated(alloc: Global, machine: &Machine, op: Op) -> Result<Value, Fau
 }
 
 /// What an operator gives of two numbers. (Python reference: binary arithmetic operations.)
+#[inline(always)]
 pub fn calculated(
     alloc: Global,
     machine: &Machine,

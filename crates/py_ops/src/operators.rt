@@ -137,6 +137,8 @@ fn extended(items: Items<Value>, more: Items<Value>) -> Result<Items<Value>, All
 }
 
 /// The error of an operator between values of these kinds.
+#[cold]
+#[inline(never)]
 #[tactic(auto, unfolding(py_meaning::specs::Operators::unsupported))]
 pub(crate) fn unsupported(
     alloc: Global,
@@ -184,6 +186,7 @@ fn together(
 }
 
 /// An operator between what isn't two numbers.
+#[inline(never)]
 fn combined(
     alloc: Global,
     machine: &mut Machine,
@@ -214,6 +217,7 @@ fn combined(
 /// What a binary operator gives of two values: `op` is one of the five from `Plus` to `Mod`. Numbers are calculated with, two
 /// texts or two lists are put together, and a text or a list is repeated. Else a TypeError; a number past 128 bits is an
 /// OverflowError, a divisor that is 0 a ZeroDivisionError. (Python reference: binary arithmetic operations.)
+#[inline(always)]
 #[tactic(auto, unfolding(py_meaning::specs::Operators::operated))]
 pub fn binary(
     alloc: Global,

@@ -105,6 +105,7 @@ fn refs_ordered(
 
 /// Compares two values that aren't both numbers.
 #[cycle(order)]
+#[inline(never)]
 fn others_ordered(
     alloc: Global,
     left: u32,
@@ -128,6 +129,7 @@ fn others_ordered(
 /// Whether a comparison of order holds between two values: numbers, texts by characters, lists by their first pair that isn't
 /// equal. Pairs inside have `left` levels left.
 #[cycle(order)]
+#[inline(always)]
 #[tactic(auto, unfolding(py_meaning::specs::Compared::values_ordered))]
 pub fn values_ordered(
     alloc: Global,

@@ -1,4 +1,4 @@
-pub mod NoFloats
+pub mod Pieces
 pub mod Saying
 pub mod Floats
 pub mod Taking

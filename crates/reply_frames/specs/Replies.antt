@@ -252,11 +252,7 @@ entry_length e = answer_length (answer_of e)
 
 abbrev pub say_middle : Option Answer → Outbox → Outbox
 say_middle None o = o
-say_middle (Some answer) o = say_all answer.request answer.said o
-
-abbrev pub say_answer : Option Answer → Outbox → Outbox
-say_answer None o = o
-say_answer (Some answer) o = say_all answer.request (between answer.said) o
+say_middle (Some answer) o = say_all answer.said o
 
 -- the header of the request that is answered
 abbrev pub IsAnswered : Option Answer → Option Header → Type 0

@@ -1,10 +1,12 @@
 ghost use Rattle.std.specs.Prelude.{◌≡◌, ◌∷◌, ◌++◌, [], codes, IfOk};
 ghost use Rattle.serde_json.specs.View.{view};
+ghost use Rattle.serde_json.specs.Written.{compact_text};
 ghost use Rattle.serde_json.specs.Data.{array, item, no_items, string};
 ghost use Rattle.reply_frames.specs.Messages as said;
 ghost use Rattle.reply_frames.specs.Messages.{json, whole};
 ghost use Rattle.reply_frames.specs.Replies as replies;
 
+use crate::envelope::push_text;
 use plain_data::Text;
 use py_session::Failure;
 use serde_json::{Value, json};
@@ -20,11 +22,14 @@ const MOST_RESULT: usize = 65_536;
 /// The most bytes of an error's text that are said.
 const MOST_ERROR: usize = 4096;
 
-/// The content that tells a session's state.
-pub fn status_content(alloc: Global, state: &str) -> Result<Value, AllocError>
-    ensures { IfOk result (λ v. view v ≡ json ((codes "execution_state", string state.now) ∷ [])) }
+/// The content that tells a session's state, as JSON.
+pub fn status_json(alloc: Global, state: &str) -> Result<Text, AllocError>
+    ensures { IfOk result (λ text. text ≡ compact_text (json ((codes "execution_state", string state.now) ∷ []))) }
 {
-    json!(in alloc; {"execution_state": state})
+    let mut text = Text::new(alloc, "")?;
+    push_text(alloc, &mut text, "{\"execution_state\":", state)?;
+    text.push_str("}")?;
+    Ok(text)
 }
 
 fn input_members(alloc: Global, code: &str, count: u32) -> Result<Value, AllocError>

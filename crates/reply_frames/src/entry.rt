@@ -2,11 +2,9 @@ ghost use Rattle.std.specs.Prelude.{◌≡◌, OnOk};
 ghost use Rattle.reply_frames.specs.Messages as said;
 ghost use Rattle.reply_frames.specs.Frames as spec;
 
-use crate::content::{
-    error_content, input_content, result_content, status_content, stream_content,
-};
+use crate::content::{error_content, input_content, result_content, status_json, stream_content};
 use crate::outbox::Outbox;
-use jupyter_messages::{Channel, Header};
+use jupyter_messages::Channel;
 use plain_data::Text;
 use py_session::Failure;
 use std::alloc::{AllocError, Global};
@@ -16,16 +14,11 @@ use text_cuts::cut_at;
 const MOST_PIECE: usize = 65_536;
 
 /// The state of the session: `busy` or `idle`.
-pub fn say_status(
-    outbox: &mut Outbox,
-    alloc: Global,
-    request: &Header,
-    state: &str,
-) -> Result<(), AllocError>
-    ensures { OnOk result (outbox.new ≡ spec.say request.now (said.status state.now) outbox.old) }
+pub fn say_status(outbox: &mut Outbox, alloc: Global, state: &str) -> Result<(), AllocError>
+    ensures { OnOk result (outbox.new ≡ spec.say (said.status state.now) outbox.old) }
 {
-    let content = status_content(alloc, state)?;
-    outbox.say(alloc, request, "iopub", "status", &content)
+    let content = status_json(alloc, state)?;
+    outbox.say_json(alloc, "iopub", "status", content.as_str())
 }
 
 /// The name of a channel in a message.
@@ -42,37 +35,26 @@ pub fn channel_name(channel: Channel) -> &'static str
 pub fn say_input(
     outbox: &mut Outbox,
     alloc: Global,
-    request: &Header,
     code: &str,
     count: u32,
 ) -> Result<(), AllocError>
-    ensures { OnOk result (outbox.new ≡ spec.say request.now (said.input code.now count) outbox.old) }
+    ensures { OnOk result (outbox.new ≡ spec.say (said.input code.now count) outbox.old) }
 {
     let content = input_content(alloc, code, count)?;
-    outbox.say(alloc, request, "iopub", "execute_input", &content)
+    outbox.say(alloc, "iopub", "execute_input", &content)
 }
 
-fn say_stream(
-    outbox: &mut Outbox,
-    alloc: Global,
-    request: &Header,
-    piece: &str,
-) -> Result<(), AllocError>
-    ensures { OnOk result (outbox.new ≡ spec.say request.now (said.stream piece.now) outbox.old) }
+fn say_stream(outbox: &mut Outbox, alloc: Global, piece: &str) -> Result<(), AllocError>
+    ensures { OnOk result (outbox.new ≡ spec.say (said.stream piece.now) outbox.old) }
 {
     let content = stream_content(alloc, piece)?;
-    outbox.say(alloc, request, "iopub", "stream", &content)
+    outbox.say(alloc, "iopub", "stream", &content)
 }
 
 /// The printed text, in pieces of at most 65,536 bytes.
 #[tactic(auto, unfolding(text_cuts::specs::Cuts::pieces))]
-pub fn say_streams(
-    outbox: &mut Outbox,
-    alloc: Global,
-    request: &Header,
-    printed: &str,
-) -> Result<(), AllocError>
-    ensures { OnOk result (outbox.new ≡ spec.say_all request.now (said.streams printed.now) outbox.old) }
+pub fn say_streams(outbox: &mut Outbox, alloc: Global, printed: &str) -> Result<(), AllocError>
+    ensures { OnOk result (outbox.new ≡ spec.say_all (said.streams printed.now) outbox.old) }
 {
     let mut rest = printed;
     for turn in 0..printed.len() {
@@ -80,37 +62,30 @@ pub fn say_streams(
             break;
         }
         let (piece, more) = cut_at(rest, MOST_PIECE);
-        say_stream(outbox, alloc, request, piece)?;
+        say_stream(outbox, alloc, piece)?;
         rest = more;
     }
     Ok(())
 }
 
-fn say_text(
-    outbox: &mut Outbox,
-    alloc: Global,
-    request: &Header,
-    count: u32,
-    text: &Text,
-) -> Result<(), AllocError>
-    ensures { OnOk result (outbox.new ≡ spec.say request.now (said.result count text.now) outbox.old) }
+fn say_text(outbox: &mut Outbox, alloc: Global, count: u32, text: &Text) -> Result<(), AllocError>
+    ensures { OnOk result (outbox.new ≡ spec.say (said.result count text.now) outbox.old) }
 {
     let content = result_content(alloc, count, text)?;
-    outbox.say(alloc, request, "iopub", "execute_result", &content)
+    outbox.say(alloc, "iopub", "execute_result", &content)
 }
 
 /// The result of a cell, if it has one.
 pub fn say_result(
     outbox: &mut Outbox,
     alloc: Global,
-    request: &Header,
     count: u32,
     shown: &Option<Text>,
 ) -> Result<(), AllocError>
-    ensures { OnOk result (outbox.new ≡ spec.say_all request.now (said.results count shown.now) outbox.old) }
+    ensures { OnOk result (outbox.new ≡ spec.say_all (said.results count shown.now) outbox.old) }
 {
     match shown {
-        Some(text) => say_text(outbox, alloc, request, count, text),
+        Some(text) => say_text(outbox, alloc, count, text),
         None => Ok(()),
     }
 }
@@ -119,15 +94,14 @@ pub fn say_result(
 pub fn say_error(
     outbox: &mut Outbox,
     alloc: Global,
-    request: &Header,
     error: &Option<Failure>,
 ) -> Result<(), AllocError>
-    ensures { OnOk result (outbox.new ≡ spec.say_all request.now (said.errors error.now) outbox.old) }
+    ensures { OnOk result (outbox.new ≡ spec.say_all (said.errors error.now) outbox.old) }
 {
     match error {
         Some(failure) => {
             let content = error_content(alloc, failure)?;
-            outbox.say(alloc, request, "iopub", "error", &content)
+            outbox.say(alloc, "iopub", "error", &content)
         }
         None => Ok(()),
     }

@@ -1,18 +1,20 @@
-//! The JSON of a message, written as serde's data. (Jupyter messaging protocol 5.3: general message format.)
+//! The JSON of a message. (Jupyter messaging protocol 5.3: general message format.)
+//!
+//! Round its content a message has some thirty names and texts, most of them the same in each. They are put together here piece
+//! by piece; the content, and a text in which something has to be escaped, are written by `serde_json`.
 
-ghost use Rattle.std.specs.Prelude.{◌≡◌, false, IfOk, OnOk};
-ghost use Rattle.serde.specs.Event.{Log, Logs, field_key, text as text_event};
-ghost use Rattle.serde.specs.declared.name.Case.TheVariants.{AsIs};
+ghost use Rattle.std.specs.Prelude.{◌≡◌, ◌++◌, false, IfOk, OnOk, string_bytes};
+ghost use Rattle.std.specs.List.{list_all};
+ghost use Rattle.json.specs.Print.{quoted};
 ghost use Rattle.serde_json.specs.Written.{has_float, compact_text};
 ghost use Rattle.serde_json.specs.View.{view};
-ghost use Rattle.serde_json.specs.Events.{SendsValue};
 ghost use Rattle.reply_frames.specs.Frames.{header_json};
+ghost use Rattle.reply_frames.specs.Envelopes as spec;
 ghost use Rattle.reply_frames.specs.Envelopes.{header_of, json_of, parent_json};
 
 use jupyter_messages::Header;
 use plain_data::Text;
-use serde::{Described, Serialize, Serializer};
-use serde_json::{Value, to_string};
+use serde_json::Value;
 use std::alloc::{AllocError, Global};
 
 /// The six texts of a header.
@@ -37,6 +39,58 @@ pub struct Envelope<'a> {
     pub parent: Option<HeaderTexts<'a>>,
 }
 
+/// Room for what is round a content, but for long texts of a request.
+const ROOM: usize = 512;
+
+/// Whether JSON has this byte of a text as it is.
+fn is_plain(byte: u8) -> bool
+    ensures { result ≡ spec.is_plain byte }
+{
+    byte >= b' ' && byte != b'"' && byte != b'\\'
+}
+
+fn are_plain(bytes: &[u8]) -> bool
+    ensures { result ≡ list_all spec.is_plain bytes.now }
+{
+    bytes.iter().all(|byte| is_plain(*byte))
+}
+
+/// A text in quotes.
+fn quoted_text(alloc: Global, text: &str) -> Result<String, AllocError>
+    ensures { IfOk result (λ s. string_bytes s ≡ quoted text.now) }
+{
+    let value = Value::try_from_str(alloc, text)?;
+    value.to_string(alloc)
+}
+
+/// Adds a text in quotes, after what comes before it.
+pub fn push_text(alloc: Global, out: &mut Text, before: &str, text: &str) -> Result<(), AllocError>
+    ensures { OnOk result (out.new ≡ out.old ++ (before.now ++ quoted text.now)) }
+{
+    out.push_str(before)?;
+    if are_plain(text.as_bytes()) {
+        out.push_str("\"")?;
+        out.push_str(text)?;
+        return out.push_str("\"");
+    }
+    let quoted = quoted_text(alloc, text)?;
+    out.push_str(quoted.as_str())
+}
+
+/// Adds the header of the message that is answered.
+fn push_parent(
+    alloc: Global,
+    out: &mut Text,
+    parent: &Option<HeaderTexts<'_>>,
+) -> Result<(), AllocError>
+    ensures { OnOk result (out.new ≡ out.old ++ compact_text (parent_json parent.now)) }
+{
+    match parent {
+        Some(header) => header.push(alloc, out),
+        None => out.push_str("{}"),
+    }
+}
+
 impl<'a> HeaderTexts<'a> {
     /// Those of a request.
     pub fn of(header: &'a Header) -> HeaderTexts<'a>
@@ -51,6 +105,19 @@ impl<'a> HeaderTexts<'a> {
             version: header.version.as_str(),
         }
     }
+
+    /// Adds the header as an object.
+    pub fn push(&self, alloc: Global, out: &mut Text) -> Result<(), AllocError>
+        ensures { OnOk result (out.new ≡ out.old ++ compact_text (header_json (header_of self.now))) }
+    {
+        push_text(alloc, out, "{\"date\":", self.date)?;
+        push_text(alloc, out, ",\"msg_id\":", self.msg_id)?;
+        push_text(alloc, out, ",\"msg_type\":", self.msg_type)?;
+        push_text(alloc, out, ",\"session\":", self.session)?;
+        push_text(alloc, out, ",\"username\":", self.username)?;
+        push_text(alloc, out, ",\"version\":", self.version)?;
+        out.push_str("}")
+    }
 }
 
 impl Envelope<'_> {
@@ -59,76 +126,18 @@ impl Envelope<'_> {
         requires { has_float (view self.now.content.now) ≡ false }
         ensures { IfOk result (λ text. text ≡ compact_text (json_of self.now)) }
     {
-        match to_string(alloc, self) {
-            Ok(text) => Ok(Text::from_string(text)),
-            Err(_) => Err(AllocError),
-        }
-    }
-}
-
-/// Writes a member that is a text.
-fn text_member<S: Serializer>(out: &mut S, name: &str, text: &str) -> Result<(), S::Error>
-    ensures { OnOk result ((named : Log) × Logs (S.written out.old) named (field_key name.now AsIs) × Logs named (S.written out.new) (text_event text.now)) }
-{
-    out.key(name)?;
-    out.str(text)
-}
-
-/// Writes an object without members.
-fn empty_object<S: Serializer>(out: &mut S) -> Result<(), S::Error>
-    ensures { OnOk result (SendsValue (parent_json None) (S.written out.old) (S.written out.new)) }
-{
-    out.begin_map(Some(0))?;
-    out.end_map()
-}
-
-/// Writes the header of the message that is answered.
-fn parent_value<S: Serializer>(
-    out: &mut S,
-    parent: &Option<HeaderTexts<'_>>,
-) -> Result<(), S::Error>
-    ensures { OnOk result (SendsValue (parent_json parent.now) (S.written out.old) (S.written out.new)) }
-{
-    match parent {
-        Some(header) => header.serialize(out),
-        None => empty_object(out),
-    }
-}
-
-impl Described for HeaderTexts<'_> {
-    ghost writes = { λ h. SendsValue (header_json (header_of h)) };
-}
-
-impl Serialize for HeaderTexts<'_> {
-    fn serialize<S: Serializer>(&self, out: &mut S) -> Result<(), S::Error> {
-        out.begin_map(Some(6))?;
-        text_member(out, "date", self.date)?;
-        text_member(out, "msg_id", self.msg_id)?;
-        text_member(out, "msg_type", self.msg_type)?;
-        text_member(out, "session", self.session)?;
-        text_member(out, "username", self.username)?;
-        text_member(out, "version", self.version)?;
-        out.end_map()
-    }
-}
-
-impl Described for Envelope<'_> {
-    ghost writes = { λ e. SendsValue (json_of e) };
-}
-
-impl Serialize for Envelope<'_> {
-    fn serialize<S: Serializer>(&self, out: &mut S) -> Result<(), S::Error> {
-        out.begin_map(Some(6))?;
-        text_member(out, "channel", self.channel)?;
-        out.key("content")?;
-        self.content.serialize(out)?;
-        out.key("header")?;
-        self.header.serialize(out)?;
-        text_member(out, "kernel", self.kernel)?;
-        out.key("metadata")?;
-        empty_object(out)?;
-        out.key("parent_header")?;
-        parent_value(out, &self.parent)?;
-        out.end_map()
+        let content = self.content.to_string(alloc)?;
+        let room = content.len().saturating_add(ROOM);
+        let mut out = Text::from_string(String::with_capacity(alloc, room)?);
+        push_text(alloc, &mut out, "{\"channel\":", self.channel)?;
+        out.push_str(",\"content\":")?;
+        out.push_str(content.as_str())?;
+        out.push_str(",\"header\":")?;
+        self.header.push(alloc, &mut out)?;
+        push_text(alloc, &mut out, ",\"kernel\":", self.kernel)?;
+        out.push_str(",\"metadata\":{},\"parent_header\":")?;
+        push_parent(alloc, &mut out, &self.parent)?;
+        out.push_str("}")?;
+        Ok(out)
     }
 }

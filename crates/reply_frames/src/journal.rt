@@ -4,6 +4,7 @@ ghost use Rattle.std.specs.Prelude.{◌≡◌, ◌+◌, false, codes, option_map
 ghost use Rattle.serde_json.specs.View.{view};
 ghost use Rattle.serde_json.specs.Written.{has_float};
 ghost use Rattle.reply_frames.specs.Frames as frames;
+ghost use Rattle.reply_frames.specs.Messages as said;
 ghost use Rattle.reply_frames.specs.Replies as spec;
 
 use crate::content::reply_content;
@@ -31,10 +32,10 @@ fn say_replied(
     content: &Value,
 ) -> Result<(), AllocError>
     requires { has_float (view content.now) ≡ false }
-    ensures { OnOk result (outbox.new ≡ frames.say request.now.header (spec.replied request.now kind.now (view content.now)) outbox.old) }
+    ensures { OnOk result (outbox.new ≡ frames.say (spec.replied request.now kind.now (view content.now)) outbox.old) }
 {
     let channel = channel_name(request.channel);
-    outbox.say(alloc, &request.header, channel, kind, content)
+    outbox.say(alloc, channel, kind, content)
 }
 
 /// The error of a cell, or its result if it has one.
@@ -42,16 +43,15 @@ fn say_replied(
 fn say_outcome(
     outbox: &mut Outbox,
     alloc: Global,
-    request: &Header,
     count: u32,
     shown: &Option<Text>,
     failure: &Option<Failure>,
 ) -> Result<(), AllocError>
-    ensures { OnOk result (outbox.new ≡ frames.say_all request.now (spec.outcome count shown.now failure.now) outbox.old) }
+    ensures { OnOk result (outbox.new ≡ frames.say_all (spec.outcome count shown.now failure.now) outbox.old) }
 {
     match failure {
-        Some(_) => say_error(outbox, alloc, request, failure),
-        None => say_result(outbox, alloc, request, count, shown),
+        Some(_) => say_error(outbox, alloc, failure),
+        None => say_result(outbox, alloc, count, shown),
     }
 }
 
@@ -63,7 +63,7 @@ fn say_cell_reply(
     count: u32,
     failure: &Option<Failure>,
 ) -> Result<(), AllocError>
-    ensures { OnOk result (outbox.new ≡ frames.say request.now.header (spec.cell_reply request.now count failure.now) outbox.old) }
+    ensures { OnOk result (outbox.new ≡ frames.say (spec.cell_reply request.now count failure.now) outbox.old) }
 {
     let content = reply_content(alloc, count, failure)?;
     say_replied(outbox, alloc, request, "execute_reply", &content)
@@ -89,17 +89,17 @@ fn say_cell(
     shown: &Option<Text>,
     failure: &Option<Failure>,
 ) -> Result<(), AllocError>
-    ensures { OnOk result (outbox.new ≡ frames.say_all request.now.header (spec.cell_said false request.now count printed.now shown.now failure.now) outbox.old) }
+    ensures { OnOk result (outbox.new ≡ frames.say_all (spec.cell_said false request.now count printed.now shown.now failure.now) outbox.old) }
 {
-    say_input(outbox, alloc, &request.header, code_of(&request.ask), count)?;
-    say_streams(outbox, alloc, &request.header, printed.as_str())?;
-    say_outcome(outbox, alloc, &request.header, count, shown, failure)?;
+    say_input(outbox, alloc, code_of(&request.ask), count)?;
+    say_streams(outbox, alloc, printed.as_str())?;
+    say_outcome(outbox, alloc, count, shown, failure)?;
     say_cell_reply(outbox, alloc, request, count, failure)
 }
 
 #[tactic(auto, unfolding(crate::specs::Replies::info_content, crate::specs::Replies::language_content))]
 fn say_info(outbox: &mut Outbox, alloc: Global, request: &Request) -> Result<(), AllocError>
-    ensures { OnOk result (outbox.new ≡ frames.say request.now.header (spec.replied request.now (codes "kernel_info_reply") spec.info_content) outbox.old) }
+    ensures { OnOk result (outbox.new ≡ frames.say (spec.replied request.now (codes "kernel_info_reply") spec.info_content) outbox.old) }
 {
     let content = info_content(alloc)?;
     say_replied(outbox, alloc, request, "kernel_info_reply", &content)
@@ -112,7 +112,7 @@ fn say_completion(
     request: &Request,
     completion: Completion,
 ) -> Result<(), AllocError>
-    ensures { OnOk result (outbox.new ≡ frames.say request.now.header (spec.replied request.now (codes "is_complete_reply") (spec.completion_content completion)) outbox.old) }
+    ensures { OnOk result (outbox.new ≡ frames.say (spec.replied request.now (codes "is_complete_reply") (spec.completion_content completion)) outbox.old) }
 {
     let content = completion_content(alloc, completion)?;
     say_replied(outbox, alloc, request, "is_complete_reply", &content)
@@ -125,7 +125,7 @@ fn say_shutdown(
     request: &Request,
     restart: bool,
 ) -> Result<(), AllocError>
-    ensures { OnOk result (outbox.new ≡ frames.say request.now.header (spec.replied request.now (codes "shutdown_reply") (spec.shutdown_content restart)) outbox.old) }
+    ensures { OnOk result (outbox.new ≡ frames.say (spec.replied request.now (codes "shutdown_reply") (spec.shutdown_content restart)) outbox.old) }
 {
     let content = shutdown_content(alloc, restart)?;
     say_replied(outbox, alloc, request, "shutdown_reply", &content)
@@ -139,7 +139,7 @@ fn say_ran(
     request: &Request,
     reply: &Reply,
 ) -> Result<(), AllocError>
-    ensures { OnOk result (outbox.new ≡ frames.say_all request.now.header (spec.ran_said request.now reply.now) outbox.old) }
+    ensures { OnOk result (outbox.new ≡ frames.say_all (spec.ran_said request.now reply.now) outbox.old) }
 {
     match reply {
         Reply::Executed {
@@ -172,7 +172,7 @@ fn say_failed(
     count: u32,
     failure: Failure,
 ) -> Result<(), AllocError>
-    ensures { OnOk result (outbox.new ≡ frames.say_all request.now.header (spec.failed_said request.now count failure) outbox.old) }
+    ensures { OnOk result (outbox.new ≡ frames.say_all (spec.failed_said request.now count failure) outbox.old) }
 {
     let content = failed_reply(alloc, count, &request.ask, failure)?;
     say_replied(outbox, alloc, request, reply_kind(&request.ask), &content)
@@ -188,12 +188,12 @@ fn say_adopted(
     certified: &Certified,
     objects: u32,
 ) -> Result<(), AllocError>
-    ensures { OnOk result (outbox.new ≡ frames.say_all request.now.header (spec.adopted_said request.now hosts.0 hosts.1 certified.now objects) outbox.old) }
+    ensures { OnOk result (outbox.new ≡ frames.say_all (spec.adopted_said request.now hosts.0 hosts.1 certified.now objects) outbox.old) }
 {
     let steps = steps_of(alloc, &certified.plan)?;
-    say_lists(outbox, alloc, &request.header, Listing::Plan, steps)?;
+    say_lists(outbox, alloc, Listing::Plan, steps)?;
     let arcs = arcs_of(alloc, certified.arcs.as_slice())?;
-    say_lists(outbox, alloc, &request.header, Listing::Flow, arcs)?;
+    say_lists(outbox, alloc, Listing::Flow, arcs)?;
     let content = moved_content(alloc, hosts.0, hosts.1, certified, objects)?;
     say_replied(outbox, alloc, request, "migrate_reply", &content)
 }
@@ -206,7 +206,7 @@ fn say_refused(
     owner: u32,
     reason: &MoveRefusal,
 ) -> Result<(), AllocError>
-    ensures { OnOk result (outbox.new ≡ frames.say request.now.header (spec.move_reply request.now (spec.refused_content owner reason.now)) outbox.old) }
+    ensures { OnOk result (outbox.new ≡ frames.say (spec.move_reply request.now (spec.refused_content owner reason.now)) outbox.old) }
 {
     let content = refused_content(alloc, owner, reason)?;
     say_replied(outbox, alloc, request, "migrate_reply", &content)
@@ -214,7 +214,7 @@ fn say_refused(
 
 #[tactic(auto, unfolding(crate::specs::Replies::resumed_content, crate::specs::Replies::stayed_content))]
 fn say_resumed(outbox: &mut Outbox, alloc: Global, request: &Request) -> Result<(), AllocError>
-    ensures { OnOk result (outbox.new ≡ frames.say request.now.header (spec.move_reply request.now spec.resumed_content) outbox.old) }
+    ensures { OnOk result (outbox.new ≡ frames.say (spec.move_reply request.now spec.resumed_content) outbox.old) }
 {
     let content = resumed_content(alloc)?;
     say_replied(outbox, alloc, request, "migrate_reply", &content)
@@ -224,20 +224,13 @@ fn say_resumed(outbox: &mut Outbox, alloc: Global, request: &Request) -> Result<
 fn say_open(
     outbox: &mut Outbox,
     alloc: Global,
-    request: &Header,
     channel: Channel,
     host: u32,
 ) -> Result<(), AllocError>
-    ensures { OnOk result (outbox.new ≡ frames.say request.now (spec.on_channel channel (codes "kernel_open_reply") (spec.open_content host)) outbox.old) }
+    ensures { OnOk result (outbox.new ≡ frames.say (spec.on_channel channel (codes "kernel_open_reply") (spec.open_content host)) outbox.old) }
 {
     let content = host_content(alloc, host)?;
-    outbox.say(
-        alloc,
-        request,
-        channel_name(channel),
-        "kernel_open_reply",
-        &content,
-    )
+    outbox.say(alloc, channel_name(channel), "kernel_open_reply", &content)
 }
 
 /// The header of the request that an entry answers.
@@ -263,11 +256,7 @@ fn say_middle(outbox: &mut Outbox, alloc: Global, entry: &Entry) -> Result<(), A
     ensures { OnOk result (outbox.new ≡ spec.say_middle (spec.answer_of entry.now) outbox.old) }
 {
     match entry {
-        Entry::Opened {
-            host,
-            request,
-            channel,
-        } => say_open(outbox, alloc, request, *channel, *host),
+        Entry::Opened { host, channel, .. } => say_open(outbox, alloc, *channel, *host),
         Entry::Ran { request, reply, .. } => say_ran(outbox, alloc, request, reply),
         Entry::Died {
             request,
@@ -299,21 +288,17 @@ fn say_middle(outbox: &mut Outbox, alloc: Global, entry: &Entry) -> Result<(), A
     }
 }
 
-/// All that an entry says: busy, its answer, idle; nothing if it answers no request.
-#[tactic(auto, using(crate::proofs::Saying::say_both))]
+/// All that an entry says that answers a request: busy, its answer, idle.
 fn say_entry(outbox: &mut Outbox, alloc: Global, entry: &Entry) -> Result<(), AllocError>
-    ensures { OnOk result (outbox.new ≡ spec.say_answer (spec.answer_of entry.now) outbox.old) }
+    ensures { OnOk result (outbox.new ≡ frames.say said.idle (spec.say_middle (spec.answer_of entry.now) (frames.say said.busy outbox.old))) }
 {
-    let Some(request) = answered(entry) else {
-        return Ok(());
-    };
-    say_status(outbox, alloc, request, "busy")?;
+    say_status(outbox, alloc, "busy")?;
     say_middle(outbox, alloc, entry)?;
-    say_status(outbox, alloc, request, "idle")
+    say_status(outbox, alloc, "idle")
 }
 
-/// The frames of an entry of this kernel's journal, with running numbers from the first on, and the next number. Also
-/// `Err` if a body would have 2^32 bytes or more, or a number would pass 2^64 - 1.
+/// The frames of an entry of this kernel's journal, with running numbers from the first on, and the next number; none if it
+/// answers no request. Also `Err` if a body would have 2^32 bytes or more, or a number would pass 2^64 - 1.
 pub fn frames_of(
     alloc: Global,
     kernel: u128,
@@ -323,11 +308,11 @@ pub fn frames_of(
     ensures bytes { IfOk result (λ told. told.0 ≡ spec.entry_frames kernel entry.now first) }
     ensures next { IfOk result (λ told. told.1 ≡ first + spec.entry_length entry.now) }
 {
-    let mut outbox = Outbox {
-        kernel: Text::from_string(kernel_name(alloc, kernel)?),
-        running: first,
-        bytes: Items::new(alloc),
+    let Some(request) = answered(entry) else {
+        return Ok((Items::new(alloc), first));
     };
+    let kernel = kernel_name(alloc, kernel)?;
+    let mut outbox = Outbox::new(alloc, kernel.as_str(), request, first)?;
     say_entry(&mut outbox, alloc, entry)?;
     let Outbox { running, bytes, .. } = outbox;
     Ok((bytes, running))

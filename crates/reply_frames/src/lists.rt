@@ -10,7 +10,6 @@ ghost use Rattle.reply_frames.specs.Frames as frames;
 
 use crate::outbox::Outbox;
 use graph_model::{FlowArc, Node, Plan};
-use jupyter_messages::Header;
 use plain_data::Text;
 use serde_json::{Value, json};
 use std::alloc::{AllocError, Global};
@@ -130,15 +129,14 @@ fn list_kind(which: Listing) -> &'static str
 fn say_list(
     outbox: &mut Outbox,
     alloc: Global,
-    request: &Header,
     which: Listing,
     chunk: Vec<Value>,
 ) -> Result<(), AllocError>
     requires { items_have_float (items_view chunk.items) ≡ false }
-    ensures { OnOk result (outbox.new ≡ frames.say request.now (spec.listed which (map view chunk.items)) outbox.old) }
+    ensures { OnOk result (outbox.new ≡ frames.say (spec.listed which (map view chunk.items)) outbox.old) }
 {
     let content = list_content(alloc, which, chunk)?;
-    outbox.say(alloc, request, "iopub", list_kind(which), &content)
+    outbox.say(alloc, "iopub", list_kind(which), &content)
 }
 
 /// Takes the first items off, as many as a message has at most.
@@ -155,12 +153,11 @@ fn take_chunk(items: &mut Vec<Value>) -> Result<Vec<Value>, AllocError>
 pub fn say_lists(
     outbox: &mut Outbox,
     alloc: Global,
-    request: &Header,
     which: Listing,
     items: Vec<Value>,
 ) -> Result<(), AllocError>
     requires { items_have_float (items_view items.items) ≡ false }
-    ensures { OnOk result (outbox.new ≡ frames.say_all request.now (spec.lists which (map view items.items)) outbox.old) }
+    ensures { OnOk result (outbox.new ≡ frames.say_all (spec.lists which (map view items.items)) outbox.old) }
 {
     let mut rest = items;
     let count = rest.len();
@@ -169,7 +166,7 @@ pub fn say_lists(
             break;
         }
         let chunk = take_chunk(&mut rest)?;
-        say_list(outbox, alloc, request, which, chunk)?;
+        say_list(outbox, alloc, which, chunk)?;
     }
     Ok(())
 }

@@ -23,7 +23,7 @@ pub(crate) fn shown_text(alloc: Global, state: &State, value: &Value) -> Result<
             Some(text) => Ok(text),
             None => Text::new(alloc, "MemoryError"),
         },
-        Err(Fault::Raised(error)) => Text::new(alloc, error.kind.name()),
+        Err(Fault::Raised(error)) => Text::new(alloc, error.get().kind.name()),
         Err(Fault::DrawFailed) => Text::new(alloc, "OSError"),
         Err(Fault::OutOfMemory) => Err(AllocError),
     }

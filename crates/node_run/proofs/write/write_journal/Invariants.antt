@@ -1,9 +1,8 @@
-use Rattle.std.proofs.Common.{◌≤◌, drop}
-use Rattle.node_run.specs.Frames.{journal_frames}
-use Rattle.node_run.proofs.Streaming.{WritesSoFar}
+use Rattle.std.proofs.Common.{◌≤◌, ◌++◌, drop}
+use Rattle.node_run.specs.Frames.{WritesSoFar, journal_frames}
 use Rattle.node_run.proofs.write.write_journal.Given as goal
 
 abbrev pub invariant-loop-entry : goal.invariant-loop-entry
 invariant-loop-entry g l =
-    WritesSoFar (g.K.Sink.written l.initial.sink) (g.K.Sink.written l.sink) (journal_frames l.kernel 1 l.entries) (journal_frames l.kernel l.running (drop l.entry-index l.entries))
+    WritesSoFar (g.K.Sink.written l.initial.sink) (g.K.Sink.written l.sink) (journal_frames l.kernel 1 l.entries) (l.gathered ++ journal_frames l.kernel l.running (drop l.entry-index l.entries))
     × (g.K.Sink.faults l.initial.sink ≤ g.K.Sink.faults l.sink)

@@ -1,6 +1,7 @@
-use Rattle.std.proofs.Common.{◌∙◌, ap, Err, refl}
+use Rattle.std.proofs.Common.{◌∙◌, ap, Err, Some, refl}
 use Rattle.py_machine.specs.Runs.{start}
 use Rattle.py_meaning.specs.Meaning.{cell}
+use Rattle.py_meaning.specs.declared.end.CellError.TheVariants.{Raised}
 use Rattle.py_meaning.proofs.Telling.{failed_rises}
 use Rattle.py_kernel.proofs.Ending.{fed_start, end_is, state_is, uses_up}
 use Rattle.py_kernel.proofs.cell.run_cell.Goals as goal
@@ -28,7 +29,7 @@ returns-clause-end g c =
           let is = w.in-Err-Raised.is ∙ ap (λ z. Err z) w.in-Err-Raised.field-0-is in
           let fields = w.result-is in
           end_is c.args.body.now c.args.state.now c.in_ok-machine.machine c.cell-outcome.new.machine c.cell-outcome.result _ _ begins c.cell-outcome.ensures.runs (rw is refl)
-          (rw is (ap (λ p. p.0) fields)) (rw is (ap (λ p. p.1) fields))
+          (rw is (ap (λ p. p.0) fields)) (rw is (ap (λ p. p.1) fields ∙ ap (λ e. Some (Raised e)) w.into_inner.ensures))
       | in-Err-DrawFailed w ↦
           let is = w.in-Err-DrawFailed.is ∙ ap (λ z. Err z) w.in-Err-DrawFailed.field-0-is in
           let fields = w.result-is in

@@ -5,5 +5,5 @@ use Rattle.reply_frames.proofs.entry.say_input.Goals as goal
 
 pub returns : goal.returns
 returns c =
-    subst (λ (d : Data). OnOk c.say.result (c.say.new.self ≡ spec.say c.args.request.now (record { channel = codes "iopub"; kind = codes "execute_input"; content = d }) c.args.outbox.now))
+    subst (λ (d : Data). OnOk c.say.result (c.say.new.self ≡ spec.say (record { channel = codes "iopub"; kind = codes "execute_input"; content = d }) c.args.outbox.now))
     c.in_ok-content.ensures c.say.ensures

@@ -9,4 +9,4 @@ use Rattle.reply_frames.proofs.entry.say_streams.Given as goal
 
 abbrev pub invariant-loop-turn : goal.invariant-loop-turn
 invariant-loop-turn l = shadow (Utf8 l.rest)
-    × (spec.say_all l.request (map said.stream (pieces (length l.printed - l.turn) 65536 l.rest)) l.outbox ≡ spec.say_all l.request (said.streams l.printed) l.initial.outbox)
+    × (spec.say_all (map said.stream (pieces (length l.printed - l.turn) 65536 l.rest)) l.outbox ≡ spec.say_all (said.streams l.printed) l.initial.outbox)

@@ -20,9 +20,9 @@ unfolding spec.adopted_said
 returns c =
     let request = c.args.request.now in
     let certified = c.args.certified.now in
-    let first = c.in_ok-say_lists.ensures ∙ ap (λ ds. frames.say_all request.header (spec.lists listing.Plan ds) c.args.outbox.now) c.in_ok-steps.ensures in
-    let second = c.in_ok-say_lists-2.ensures ∙ ap (λ ds. frames.say_all request.header (spec.lists listing.Flow ds) c.say_lists.new.outbox) (c.in_ok-arcs.ensures ∙ ap (map spec.arc_said) c.as_slice.ensures) in
+    let first = c.in_ok-say_lists.ensures ∙ ap (λ ds. frames.say_all (spec.lists listing.Plan ds) c.args.outbox.now) c.in_ok-steps.ensures in
+    let second = c.in_ok-say_lists-2.ensures ∙ ap (λ ds. frames.say_all (spec.lists listing.Flow ds) c.say_lists.new.outbox) (c.in_ok-arcs.ensures ∙ ap (map spec.arc_said) c.as_slice.ensures) in
     map_ok c.say_replied.result (λ is.
-    say_three request.header (spec.lists listing.Plan (spec.steps certified.plan)) (spec.lists listing.Flow (map spec.arc_said certified.arcs))
+    say_three (spec.lists listing.Plan (spec.steps certified.plan)) (spec.lists listing.Flow (map spec.arc_said certified.arcs))
     (spec.move_reply request (spec.moved_content c.args.hosts.0 c.args.hosts.1 certified c.args.objects)) c.args.outbox.now c.say_lists.new.outbox c.say_lists-2.new.outbox c.say_replied.new.outbox first second
-    (is ∙ ap (λ d. frames.say request.header (spec.replied request (codes "migrate_reply") d) c.say_lists-2.new.outbox) c.in_ok-content.ensures)) c.say_replied.ensures
+    (is ∙ ap (λ d. frames.say (spec.replied request (codes "migrate_reply") d) c.say_lists-2.new.outbox) c.in_ok-content.ensures)) c.say_replied.ensures

@@ -6,5 +6,5 @@ use Rattle.reply_frames.proofs.journal.say_info.Goals as goal
 
 pub returns : goal.returns
 returns c =
-    subst (λ (d : Data). OnOk c.say_replied.result (c.say_replied.new.outbox ≡ frames.say c.args.request.now.header (spec.replied c.args.request.now (codes "kernel_info_reply") d) c.args.outbox.now))
+    subst (λ (d : Data). OnOk c.say_replied.result (c.say_replied.new.outbox ≡ frames.say (spec.replied c.args.request.now (codes "kernel_info_reply") d) c.args.outbox.now))
     c.in_ok-content.ensures c.say_replied.ensures

@@ -8,4 +8,4 @@ use Rattle.reply_frames.proofs.lists.say_lists.Given as goal
 
 abbrev pub invariant-loop-turn : goal.invariant-loop-turn
 invariant-loop-turn l = (items_have_float (items_of (map view l.rest.items)) ≡ false)
-    × (spec.say_all l.request (map (listed l.which) (chunks (l.count - l.turn) 4096 (map view l.rest.items))) l.outbox ≡ spec.say_all l.request (lists l.which (map view l.fn.items.items)) l.initial.outbox)
+    × (spec.say_all (map (listed l.which) (chunks (l.count - l.turn) 4096 (map view l.rest.items))) l.outbox ≡ spec.say_all (lists l.which (map view l.fn.items.items)) l.initial.outbox)

@@ -27,7 +27,8 @@ returns-in-Err-Raised c =
     let s = c.args.state.now in
     let error = c.in-Err-Raised.error in
     let puts = subst (λ (f : Fault). PutsRun go s c.in_ok-out.out 0 (Err f) c.put_repr.new.out c.put_repr.new.steps) c.in-Err-Raised.field-0-is c.in-Err-Raised.ensures in
-    let named = rw c.in-Err-Raised.field-0-is at c.name.ensures in
+    let got = rw c.get.ensures at c.name.ensures in
+    let named = rw c.in-Err-Raised.field-0-is at got in
     as_shown c.new-in-Err-Raised.result c.name.result.now (shown_text s c.args.value.now)
     (shown_raised go s c.in_ok-out.out c.put_repr.new.out c.put_repr.new.steps c.in_ok-out.ensures error puts ∙ sym named)
     c.new-in-Err-Raised.ensures
