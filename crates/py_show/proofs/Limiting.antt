@@ -1,12 +1,12 @@
 -- Texts as far as the limit.
-use Rattle.std.proofs.Common.{◌≡◌, ℕ, ◌+◌, ◌-◌, ◌<◌, ◌≤◌, Bool, true, false, cond, List, [], ◌∷◌, ◌++◌, length, take, get_or, Some, None, refl, sym, ap, ◌∙◌, append_assoc, length-append, arith}
+use Rattle.std.proofs.Common.{◌≡◌, ℕ, ◌+◌, ◌-◌, ◌*◌, ◌/◌, ◌<◌, ◌≤◌, ◌==◌, ◌||◌, nat_lt, codes, Bool, true, false, cond, List, [], ◌∷◌, ◌++◌, length, take, get_or, Some, None, refl, sym, ap, ◌∙◌, append_assoc, length-append, arith}
 use Rattle.std.specs.Prelude.{nat_le, IfSome}
 use Rattle.std.proofs.lemmas.Bool.Decides.{nat_tests}
 use Rattle.std.specs.List.{flat_map, sum_by}
 use Rattle.std.proofs.lemmas.List.{take_all}
 use Rattle.std.proofs.lemmas.List.Concat.{length-flat_map}
 use Rattle.std.proofs.lemmas.List.Sums.{sum_by-take-le, sum_by_more}
-use Rattle.py_value.specs.Reprs.{escaped, between, quote_of, quoted}
+use Rattle.py_value.specs.Reprs.{escaped, hexadecimal, between, quote_of, quoted}
 use Rattle.py_show.specs.Limits.{Limit, limited, pushed, room}
 
 le_true : (a b : ℕ) → a ≤ b → nat_le a b ≡ true
@@ -92,6 +92,45 @@ quoted_length cs =
     let whole = length-append (quote_of cs ∷ flat_map (escaped (quote_of cs)) cs) (quote_of cs ∷ []) in
     let inner = length-flat_map (escaped (quote_of cs)) cs in
     omega (arith, whole, inner)
+
+short_cond : (b : Bool) (xs ys : List ℕ) → length xs ≤ 4 → length ys ≤ 4 → length (cond b xs ys) ≤ 4
+short_cond true xs ys p q = p
+short_cond false xs ys p q = q
+
+abbrev other_control : ℕ → List ℕ
+other_control c = cond (nat_lt c 32 || (c == 127)) (hexadecimal c) (c ∷ [])
+
+abbrev no_line_feed : ℕ → List ℕ
+no_line_feed c = cond (c == 13) (codes "\\r") (cond (c == 9) (codes "\\t") (other_control c))
+
+no_line_feed_short : (c : ℕ) → length (no_line_feed c) ≤ 4
+no_line_feed_short c =
+    let other = short_cond (nat_lt c 32 || (c == 127)) (hexadecimal c) (c ∷ []) (omega arith) (omega arith) in
+    let tab = short_cond (c == 9) (codes "\\t") (other_control c) (omega arith) other in
+    short_cond (c == 13) (codes "\\r") (cond (c == 9) (codes "\\t") (other_control c)) (omega arith) tab
+
+-- a byte shows as four at most
+escaped_short : (quote c : ℕ) → length (escaped quote c) ≤ 4
+unfolding escaped
+escaped_short quote c =
+    let plain = short_cond (c == 10) (codes "\\n") (no_line_feed c) (omega arith) (no_line_feed_short c) in
+    short_cond ((c == 92) || (c == quote)) (92 ∷ c ∷ []) (cond (c == 10) (codes "\\n") (no_line_feed c)) (omega arith) plain
+
+shown_short : (quote : ℕ) (cs : List ℕ) → length (flat_map (escaped quote) cs) ≤ 4 * length cs
+shown_short quote [] = omega arith
+shown_short quote (c ∷ cs) =
+    let joined = length-append (escaped quote c) (flat_map (escaped quote) cs) in
+    let one = escaped_short quote c in
+    let more = shown_short quote cs in
+    omega (arith, joined, one, more)
+
+-- a text fits surely if four times its bytes and the quotes do
+pub surely_fits : (cs : List ℕ) (room : ℕ) → 2 ≤ room → length cs ≤ (room - 2) / 4 → true ≡ nat_le (length (quoted cs)) room
+unfolding between
+surely_fits cs room two h =
+    let whole = length-append (quote_of cs ∷ flat_map (escaped (quote_of cs)) cs) (quote_of cs ∷ []) in
+    let part = shown_short (quote_of cs) cs in
+    sym (le_true (length (quoted cs)) room (omega (arith, whole, part)))
 
 pub some_past : (cs : List ℕ) (i n room : ℕ) → n ≡ 2 + sum_by (λ c. length (escaped (quote_of cs) c)) (take i cs) → room < n → false ≡ nat_le (length (quoted cs)) room
 some_past cs i n room e h =

@@ -39,11 +39,15 @@ fn escaped_len(quote: u8, byte: u8) -> usize
     }
 }
 
-/// Whether what a text shows as has at most `room` bytes. Takes no memory.
+/// Whether what a text shows as has at most `room` bytes. Takes no memory. A byte shows as four at most, so the length of
+/// most texts tells.
 fn quoted_fits(text: &str, room: usize) -> bool
     requires { room ≤ 16777216 }
     ensures { result ≡ nat_le (length (spec.quoted text.now)) room }
 {
+    if room >= 2 && text.len() <= (room - 2) / 4 {
+        return true;
+    }
     let quote = quote_of(text);
     let mut len: usize = 2;
     for byte in text.as_bytes() {

@@ -1,13 +1,13 @@
 -- A character past 127 shows as its own bytes.
-use Rattle.std.proofs.Common.{◌≡◌, ℕ, ◌+◌, ◌/◌, ◌%◌, ◌<◌, ◌≤◌, Bool, true, false, cond, ◌==◌, nat_lt, List, [], ◌∷◌, ◌++◌, refl, ap, sym, ◌∙◌, append_assoc, arith}
+use Rattle.std.proofs.Common.{◌≡◌, ℕ, ◌+◌, ◌/◌, ◌%◌, ◌<◌, ◌≤◌, Bool, true, false, cond, ◌==◌, nat_lt, nat_le, not, ◌&&◌, List, [], ◌∷◌, ◌++◌, refl, ap, sym, ◌∙◌, append_assoc, arith}
 use Rattle.std.proofs.lemmas.List.{append-nil}
 use Rattle.std.proofs.lemmas.Str.{encodes-append}
 use Rattle.std.specs.Str.{encode_utf8_all}
-use Rattle.std.proofs.lemmas.Bool.{le-ltb}
+use Rattle.std.proofs.lemmas.Bool.{le-ltb, and_parts}
 use Rattle.std.proofs.lemmas.Grind.{common_steps}
-use Rattle.std.specs.List.{flat_map}
+use Rattle.std.specs.List.{flat_map, list_all}
 use Rattle.std.specs.Char.{encode_utf8}
-use Rattle.py_value.specs.Reprs.{escaped}
+use Rattle.py_value.specs.Reprs.{escaped, is_plain}
 
 different : (a b : ℕ) → (a ≡ b → ⊥) → (a == b) ≡ false
 different a b h = grind (arith, common_steps)
@@ -40,15 +40,43 @@ escaped_character quote c q h =
     by_size false true = one quote _ _ q (omega arith) (one quote _ _ q (omega arith) (one quote _ _ q (omega arith) refl))
     by_size false false = one quote _ _ q (omega arith) (one quote _ _ q (omega arith) (one quote _ _ q (omega arith) (one quote _ _ q (omega arith) refl)))
 
+plain_byte : (quote c : ℕ) → is_plain quote c ≡ true → escaped quote c ≡ c ∷ []
+unfolding escaped
+plain_byte quote c plain =
+    let low = and_parts (nat_le 32 c) _ plain in
+    let high = and_parts (not (c == 127)) _ low.1 in
+    let ends = and_parts (not (c == 92)) _ high.1 in
+    let past : 32 ≤ c = grind (arith, common_steps) in
+    let e1 : (c == 92) ≡ false = by_not _ ends.0 in
+    let e2 : (c == quote) ≡ false = by_not _ ends.1 in
+    let e3 : (c == 10) ≡ false = different c 10 (λ e. absurd (omega arith)) in
+    let e4 : (c == 13) ≡ false = different c 13 (λ e. absurd (omega arith)) in
+    let e5 : (c == 9) ≡ false = different c 9 (λ e. absurd (omega arith)) in
+    let e6 : nat_lt c 32 ≡ false = le-ltb c 32 past in
+    let e7 : (c == 127) ≡ false = by_not _ high.0 in
+    simp (e1, e2, e3, e4, e5, e6, e7)
+  where
+    by_not : (b : Bool) → not b ≡ true → b ≡ false
+    by_not false e = refl
+    by_not true e = sym e
+
+-- a text of such bytes shows as itself
+pub shown_plain : (quote : ℕ) (cs : List ℕ) → list_all (is_plain quote) cs ≡ true → flat_map (escaped quote) cs ≡ cs
+shown_plain quote [] e = refl
+shown_plain quote (c ∷ cs) e =
+    let both = and_parts _ _ e in
+    ap (λ front. front ++ flat_map (escaped quote) cs) (plain_byte quote c both.0) ∙ ap (λ rest. c ∷ rest) (shown_plain quote cs both.1)
+
 -- one character more shows after the others
-pub shown_more : (quote : ℕ) (cs : List ℕ) (c : ℕ) (before now : List ℕ)
-    → before ≡ quote ∷ flat_map (escaped quote) (encode_utf8_all cs)
+pub shown_more : (quote : ℕ) (out : List ℕ) (cs : List ℕ) (c : ℕ) (before now : List ℕ)
+    → before ≡ out ++ flat_map (escaped quote) (encode_utf8_all cs)
     → now ≡ before ++ flat_map (escaped quote) (encode_utf8 c)
-    → now ≡ quote ∷ flat_map (escaped quote) (encode_utf8_all (cs ++ c ∷ []))
-shown_more quote cs c before now b n =
+    → now ≡ out ++ flat_map (escaped quote) (encode_utf8_all (cs ++ c ∷ []))
+shown_more quote out cs c before now b n =
     n ∙ ap (λ xs. xs ++ flat_map (escaped quote) (encode_utf8 c)) b
-    ∙ ap (λ xs. quote ∷ xs) (sym (flat_map_append (escaped quote) (encode_utf8_all cs) (encode_utf8 c)))
-    ∙ ap (λ xs. quote ∷ flat_map (escaped quote) xs) (sym (encodes-append cs (c ∷ []) ∙ ap (λ xs. encode_utf8_all cs ++ xs) (append-nil (encode_utf8 c))))
+    ∙ append_assoc out (flat_map (escaped quote) (encode_utf8_all cs)) (flat_map (escaped quote) (encode_utf8 c))
+    ∙ ap (λ xs. out ++ xs) (sym (flat_map_append (escaped quote) (encode_utf8_all cs) (encode_utf8 c)))
+    ∙ ap (λ xs. out ++ flat_map (escaped quote) xs) (sym (encodes-append cs (c ∷ []) ∙ ap (λ xs. encode_utf8_all cs ++ xs) (append-nil (encode_utf8 c))))
   where
     flat_map_append : (f : ℕ → List ℕ) (xs ys : List ℕ) → flat_map f (xs ++ ys) ≡ flat_map f xs ++ flat_map f ys
     flat_map_append f [] ys = refl

@@ -1,5 +1,5 @@
 -- The text that a key shows.
-use Rattle.std.specs.Prelude.{ℕ, ◌/◌, ◌%◌, Bool, true, false, not, ◌&&◌, ◌||◌, cond, ◌==◌, nat_lt, List, [], ◌∷◌, ◌++◌, codes}
+use Rattle.std.specs.Prelude.{ℕ, ◌/◌, ◌%◌, Bool, true, false, not, ◌&&◌, ◌||◌, cond, ◌==◌, nat_lt, nat_le, List, [], ◌∷◌, ◌++◌, codes}
 use Rattle.std.specs.List.{list_any, flat_map}
 use Rattle.std.specs.Char.{digit_char}
 use Rattle.std.specs.Fmt.{signed_decimal}
@@ -16,6 +16,10 @@ quote_of cs = cond (has 39 cs && not (has 34 cs)) 34 39
 -- a backslash, which is 92, an x, and two hexadecimal digits
 abbrev pub hexadecimal : ℕ → List ℕ
 hexadecimal c = 92 ∷ 120 ∷ digit_char (c / 16) ∷ digit_char (c % 16) ∷ []
+
+-- a byte that shows as itself between quotes
+abbrev pub is_plain : ℕ → ℕ → Bool
+is_plain quote c = nat_le 32 c && (not (c == 127) && (not (c == 92) && not (c == quote)))
 
 -- what a byte shows as between quotes
 unfoldable pub escaped : ℕ → ℕ → List ℕ

@@ -1,5 +1,5 @@
 ghost use Rattle.std.specs.Prelude.{◌≡◌, ◌<◌, ◌++◌, IfOk, OnOk, string_bytes, encode_utf8};
-ghost use Rattle.std.specs.List.{flat_map};
+ghost use Rattle.std.specs.List.{flat_map, list_all};
 ghost use Rattle.std.specs.Char.{digit_char};
 ghost use Rattle.py_value.specs.Reprs as spec;
 
@@ -75,6 +75,33 @@ fn push_escaped(out: &mut String, quote: u8, c: char) -> Result<(), AllocError>
     }
 }
 
+/// Whether a byte shows as itself between quotes.
+fn is_plain(quote: u8, byte: u8) -> bool
+    ensures { result ≡ spec.is_plain quote byte }
+{
+    byte >= b' ' && byte != 127 && byte != b'\\' && byte != quote
+}
+
+fn are_plain(quote: u8, bytes: &[u8]) -> bool
+    ensures { result ≡ list_all (spec.is_plain quote) bytes.now }
+{
+    bytes.iter().all(|byte| is_plain(quote, *byte))
+}
+
+/// Adds what a text shows as between quotes. Most texts show as themselves, and are added whole.
+fn push_shown(out: &mut String, quote: u8, text: &str) -> Result<(), AllocError>
+    requires { quote < 128 }
+    ensures { OnOk result (string_bytes out.new ≡ string_bytes out.old ++ flat_map (spec.escaped quote) text.now) }
+{
+    if are_plain(quote, text.as_bytes()) {
+        return out.push_str(text);
+    }
+    for c in text.chars() {
+        push_escaped(out, quote, c)?;
+    }
+    Ok(())
+}
+
 #[tactic(auto, unfolding(crate::specs::Reprs::between))]
 fn quoted(alloc: Global, text: &str) -> Result<String, AllocError>
     ensures { IfOk result (λ shown. string_bytes shown ≡ spec.quoted text.now) }
@@ -82,9 +109,7 @@ fn quoted(alloc: Global, text: &str) -> Result<String, AllocError>
     let quote = quote_of(text);
     let mut out = String::new(alloc);
     out.push(quote as char)?;
-    for c in text.chars() {
-        push_escaped(&mut out, quote, c)?;
-    }
+    push_shown(&mut out, quote, text)?;
     out.push(quote as char)?;
     Ok(out)
 }

@@ -1,12 +1,10 @@
 -- The frames of messages: their envelopes and their bytes.
 use Rattle.std.specs.Prelude.{ℕ, ◌+◌, List, [], ◌∷◌, ◌++◌, codes, decimal, length}
 use Rattle.std.specs.Int.{w32, w128, to_be_bytes}
-use Rattle.json.specs.Print.{quoted}
 use Rattle.serde_json.specs.Data.{Data, string}
 use Rattle.serde_json.specs.Written.{compact_text}
 use Rattle.uuid.specs.Text.{hyphenated_text, lower}
 use Rattle.session_core.specs.declared.request.Header.{Header}
-use Rattle.reply_frames.specs.declared.outbox.Outbox.{Outbox}
 use Rattle.reply_frames.specs.Messages.{Said, json}
 
 -- a kernel in its hyphenated lower-case text
@@ -49,30 +47,23 @@ unfoldable pub frames : List ℕ → Header → ℕ → List Said → List ℕ
 frames kernel request first [] = []
 frames kernel request first (said ∷ more) = framed kernel request first said ++ frames kernel request (first + 1) more
 
--- ---- an outbox: a kernel's name, what all messages have that answer one request, the next running number, and the frames so far
+-- ---- messages said one after the other
 
--- from the content of a message to its id
-abbrev pub before_id : Header → List ℕ
-before_id request = codes ",\"header\":{\"date\":" ++ (quoted request.date ++ codes ",\"msg_id\":")
+-- who answers which request, the running number of the next message, and the frames so far
+pub record Outgoing : Type 0 where
+  pub kernel : List ℕ
+  pub request : Header
+  pub running : ℕ
+  pub bytes : List ℕ
 
--- from the type of a message to its end
-abbrev pub after_type : List ℕ → Header → List ℕ
-after_type kernel request = codes ",\"session\":" ++ (quoted kernel ++ (codes ",\"username\":\"kernel\",\"version\":\"5.3\"},\"kernel\":" ++ (quoted kernel
-    ++ (codes ",\"metadata\":{},\"parent_header\":" ++ (compact_text (header_json request) ++ codes "}")))))
-
--- what is in an outbox before anything is said
-abbrev pub empty : List ℕ → Header → ℕ → Outbox
-empty kernel request first = record { kernel = kernel; before_id = before_id request; after_type = after_type kernel request; running = first; bytes = [] }
-
--- the text of a message, joined from its own parts and from those that all have
-unfoldable pub joined : Outbox → Said → List ℕ
-joined o said = codes "{\"channel\":" ++ (quoted said.channel ++ (codes ",\"content\":" ++ (compact_text said.content ++ (o.before_id
-    ++ (quoted ((o.kernel ++ codes "_") ++ decimal o.running) ++ (codes ",\"msg_type\":" ++ (quoted said.kind ++ o.after_type)))))))
+-- nothing is said yet
+abbrev pub empty : List ℕ → Header → ℕ → Outgoing
+empty kernel request first = record { kernel = kernel; request = request; running = first; bytes = [] }
 
 -- one message more
-abbrev pub say : Said → Outbox → Outbox
-say said o = record { kernel = o.kernel; before_id = o.before_id; after_type = o.after_type; running = o.running + 1; bytes = o.bytes ++ frame (joined o said) }
+abbrev pub say : Said → Outgoing → Outgoing
+say said o = record { kernel = o.kernel; request = o.request; running = o.running + 1; bytes = o.bytes ++ framed o.kernel o.request o.running said }
 
-abbrev pub say_all : List Said → Outbox → Outbox
+abbrev pub say_all : List Said → Outgoing → Outgoing
 say_all [] o = o
 say_all (said ∷ more) o = say_all more (say said o)

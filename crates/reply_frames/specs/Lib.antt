@@ -1,6 +1,6 @@
 pub mod Messages
 pub mod Frames
-pub mod Envelopes
+pub mod Pieces
 pub mod Replies
 pub mod Nodes
 pub mod Intake

@@ -67,9 +67,11 @@ node_header date running = record {
   version = codes "5.3";
 }
 
+unfoldable pub content : NodeErrorKind → Data
+content kind = json ((codes "detail", string (detail_of kind)) ∷ (codes "name", string (name_of kind)) ∷ (codes "number", whole (number_of kind)) ∷ [])
+
 unfoldable pub message : ℕ → NodeError → Data
-message running error = envelope (codes "control")
-    (json ((codes "detail", string (detail_of error.kind)) ∷ (codes "name", string (name_of error.kind)) ∷ (codes "number", whole (number_of error.kind)) ∷ []))
+message running error = envelope (codes "control") (content error.kind)
     (node_header (date_of error.about) running) (kernel_of error.about) (parent_of error.about)
 
 -- the error's frame, under this running number of the node's

@@ -31,8 +31,7 @@ use Rattle.py_session.specs.declared.reply.Failure.{Failure}
 use Rattle.reply_frames.specs.declared.lists.Listing.{Listing}
 use Rattle.reply_frames.specs.declared.lists.Listing.TheVariants as listing
 use Rattle.reply_frames.specs.Messages.{Said, json, whole, on_iopub, channel_name, busy, idle, evalue, traceback, input, streams, results, error, reply_content}
-use Rattle.reply_frames.specs.declared.outbox.Outbox.{Outbox}
-use Rattle.reply_frames.specs.Frames.{kernel_name, frames, say_all}
+use Rattle.reply_frames.specs.Frames.{Outgoing, kernel_name, frames, say_all}
 
 -- a reply goes on the channel of its request
 abbrev pub on_channel : Channel → List ℕ → Data → Said
@@ -250,7 +249,7 @@ entry_length e = answer_length (answer_of e)
 
 -- ---- saying an entry
 
-abbrev pub say_middle : Option Answer → Outbox → Outbox
+abbrev pub say_middle : Option Answer → Outgoing → Outgoing
 say_middle None o = o
 say_middle (Some answer) o = say_all answer.said o
 

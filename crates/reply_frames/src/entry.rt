@@ -14,7 +14,7 @@ use text_cuts::cut_at;
 const MOST_PIECE: usize = 65_536;
 
 /// The state of the session: `busy` or `idle`.
-pub fn say_status(outbox: &mut Outbox, alloc: Global, state: &str) -> Result<(), AllocError>
+pub fn say_status(outbox: &mut Outbox<'_>, alloc: Global, state: &str) -> Result<(), AllocError>
     ensures { OnOk result (outbox.new ≡ spec.say (said.status state.now) outbox.old) }
 {
     let content = status_json(alloc, state)?;
@@ -33,7 +33,7 @@ pub fn channel_name(channel: Channel) -> &'static str
 
 /// The code of a cell, within 262,144 bytes.
 pub fn say_input(
-    outbox: &mut Outbox,
+    outbox: &mut Outbox<'_>,
     alloc: Global,
     code: &str,
     count: u32,
@@ -44,7 +44,7 @@ pub fn say_input(
     outbox.say(alloc, "iopub", "execute_input", &content)
 }
 
-fn say_stream(outbox: &mut Outbox, alloc: Global, piece: &str) -> Result<(), AllocError>
+fn say_stream(outbox: &mut Outbox<'_>, alloc: Global, piece: &str) -> Result<(), AllocError>
     ensures { OnOk result (outbox.new ≡ spec.say (said.stream piece.now) outbox.old) }
 {
     let content = stream_content(alloc, piece)?;
@@ -53,7 +53,7 @@ fn say_stream(outbox: &mut Outbox, alloc: Global, piece: &str) -> Result<(), All
 
 /// The printed text, in pieces of at most 65,536 bytes.
 #[tactic(auto, unfolding(text_cuts::specs::Cuts::pieces))]
-pub fn say_streams(outbox: &mut Outbox, alloc: Global, printed: &str) -> Result<(), AllocError>
+pub fn say_streams(outbox: &mut Outbox<'_>, alloc: Global, printed: &str) -> Result<(), AllocError>
     ensures { OnOk result (outbox.new ≡ spec.say_all (said.streams printed.now) outbox.old) }
 {
     let mut rest = printed;
@@ -68,7 +68,12 @@ pub fn say_streams(outbox: &mut Outbox, alloc: Global, printed: &str) -> Result<
     Ok(())
 }
 
-fn say_text(outbox: &mut Outbox, alloc: Global, count: u32, text: &Text) -> Result<(), AllocError>
+fn say_text(
+    outbox: &mut Outbox<'_>,
+    alloc: Global,
+    count: u32,
+    text: &Text,
+) -> Result<(), AllocError>
     ensures { OnOk result (outbox.new ≡ spec.say (said.result count text.now) outbox.old) }
 {
     let content = result_content(alloc, count, text)?;
@@ -77,7 +82,7 @@ fn say_text(outbox: &mut Outbox, alloc: Global, count: u32, text: &Text) -> Resu
 
 /// The result of a cell, if it has one.
 pub fn say_result(
-    outbox: &mut Outbox,
+    outbox: &mut Outbox<'_>,
     alloc: Global,
     count: u32,
     shown: &Option<Text>,
@@ -92,7 +97,7 @@ pub fn say_result(
 
 /// The error of a cell, if it has one.
 pub fn say_error(
-    outbox: &mut Outbox,
+    outbox: &mut Outbox<'_>,
     alloc: Global,
     error: &Option<Failure>,
 ) -> Result<(), AllocError>

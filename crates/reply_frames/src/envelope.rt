@@ -3,44 +3,51 @@
 //! Round its content a message has some thirty names and texts, most of them the same in each. They are put together here piece
 //! by piece; the content, and a text in which something has to be escaped, are written by `serde_json`.
 
-ghost use Rattle.std.specs.Prelude.{◌≡◌, ◌++◌, false, IfOk, OnOk, string_bytes};
+ghost use Rattle.std.specs.Prelude.{ℕ, List, ◌≡◌, ◌++◌, [], codes, option_map, IfOk, OnOk, string_bytes};
 ghost use Rattle.std.specs.List.{list_all};
 ghost use Rattle.json.specs.Print.{quoted};
-ghost use Rattle.serde_json.specs.Written.{has_float, compact_text};
-ghost use Rattle.serde_json.specs.View.{view};
-ghost use Rattle.reply_frames.specs.Frames.{header_json};
-ghost use Rattle.reply_frames.specs.Envelopes as spec;
-ghost use Rattle.reply_frames.specs.Envelopes.{header_of, json_of, parent_json};
+ghost use Rattle.serde_json.specs.Data.{Data};
+ghost use Rattle.serde_json.specs.Written.{compact_text};
+ghost use Rattle.reply_frames.specs.Frames.{header_json, envelope};
+ghost use Rattle.reply_frames.specs.Pieces as spec;
 
 use jupyter_messages::Header;
 use plain_data::Text;
 use serde_json::Value;
 use std::alloc::{AllocError, Global};
 
-/// The six texts of a header.
+/// Who says a message.
 #[derive(Clone, Copy)]
-pub struct HeaderTexts<'a> {
-    pub date: &'a str,
-    pub msg_id: &'a str,
-    pub msg_type: &'a str,
+pub struct Sender<'a> {
     pub session: &'a str,
     pub username: &'a str,
-    pub version: &'a str,
-}
-
-/// A message with all that is around its content.
-#[derive(Clone, Copy)]
-pub struct Envelope<'a> {
-    pub channel: &'a str,
-    pub content: &'a Value,
-    pub header: HeaderTexts<'a>,
+    /// The kernel whose message it is, or an empty text.
     pub kernel: &'a str,
-    /// The header of the message that this one answers. None is written as an empty object.
-    pub parent: Option<HeaderTexts<'a>>,
 }
 
-/// Room for what is round a content, but for long texts of a request.
+/// The pieces of a message, in their order.
+#[derive(Clone, Copy)]
+pub struct Pieces<'a> {
+    pub channel: &'a str,
+    /// The content as JSON.
+    pub content: &'a str,
+    /// What comes between the content and the id.
+    pub before_id: &'a str,
+    pub msg_id: &'a str,
+    pub msg_type: &'a str,
+    /// What comes after the type.
+    pub after_type: &'a str,
+}
+
+/// The first room for what is round a content. It has room in it unless a request has long texts.
 const ROOM: usize = 512;
+
+/// A text with room.
+fn text_with_room(alloc: Global, room: usize) -> Result<Text, AllocError>
+    ensures { IfOk result (λ text. text ≡ []) }
+{
+    Ok(Text::from_string(String::with_capacity(alloc, room)?))
+}
 
 /// Whether JSON has this byte of a text as it is.
 fn is_plain(byte: u8) -> bool
@@ -77,67 +84,74 @@ pub fn push_text(alloc: Global, out: &mut Text, before: &str, text: &str) -> Res
     out.push_str(quoted.as_str())
 }
 
-/// Adds the header of the message that is answered.
-fn push_parent(
-    alloc: Global,
-    out: &mut Text,
-    parent: &Option<HeaderTexts<'_>>,
-) -> Result<(), AllocError>
-    ensures { OnOk result (out.new ≡ out.old ++ compact_text (parent_json parent.now)) }
+/// Adds a header as an object.
+fn push_header(alloc: Global, out: &mut Text, header: &Header) -> Result<(), AllocError>
+    ensures { OnOk result (out.new ≡ out.old ++ compact_text (header_json header.now)) }
+{
+    push_text(alloc, out, "{\"date\":", header.date.as_str())?;
+    push_text(alloc, out, ",\"msg_id\":", header.msg_id.as_str())?;
+    push_text(alloc, out, ",\"msg_type\":", header.msg_type.as_str())?;
+    push_text(alloc, out, ",\"session\":", header.session.as_str())?;
+    push_text(alloc, out, ",\"username\":", header.username.as_str())?;
+    push_text(alloc, out, ",\"version\":", header.version.as_str())?;
+    out.push_str("}")
+}
+
+/// Adds the header of the message that is answered, or an empty object.
+fn push_parent(alloc: Global, out: &mut Text, parent: Option<&Header>) -> Result<(), AllocError>
+    ensures { OnOk result (out.new ≡ out.old ++ compact_text (spec.parent_json (option_map (λ header. header.now) parent.entry))) }
 {
     match parent {
-        Some(header) => header.push(alloc, out),
+        Some(header) => push_header(alloc, out, header),
         None => out.push_str("{}"),
     }
 }
 
-impl<'a> HeaderTexts<'a> {
-    /// Those of a request.
-    pub fn of(header: &'a Header) -> HeaderTexts<'a>
-        ensures { header_of result ≡ header.now }
-    {
-        HeaderTexts {
-            date: header.date.as_str(),
-            msg_id: header.msg_id.as_str(),
-            msg_type: header.msg_type.as_str(),
-            session: header.session.as_str(),
-            username: header.username.as_str(),
-            version: header.version.as_str(),
-        }
-    }
-
-    /// Adds the header as an object.
-    pub fn push(&self, alloc: Global, out: &mut Text) -> Result<(), AllocError>
-        ensures { OnOk result (out.new ≡ out.old ++ compact_text (header_json (header_of self.now))) }
-    {
-        push_text(alloc, out, "{\"date\":", self.date)?;
-        push_text(alloc, out, ",\"msg_id\":", self.msg_id)?;
-        push_text(alloc, out, ",\"msg_type\":", self.msg_type)?;
-        push_text(alloc, out, ",\"session\":", self.session)?;
-        push_text(alloc, out, ",\"username\":", self.username)?;
-        push_text(alloc, out, ",\"version\":", self.version)?;
-        out.push_str("}")
-    }
+/// What comes between the content of a message and its id, if it has this date.
+pub fn before_id(alloc: Global, date: &str) -> Result<Text, AllocError>
+    ensures { IfOk result (λ text. text ≡ spec.before_id date.now) }
+{
+    let mut text = text_with_room(alloc, 0)?;
+    push_text(alloc, &mut text, ",\"header\":{\"date\":", date)?;
+    text.push_str(",\"msg_id\":")?;
+    Ok(text)
 }
 
-impl Envelope<'_> {
-    /// The message as JSON. `Err` for want of memory.
-    pub fn text(&self, alloc: Global) -> Result<Text, AllocError>
-        requires { has_float (view self.now.content.now) ≡ false }
-        ensures { IfOk result (λ text. text ≡ compact_text (json_of self.now)) }
+/// What comes after the type of a message that this sender says, in answer to the message with this header, if there is one.
+pub fn after_type(
+    alloc: Global,
+    sender: Sender<'_>,
+    parent: Option<&Header>,
+) -> Result<Text, AllocError>
+    ensures { IfOk result (λ text. text ≡ spec.after_type sender.entry.session.now sender.entry.username.now sender.entry.kernel.now (spec.parent_json (option_map (λ header. header.now) parent.entry))) }
+{
+    let mut text = text_with_room(alloc, ROOM)?;
+    push_text(alloc, &mut text, ",\"session\":", sender.session)?;
+    push_text(alloc, &mut text, ",\"username\":", sender.username)?;
+    text.push_str(",\"version\":\"5.3\"}")?;
+    push_text(alloc, &mut text, ",\"kernel\":", sender.kernel)?;
+    text.push_str(",\"metadata\":{},\"parent_header\":")?;
+    push_parent(alloc, &mut text, parent)?;
+    text.push_str("}")?;
+    Ok(text)
+}
+
+impl Pieces<'_> {
+    /// The message as JSON.
+    pub fn joined(&self, alloc: Global) -> Result<Text, AllocError>
+        ensures { IfOk result (λ text. (content : Data) (date session username kernel : List ℕ) (parent : Data) → self.now.content.now ≡ compact_text content
+            → self.now.before_id.now ≡ spec.before_id date → self.now.after_type.now ≡ spec.after_type session username kernel parent
+            → text ≡ compact_text (envelope self.now.channel.now content
+            (record { msg_id = self.now.msg_id.now; username = username; session = session; date = date; msg_type = self.now.msg_type.now; version = codes "5.3" }) kernel parent)) }
     {
-        let content = self.content.to_string(alloc)?;
-        let room = content.len().saturating_add(ROOM);
-        let mut out = Text::from_string(String::with_capacity(alloc, room)?);
-        push_text(alloc, &mut out, "{\"channel\":", self.channel)?;
-        out.push_str(",\"content\":")?;
-        out.push_str(content.as_str())?;
-        out.push_str(",\"header\":")?;
-        self.header.push(alloc, &mut out)?;
-        push_text(alloc, &mut out, ",\"kernel\":", self.kernel)?;
-        out.push_str(",\"metadata\":{},\"parent_header\":")?;
-        push_parent(alloc, &mut out, &self.parent)?;
-        out.push_str("}")?;
-        Ok(out)
+        let room = self.content.len().saturating_add(ROOM);
+        let mut text = text_with_room(alloc, room)?;
+        push_text(alloc, &mut text, "{\"channel\":", self.channel)?;
+        text.push_str(",\"content\":")?;
+        text.push_str(self.content)?;
+        push_text(alloc, &mut text, self.before_id, self.msg_id)?;
+        push_text(alloc, &mut text, ",\"msg_type\":", self.msg_type)?;
+        text.push_str(self.after_type)?;
+        Ok(text)
     }
 }

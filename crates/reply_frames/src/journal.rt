@@ -25,7 +25,7 @@ use std::alloc::{AllocError, Global};
 
 /// A reply, on the channel of its request.
 fn say_replied(
-    outbox: &mut Outbox,
+    outbox: &mut Outbox<'_>,
     alloc: Global,
     request: &Request,
     kind: &str,
@@ -41,7 +41,7 @@ fn say_replied(
 /// The error of a cell, or its result if it has one.
 #[tactic(auto, unfolding(crate::specs::Replies::outcome))]
 fn say_outcome(
-    outbox: &mut Outbox,
+    outbox: &mut Outbox<'_>,
     alloc: Global,
     count: u32,
     shown: &Option<Text>,
@@ -57,7 +57,7 @@ fn say_outcome(
 
 #[tactic(auto, unfolding(crate::specs::Replies::cell_reply))]
 fn say_cell_reply(
-    outbox: &mut Outbox,
+    outbox: &mut Outbox<'_>,
     alloc: Global,
     request: &Request,
     count: u32,
@@ -81,7 +81,7 @@ fn code_of(ask: &Ask) -> &str
 /// A cell that isn't silent.
 #[tactic(auto, unfolding(crate::specs::Replies::cell_said), using(crate::proofs::Saying::say_both))]
 fn say_cell(
-    outbox: &mut Outbox,
+    outbox: &mut Outbox<'_>,
     alloc: Global,
     request: &Request,
     count: u32,
@@ -98,7 +98,7 @@ fn say_cell(
 }
 
 #[tactic(auto, unfolding(crate::specs::Replies::info_content, crate::specs::Replies::language_content))]
-fn say_info(outbox: &mut Outbox, alloc: Global, request: &Request) -> Result<(), AllocError>
+fn say_info(outbox: &mut Outbox<'_>, alloc: Global, request: &Request) -> Result<(), AllocError>
     ensures { OnOk result (outbox.new ≡ frames.say (spec.replied request.now (codes "kernel_info_reply") spec.info_content) outbox.old) }
 {
     let content = info_content(alloc)?;
@@ -107,7 +107,7 @@ fn say_info(outbox: &mut Outbox, alloc: Global, request: &Request) -> Result<(),
 
 #[tactic(auto, using(crate::proofs::Floats::completion_no_float))]
 fn say_completion(
-    outbox: &mut Outbox,
+    outbox: &mut Outbox<'_>,
     alloc: Global,
     request: &Request,
     completion: Completion,
@@ -120,7 +120,7 @@ fn say_completion(
 
 #[tactic(auto, using(crate::proofs::Floats::shutdown_no_float))]
 fn say_shutdown(
-    outbox: &mut Outbox,
+    outbox: &mut Outbox<'_>,
     alloc: Global,
     request: &Request,
     restart: bool,
@@ -134,7 +134,7 @@ fn say_shutdown(
 /// What a session that is alive answers.
 #[tactic(auto, unfolding(crate::specs::Replies::ran_said, crate::specs::Replies::cell_said))]
 fn say_ran(
-    outbox: &mut Outbox,
+    outbox: &mut Outbox<'_>,
     alloc: Global,
     request: &Request,
     reply: &Reply,
@@ -166,7 +166,7 @@ fn say_ran(
 /// What a session that died or was dead answers.
 #[tactic(auto, unfolding(crate::specs::Replies::failed_said, crate::specs::Replies::failed_reply, crate::specs::Replies::failed_content))]
 fn say_failed(
-    outbox: &mut Outbox,
+    outbox: &mut Outbox<'_>,
     alloc: Global,
     request: &Request,
     count: u32,
@@ -181,7 +181,7 @@ fn say_failed(
 /// The plan, the flow that shows that no plan costs less, and the reply.
 #[tactic(auto, unfolding(crate::specs::Replies::adopted_said, crate::specs::Replies::moved_content), using(crate::proofs::Saying::say_both))]
 fn say_adopted(
-    outbox: &mut Outbox,
+    outbox: &mut Outbox<'_>,
     alloc: Global,
     request: &Request,
     hosts: (u32, u32),
@@ -200,7 +200,7 @@ fn say_adopted(
 
 #[tactic(auto, using(crate::proofs::Floats::refused_no_float))]
 fn say_refused(
-    outbox: &mut Outbox,
+    outbox: &mut Outbox<'_>,
     alloc: Global,
     request: &Request,
     owner: u32,
@@ -213,7 +213,7 @@ fn say_refused(
 }
 
 #[tactic(auto, unfolding(crate::specs::Replies::resumed_content, crate::specs::Replies::stayed_content))]
-fn say_resumed(outbox: &mut Outbox, alloc: Global, request: &Request) -> Result<(), AllocError>
+fn say_resumed(outbox: &mut Outbox<'_>, alloc: Global, request: &Request) -> Result<(), AllocError>
     ensures { OnOk result (outbox.new ≡ frames.say (spec.move_reply request.now spec.resumed_content) outbox.old) }
 {
     let content = resumed_content(alloc)?;
@@ -222,7 +222,7 @@ fn say_resumed(outbox: &mut Outbox, alloc: Global, request: &Request) -> Result<
 
 #[tactic(auto, unfolding(crate::specs::Replies::open_content))]
 fn say_open(
-    outbox: &mut Outbox,
+    outbox: &mut Outbox<'_>,
     alloc: Global,
     channel: Channel,
     host: u32,
@@ -252,7 +252,7 @@ fn answered(entry: &Entry) -> Option<&Header>
 
 /// What an entry says between busy and idle.
 #[tactic(auto, unfolding(crate::specs::Replies::answer_of, crate::specs::Replies::failed_said))]
-fn say_middle(outbox: &mut Outbox, alloc: Global, entry: &Entry) -> Result<(), AllocError>
+fn say_middle(outbox: &mut Outbox<'_>, alloc: Global, entry: &Entry) -> Result<(), AllocError>
     ensures { OnOk result (outbox.new ≡ spec.say_middle (spec.answer_of entry.now) outbox.old) }
 {
     match entry {
@@ -289,7 +289,7 @@ fn say_middle(outbox: &mut Outbox, alloc: Global, entry: &Entry) -> Result<(), A
 }
 
 /// All that an entry says that answers a request: busy, its answer, idle.
-fn say_entry(outbox: &mut Outbox, alloc: Global, entry: &Entry) -> Result<(), AllocError>
+fn say_entry(outbox: &mut Outbox<'_>, alloc: Global, entry: &Entry) -> Result<(), AllocError>
     ensures { OnOk result (outbox.new ≡ frames.say said.idle (spec.say_middle (spec.answer_of entry.now) (frames.say said.busy outbox.old))) }
 {
     say_status(outbox, alloc, "busy")?;
@@ -314,6 +314,5 @@ pub fn frames_of(
     let kernel = kernel_name(alloc, kernel)?;
     let mut outbox = Outbox::new(alloc, kernel.as_str(), request, first)?;
     say_entry(&mut outbox, alloc, entry)?;
-    let Outbox { running, bytes, .. } = outbox;
-    Ok((bytes, running))
+    Ok(outbox.into_frames())
 }

@@ -127,7 +127,7 @@ fn list_kind(which: Listing) -> &'static str
 /// One message with these items.
 #[tactic(auto, unfolding(crate::specs::Replies::listed))]
 fn say_list(
-    outbox: &mut Outbox,
+    outbox: &mut Outbox<'_>,
     alloc: Global,
     which: Listing,
     chunk: Vec<Value>,
@@ -151,7 +151,7 @@ fn take_chunk(items: &mut Vec<Value>) -> Result<Vec<Value>, AllocError>
 /// All these items, in messages of at most 4,096.
 #[tactic(auto, unfolding(crate::specs::Replies::chunks, crate::specs::Replies::lists))]
 pub fn say_lists(
-    outbox: &mut Outbox,
+    outbox: &mut Outbox<'_>,
     alloc: Global,
     which: Listing,
     items: Vec<Value>,

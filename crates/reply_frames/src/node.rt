@@ -1,14 +1,14 @@
 //! The errors of the node itself, which belong to no session.
 
-ghost use Rattle.std.specs.Prelude.{◌≡◌, ◌∷◌, ◌++◌, [], codes, decimal, IfOk};
+ghost use Rattle.std.specs.Prelude.{◌≡◌, ◌∷◌, ◌++◌, [], codes, decimal, option_map, string_bytes, IfOk};
 ghost use Rattle.serde_json.specs.View.{view};
 ghost use Rattle.serde_json.specs.Written.{compact_text};
 ghost use Rattle.serde_json.specs.Data.{string};
 ghost use Rattle.reply_frames.specs.Messages.{json, whole};
-ghost use Rattle.reply_frames.specs.Envelopes.{parent_json};
+ghost use Rattle.reply_frames.specs.Pieces.{parent_json};
 ghost use Rattle.reply_frames.specs.Nodes as spec;
 
-use crate::envelope::{Envelope, HeaderTexts};
+use crate::envelope::{Pieces, Sender, after_type, before_id};
 use crate::message::kernel_name;
 use crate::outbox::push_frame;
 use jupyter_messages::Header;
@@ -121,10 +121,10 @@ fn node_id(alloc: Global, running: u64) -> Result<Text, AllocError>
 }
 
 /// The header of the message that an error is about.
-fn parent_of(about: &Option<About>) -> Option<HeaderTexts<'_>>
-    ensures { parent_json result ≡ spec.parent_of about.now }
+fn parent_of(about: &Option<About>) -> Option<&Header>
+    ensures { parent_json (option_map (λ header. header.now) result) ≡ spec.parent_of about.now }
 {
-    about.as_ref().map(|about| HeaderTexts::of(&about.header))
+    about.as_ref().map(|about| &about.header)
 }
 
 /// The kernel of the message that an error is about, or an empty text.
@@ -147,36 +147,39 @@ fn date_of(about: &Option<About>) -> &str
     }
 }
 
+/// The content of an error's message, as JSON.
+#[tactic(auto, unfolding(crate::specs::Nodes::content))]
+fn content_text(alloc: Global, kind: &NodeErrorKind) -> Result<String, AllocError>
+    ensures { IfOk result (λ text. string_bytes text ≡ compact_text (spec.content kind.now)) }
+{
+    let detail = detail_of(alloc, kind)?;
+    let content = content_of(alloc, detail.as_str(), name_of(kind), number_of(kind))?;
+    content.to_string(alloc)
+}
+
 /// The message of an error, as JSON.
-#[tactic(auto, unfolding(crate::specs::Nodes::message))]
 fn message_text(alloc: Global, running: u64, error: &NodeError) -> Result<Text, AllocError>
     ensures { IfOk result (λ text. text ≡ compact_text (spec.message running error.now)) }
 {
-    let detail = detail_of(alloc, &error.kind)?;
-    let content = content_of(
-        alloc,
-        detail.as_str(),
-        name_of(&error.kind),
-        number_of(&error.kind),
-    )?;
+    let content = content_text(alloc, &error.kind)?;
+    let before_id = before_id(alloc, date_of(&error.about))?;
     let msg_id = node_id(alloc, running)?;
-    let header = HeaderTexts {
-        date: date_of(&error.about),
-        msg_id: msg_id.as_str(),
-        msg_type: "node_error",
+    let kernel = kernel_of(alloc, &error.about)?;
+    let sender = Sender {
         session: "node",
         username: "node",
-        version: "5.3",
-    };
-    let kernel = kernel_of(alloc, &error.about)?;
-    let envelope = Envelope {
-        channel: "control",
-        content: &content,
-        header,
         kernel: kernel.as_str(),
-        parent: parent_of(&error.about),
     };
-    envelope.text(alloc)
+    let after_type = after_type(alloc, sender, parent_of(&error.about))?;
+    let pieces = Pieces {
+        channel: "control",
+        content: content.as_str(),
+        before_id: before_id.as_str(),
+        msg_id: msg_id.as_str(),
+        msg_type: "node_error",
+        after_type: after_type.as_str(),
+    };
+    pieces.joined(alloc)
 }
 
 /// The frame of an error, under this running number of the node's. Also `Err` if the body would have 2^32 bytes or more.

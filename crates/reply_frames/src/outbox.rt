@@ -3,71 +3,47 @@ ghost use Rattle.serde_json.specs.Data.{Data};
 ghost use Rattle.serde_json.specs.Written.{has_float, compact_text};
 ghost use Rattle.serde_json.specs.View.{view};
 ghost use Rattle.reply_frames.specs.Frames as spec;
+ghost use Rattle.reply_frames.specs.Pieces as pieces;
 
-use crate::envelope::{HeaderTexts, push_text};
+use crate::envelope::{Pieces, Sender, after_type, before_id};
 use crate::message::message_id;
 use jupyter_messages::Header;
 use plain_data::{Items, Text};
 use serde_json::Value;
 use std::alloc::{AllocError, Global};
+use std::marker::Model;
 
 /// Frames that are said one after the other, all in answer to one request. What their messages have alike is written once.
+/// Contracts see the kernel, the request, the running number of the next message, and the frames so far.
 #[derive(Drop)]
-pub struct Outbox {
+pub struct Outbox<'a> {
+    request: &'a Header,
     /// The kernel in its hyphenated lower-case text.
-    pub kernel: Text,
+    kernel: Text,
     /// What comes between the content of a message and its id.
-    pub before_id: Text,
+    before_id: Text,
     /// What comes after the type of a message.
-    pub after_type: Text,
+    after_type: Text,
     /// The running number of the next message.
-    pub running: u64,
+    running: u64,
     /// The frames so far.
-    pub bytes: Items<u8>,
+    bytes: Items<u8>,
 }
 
-/// Room for the frames of most answers.
-const MOST_ANSWERS: usize = 4_096;
+impl<'a> Model for Outbox<'a> {
+    ghost use Rattle.std.specs.Prelude.{◌≡◌, codes};
+    ghost use Rattle.reply_frames.specs.Frames.{Outgoing, header_json};
+    ghost use Rattle.reply_frames.specs.Pieces as pieces;
 
-/// Room for a message beside its content, and for what all messages have, but for long texts of a request.
-const MOST_TEXTS: usize = 512;
+    ghost Value = { Outgoing };
 
-/// A text with room.
-fn text_with_room(alloc: Global, room: usize) -> Result<Text, AllocError>
-    ensures { IfOk result (λ text. text ≡ []) }
-{
-    Ok(Text::from_string(String::with_capacity(alloc, room)?))
+    ghost view = { λ o. record { kernel = o.kernel; request = o.request.now; running = o.running; bytes = o.bytes } };
+
+    ghost invariant = { λ o. (o.before_id ≡ pieces.before_id o.request.now.date) × (o.after_type ≡ pieces.after_type o.kernel (codes "kernel") o.kernel (header_json o.request.now)) };
 }
 
-/// What comes between the content of a message and its id.
-fn before_id(alloc: Global, request: &Header) -> Result<Text, AllocError>
-    ensures { IfOk result (λ text. text ≡ spec.before_id request.now) }
-{
-    let mut text = text_with_room(alloc, 0)?;
-    push_text(
-        alloc,
-        &mut text,
-        ",\"header\":{\"date\":",
-        request.date.as_str(),
-    )?;
-    text.push_str(",\"msg_id\":")?;
-    Ok(text)
-}
-
-/// What comes after the type of a message.
-fn after_type(alloc: Global, kernel: &str, request: &Header) -> Result<Text, AllocError>
-    ensures { IfOk result (λ text. text ≡ spec.after_type kernel.now request.now) }
-{
-    let mut text = text_with_room(alloc, MOST_TEXTS)?;
-    push_text(alloc, &mut text, ",\"session\":", kernel)?;
-    text.push_str(",\"username\":\"kernel\",\"version\":\"5.3\"}")?;
-    push_text(alloc, &mut text, ",\"kernel\":", kernel)?;
-    text.push_str(",\"metadata\":{},\"parent_header\":")?;
-    let parent = HeaderTexts::of(request);
-    parent.push(alloc, &mut text)?;
-    text.push_str("}")?;
-    Ok(text)
-}
+/// The first room for the frames of an answer. Most have room in it, and it grows for others.
+const FRAMES_ROOM: usize = 4_096;
 
 /// Adds a frame: the length of the body, as four bytes with the high byte first, and the body. Also `Err` if the body
 /// has 2^32 bytes or more.
@@ -94,22 +70,28 @@ fn next_number(running: u64) -> Result<u64, AllocError>
     }
 }
 
-impl Outbox {
+impl<'a> Outbox<'a> {
     /// Nothing said yet in answer to the request. The first message has this number.
     pub fn new(
         alloc: Global,
         kernel: &str,
-        request: &Header,
+        request: &'a Header,
         first: u64,
-    ) -> Result<Outbox, AllocError>
+    ) -> Result<Outbox<'a>, AllocError>
         ensures { IfOk result (λ outbox. outbox ≡ spec.empty kernel.now request.now first) }
     {
+        let sender = Sender {
+            session: kernel,
+            username: "kernel",
+            kernel,
+        };
         Ok(Outbox {
+            request,
             kernel: Text::new(alloc, kernel)?,
-            before_id: before_id(alloc, request)?,
-            after_type: after_type(alloc, kernel, request)?,
+            before_id: before_id(alloc, request.date.as_str())?,
+            after_type: after_type(alloc, sender, Some(request))?,
             running: first,
-            bytes: Items::from_vec(Vec::with_capacity(alloc, MOST_ANSWERS)?),
+            bytes: Items::from_vec(Vec::with_capacity(alloc, FRAMES_ROOM)?),
         })
     }
 
@@ -122,18 +104,18 @@ impl Outbox {
         content: &str,
     ) -> Result<Text, AllocError>
         ensures { IfOk result (λ text. (said : Data) → content.now ≡ compact_text said
-            → text ≡ spec.joined self.now (record { channel = channel.now; kind = kind.now; content = said })) }
+            → text ≡ compact_text (spec.message self.now.kernel self.now.request self.now.running (record { channel = channel.now; kind = kind.now; content = said }))) }
     {
         let msg_id = message_id(alloc, self.kernel.as_str(), self.running)?;
-        let room = content.len().saturating_add(MOST_TEXTS);
-        let mut text = text_with_room(alloc, room)?;
-        push_text(alloc, &mut text, "{\"channel\":", channel)?;
-        text.push_str(",\"content\":")?;
-        text.push_str(content)?;
-        push_text(alloc, &mut text, self.before_id.as_str(), msg_id.as_str())?;
-        push_text(alloc, &mut text, ",\"msg_type\":", kind)?;
-        text.push_str(self.after_type.as_str())?;
-        Ok(text)
+        let pieces = Pieces {
+            channel,
+            content,
+            before_id: self.before_id.as_str(),
+            msg_id: msg_id.as_str(),
+            msg_type: kind,
+            after_type: self.after_type.as_str(),
+        };
+        pieces.joined(alloc)
     }
 
     /// Adds a message that answers the request, with this JSON as its content. Also `Err` if a number or a length doesn't fit.
@@ -167,5 +149,13 @@ impl Outbox {
     {
         let content = content.to_string(alloc)?;
         self.say_json(alloc, channel, kind, content.as_str())
+    }
+
+    /// The frames so far, and the next running number.
+    pub fn into_frames(self) -> (Items<u8>, u64)
+        ensures bytes { result.0 ≡ self.entry.bytes }
+        ensures next { result.1 ≡ self.entry.running }
+    {
+        (self.bytes, self.running)
     }
 }

@@ -1,6 +1,9 @@
 use Rattle.std.proofs.Common.{◌≤◌, ◌+◌, length, refl, arith}
-use Rattle.py_show.proofs.Limiting.{one_more, some_past, all_told}
+use Rattle.py_show.proofs.Limiting.{one_more, some_past, all_told, surely_fits}
 use Rattle.py_show.proofs.quoted.quoted_fits.Goals as goal
+
+pub returns-then-text-room : goal.returns-then-text-room
+returns-then-text-room c = surely_fits c.args.text.now c.args.room c.if-room-ge2.true c.if-text-room.true
 
 pub returns-then-len-room : goal.returns-then-len-room
 returns-then-len-room c =

@@ -1,11 +1,17 @@
 use Rattle.std.proofs.Common.{◌∙◌, ◌++◌, ap, codes, decimal}
-use Rattle.reply_frames.proofs.Pieces.{joined_chain}
+use Rattle.std.proofs.lemmas.Result.{IfOk-weaker}
+use Rattle.serde_json.specs.Written.{compact_text}
+use Rattle.reply_frames.specs.Frames.{Outgoing, header_json, envelope, message}
 use Rattle.reply_frames.proofs.outbox.Outbox.joined.Goals as goal
 
 pub returns : goal.returns
-returns c said is =
-    joined_chain _ _ _ _ _ _ _ c.args.content.now _ _ _ (record { channel = c.args.channel.now; kind = c.args.kind.now; content = said }) c.args.self.now
-    is c.as_str-2.ensures
-    (c.as_str-3.ensures ∙ c.in_ok-msg_id.ensures ∙ ap (λ kernel. (kernel ++ codes "_") ++ decimal c.args.self.now.running) c.as_str.ensures) c.as_str-4.ensures
-    c.in_ok-text.ensures c.in_ok-push_text.ensures c.in_ok-push_str.ensures.ok c.in_ok-push_str-2.ensures.ok c.in_ok-push_text-2.ensures c.in_ok-push_text-3.ensures
-    c.in_ok-push_str-3.ensures.ok
+unfolding message
+returns c =
+    let name = c.self.inside.kernel in
+    let request = c.self.inside.request.now in
+    let id = c.as_str-3.ensures ∙ c.in_ok-msg_id.ensures ∙ ap (λ kernel. (kernel ++ codes "_") ++ decimal c.self.inside.running) c.as_str.ensures in
+    IfOk-weaker c.joined.result _ _ (λ text is content written.
+    is content request.date name (codes "kernel") name (header_json request) written (c.as_str-2.ensures ∙ c.self.invariant.0) (c.as_str-4.ensures ∙ c.self.invariant.1)
+    ∙ ap (λ msg_id. compact_text (envelope c.args.channel.now content
+    (record { msg_id = msg_id; username = codes "kernel"; session = name; date = request.date; msg_type = c.args.kind.now; version = codes "5.3" }) name (header_json request))) id
+    ∙ ap (λ (o : Outgoing). compact_text (message o.kernel o.request o.running (record { channel = c.args.channel.now; kind = c.args.kind.now; content = content }))) c.self.view_is) c.joined.ensures

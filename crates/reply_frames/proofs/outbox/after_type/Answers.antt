@@ -1,7 +1,0 @@
-use Rattle.reply_frames.proofs.Pieces.{after_chain}
-use Rattle.reply_frames.proofs.outbox.after_type.Goals as goal
-
-pub returns : goal.returns
-returns c =
-    after_chain _ _ _ _ _ _ _ c.args.kernel.now _ c.args.request.now c.of-parent.ensures c.in_ok-text.ensures c.in_ok-push_text.ensures c.in_ok-push_str.ensures.ok
-    c.in_ok-push_text-2.ensures c.in_ok-push_str-2.ensures.ok c.in_ok-push.ensures c.in_ok-push_str-3.ensures.ok
