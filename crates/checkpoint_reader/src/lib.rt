@@ -18,6 +18,3 @@ mod versions;
 pub use checkpoint::Checkpoint;
 pub use fault::CheckpointFault;
 pub use read::read_checkpoint;
-
-#[cfg(test)]
-mod tests;

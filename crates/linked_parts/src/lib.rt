@@ -14,8 +14,6 @@ mod listing;
 mod parts;
 mod references;
 mod search;
-#[cfg(test)]
-mod tests;
 
 pub use listing::parts_of;
 pub use parts::{Part, Parts};

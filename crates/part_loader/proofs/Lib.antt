@@ -1,3 +1,4 @@
 pub mod Moved
+pub mod Whole
 pub mod Binding
 pub mod Loads

@@ -3,9 +3,9 @@ ghost use Rattle.part_bytes.specs.Parts.{numbered_object};
 ghost use Rattle.replay_laws.specs.Copies.{higher_object, put_name, with_objects};
 ghost use Rattle.part_loader.specs.Loading as spec;
 
-use crate::moving::{Above, moved_object, moved_value};
+use crate::moving::{Above, into_moved, moved_value};
 use part_bytes::PartValue;
-use plain_data::Text;
+use plain_data::{Items, Text};
 use py_heap::{Object, State};
 use py_value::Value;
 use std::alloc::{AllocError, Global};
@@ -17,12 +17,12 @@ fn add_objects(
     alloc: Global,
     state: &mut State,
     above: &Above,
-    objects: &[Object],
+    objects: Items<Object>,
 ) -> Result<(), AllocError>
-    ensures { OnOk result (state.new ≡ with_objects (map (higher_object above.now.base) objects.now) state.old) }
+    ensures { OnOk result (state.new ≡ with_objects (map (higher_object above.now.base) objects) state.old) }
 {
-    for object in objects {
-        state.add(moved_object(alloc, above, object)?)?;
+    for object in objects.into_vec() {
+        state.add(into_moved(alloc, above, object)?)?;
     }
     Ok(())
 }
@@ -69,17 +69,17 @@ fn put_all(
     Ok(())
 }
 
-/// Loads a part: puts its objects after those that there are, and gives its names what they have in it.
-pub fn load(alloc: Global, state: &mut State, part: &PartValue) -> Result<(), AllocError>
-    ensures { OnOk result (state.new ≡ spec.loaded part.now state.old) }
+/// Loads a part: puts its objects after those that there are, and gives its names what they have in it. An object without
+/// references isn't copied.
+pub fn load(alloc: Global, state: &mut State, part: PartValue) -> Result<(), AllocError>
+    ensures { OnOk result (state.new ≡ spec.loaded part state.old) }
 {
+    let PartValue {
+        names,
+        values,
+        objects,
+    } = part;
     let above = Above { base: state.len() };
-    add_objects(alloc, state, &above, part.objects.as_slice())?;
-    put_all(
-        alloc,
-        state,
-        &above,
-        part.names.as_slice(),
-        part.values.as_slice(),
-    )
+    add_objects(alloc, state, &above, objects)?;
+    put_all(alloc, state, &above, names.as_slice(), values.as_slice())
 }

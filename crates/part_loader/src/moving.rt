@@ -1,7 +1,9 @@
 //! Values and objects whose references are to other addresses.
 
 ghost use Rattle.std.specs.Prelude.{ℕ, ◌≡◌, ◌+◌, map, IfOk};
+ghost use Rattle.std.specs.List.{list_any};
 ghost use Rattle.part_bytes.specs.Parts.{number_in, numbered, numbered_pair, numbered_object};
+ghost use Rattle.part_loader.specs.References as spec;
 
 use part_bytes::Numbers;
 use plain_data::Items;
@@ -85,6 +87,42 @@ fn moved_pairs<P: Addresses>(alloc: Global, addresses: &P, dict: &Dict) -> Resul
     Ok(moved)
 }
 
+/// Whether the value is a reference.
+fn is_reference(value: &Value) -> bool
+    ensures { result ≡ spec.is_reference value.now }
+{
+    matches!(value, Value::Ref(_))
+}
+
+fn any_reference(values: &[Value]) -> bool
+    ensures { result ≡ list_any spec.is_reference values.now }
+{
+    values.iter().any(|value| is_reference(value))
+}
+
+fn any_reference_under_a_key(dict: &Dict) -> bool
+    ensures { result ≡ list_any (λ pair. spec.is_reference pair.1) dict.now }
+{
+    for index in 0..dict.len() {
+        let (_, value) = dict.pair_at(index);
+        if is_reference(value) {
+            return true;
+        }
+    }
+    false
+}
+
+/// Whether the object has a reference.
+fn refers(object: &Object) -> bool
+    ensures { result ≡ spec.refers object.now }
+{
+    match object {
+        Object::List(items) => any_reference(items.as_slice()),
+        Object::Dict(dict) => any_reference_under_a_key(dict),
+        Object::Function(_) | Object::Handle { .. } => false,
+    }
+}
+
 pub(crate) fn moved_object<P: Addresses>(
     alloc: Global,
     addresses: &P,
@@ -101,4 +139,19 @@ pub(crate) fn moved_object<P: Addresses>(
             uses: *uses,
         }),
     }
+}
+
+/// The object with new addresses. One without references is as it was, and isn't copied.
+#[tactic(auto, using(crate::proofs::Whole::without_references))]
+pub(crate) fn into_moved<P: Addresses>(
+    alloc: Global,
+    addresses: &P,
+    object: Object,
+) -> Result<Object, AllocError>
+    ensures { IfOk result (λ moved. moved ≡ numbered_object (P.goes_to addresses.now) object) }
+{
+    if refers(&object) {
+        return moved_object(alloc, addresses, &object);
+    }
+    Ok(object)
 }

@@ -8,8 +8,6 @@ mod fault;
 mod objects;
 mod part;
 mod spot;
-#[cfg(test)]
-mod tests;
 mod values;
 
 pub use fault::PartFault;

@@ -5,8 +5,6 @@ mod frames;
 mod handles;
 mod ints;
 mod lengths;
-#[cfg(test)]
-mod tests;
 
 pub use frames::{frame_of, not_called, returned};
 pub use handles::{handle_called, tell_called};

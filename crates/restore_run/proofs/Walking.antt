@@ -28,8 +28,8 @@ use Rattle.read_runs.specs.Reading.{read}
 use Rattle.replay_laws.specs.Walks.{IsLoaded, Passes, GivesBack, GivesAllBack, goes_on}
 use Rattle.part_loader.specs.Loading.{state_of, loaded}
 use Rattle.part_loader.proofs.Loads.{AreDistinct, never_descending_distinct, part_loaded}
-use Rattle.restore_run.specs.Restoring.{IsSound, IsWalked, part_for, copies}
-use Rattle.restore_run.specs.Walking.{CopiedAt, OnCopiedAt, IsBetween}
+use Rattle.restore_run.specs.Restoring.{IsSound, IsWalked, no_part, part_for, copies}
+use Rattle.restore_run.specs.Walking.{CopiedAt, OnCopiedAt, IsBetween, AreLeft}
 use Rattle.restore_run.proofs.Referring.{read_of_itself}
 
 -- ---- lists
@@ -122,6 +122,11 @@ part_here (n ∷ ns) (q ∷ ps) (suc i) v p r e f =
     let below = rises-head n ns r i 0 l in
     let other = ne_eqb n v (λ same. let no : ⊥ = omega (arith, at, below, same) in no) in
     rw other (part_here ns ps i v p (rises-tail n ns r) e f)
+
+-- the part at an index is taken, and those after it are left
+pub taken : (k : Checkpoint) (n : ℕ) (p : PartValue) (parts now : List PartValue) → AreLeft k n parts → slice_get parts n ≡ Some p
+    → ((i : ℕ) → n < i → slice_get now i ≡ slice_get parts i) → (slice_get k.parts n ≡ Some p) × AreLeft k (n + 1) now
+taken k n p parts now left at others = (sym (left n (omega arith)) ∙ at, λ i l. others i (omega (arith, l)) ∙ left i (omega (arith, l)))
 
 module _ (k : Checkpoint) (sound : IsSound k) where
   abbrev g : Graph
@@ -267,7 +272,7 @@ module _ (k : Checkpoint) (sound : IsSound k) where
 
   -- ---- the copied version at an index
 
-  module _ (ns : List ℕ) (vs : List Version) (ps : List PartValue) (is_copied : ns ≡ cs) (are_versions : vs ≡ g.versions) (are_parts : ps ≡ k.parts) (n : ℕ) (l : n < length cs) where
+  module _ (ns : List ℕ) (vs : List Version) (is_copied : ns ≡ cs) (are_versions : vs ≡ g.versions) (n : ℕ) (l : n < length cs) where
     copied_here : slice_get cs n ≡ Some (get_or ns n 0)
     copied_here = slice_get-get_or cs n 0 l ∙ ap (λ (ms : List ℕ). Some (get_or ms n 0)) (sym is_copied)
 
@@ -292,13 +297,13 @@ module _ (k : Checkpoint) (sound : IsSound k) where
       ),
     )
 
-    pub part_within : n < length ps
-    part_within =
+    part_here_at : slice_get k.parts n ≡ Some (get_or k.parts n no_part)
+    part_here_at =
         let many = zip_long (IsCopyAt g.versions) cs k.parts sound.restorable.copies in
-        subst (λ (qs : List PartValue). n < length qs) (sym are_parts) (omega (arith, many, l))
+        slice_get-get_or k.parts n no_part (omega (arith, many, l))
 
-    pub part_at : (p : PartValue) → p ≡ get_or ps n p → slice_get k.parts n ≡ Some p
-    part_at p is = subst (λ (qs : List PartValue). slice_get qs n ≡ Some p) are_parts (slice_get-get_or ps n p part_within ∙ ap (λ (q : PartValue). Some q) (sym is))
+    pub left_within : (parts : List PartValue) → AreLeft k n parts → n < length parts
+    left_within parts left = slice_get_within parts n (get_or k.parts n no_part) (left n (omega arith) ∙ part_here_at)
 
     -- there are fewer than 2^32 of them
     far : (xs : List ℕ) → Rises xs → (i : ℕ) → i < length xs → i ≤ get_or xs i 0

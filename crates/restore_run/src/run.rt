@@ -54,9 +54,9 @@ fn restored(alloc: Global, state: State, host: u32, graph: Graph) -> Result<Rest
 /// Restores a session from the bytes of a checkpoint, on a host: the cells that its plan runs again are run, and what it copies is
 /// loaded. The answer is a state that has all that the checkpoint's graph says, or the first fault.
 ///
-/// Nothing of what cells print is kept. Memory beside the state: until the walk ends the checkpoint's parts, and the trees of at most
-/// 100 codes of at most 1,000 bytes each, which aren't read again if they come again; and then the state once more while its objects
-/// are numbered.
+/// Nothing of what cells print is kept. Memory beside the state: until the walk ends the checkpoint's parts that it hasn't come to, and
+/// the trees of at most 100 codes of at most 1,000 bytes each, which aren't read again if they come again; and then the state once
+/// more while its objects are numbered.
 pub fn restore(alloc: Global, bytes: &[u8], host: u32) -> Result<Restored, RestoreFault>
     ensures restored { IfOk result (IsRestoredOn bytes.now host) }
     ensures fault { IfErr result (λ f. f ≢ RestoreFault.OutOfMemory → IsRestoreFault bytes.now f) }
@@ -66,13 +66,14 @@ pub fn restore(alloc: Global, bytes: &[u8], host: u32) -> Result<Restored, Resto
         Err(CheckpointFault::OutOfMemory) => return Err(RestoreFault::OutOfMemory),
         Err(fault) => return Err(RestoreFault::Checkpoint(fault)),
     };
-    let kernel = walk(alloc, &read, host)?;
     let Checkpoint {
         count,
         meter,
         graph,
-        ..
+        plan,
+        parts,
     } = read;
+    let kernel = walk(alloc, &graph, &plan, parts, host)?;
     let Kernel { state, .. } = kernel;
     let state = finished(alloc, state, count, meter)?;
     restored(alloc, state, host, graph)

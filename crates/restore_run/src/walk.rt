@@ -9,15 +9,16 @@ ghost use Rattle.read_runs.specs.Reading as reading;
 ghost use Rattle.replay_laws.specs.Walks.{done_again, Passes, GivesBack, GivesAllBack};
 ghost use Rattle.part_loader.specs.Loading.{loaded};
 ghost use Rattle.restore_run.specs.Restoring.{IsSound, copies, IsWalked, DrawsAgain};
-ghost use Rattle.restore_run.specs.Walking.{IsBetween, OnCopiedAt};
+ghost use Rattle.restore_run.specs.Walking.{IsBetween, OnCopiedAt, AreLeft};
+ghost use Rattle.checkpoint_reader.specs.declared.checkpoint.Checkpoint.{Checkpoint};
 
 use crate::again::{Ran, run_again};
 use crate::fault::RestoreFault;
-use checkpoint_reader::Checkpoint;
-use graph_model::{CellRecord, Version};
+use graph_model::{CellRecord, Graph, Plan, Version};
 use kept_trees::Trees;
 use part_bytes::PartValue;
 use part_loader::load;
+use plain_data::Items;
 use py_heap::State;
 use py_kernel::Kernel;
 use std::alloc::{AllocError, Global};
@@ -35,20 +36,22 @@ fn pass(
     alloc: Global,
     kernel: &mut Kernel,
     trees: &mut Trees,
-    read: &Checkpoint,
+    plan: &Plan,
     number: u32,
     cell: &CellRecord,
 ) -> Result<(), RestoreFault>
-    requires sound { IsSound read.now }
-    requires at { CellAt read.now.graph number cell.now }
+    ghost k: { Checkpoint }
+    requires sound { IsSound k }
+    requires plan { plan.now ≡ k.plan }
+    requires at { CellAt k.graph number cell.now }
     requires closed { IsClosed kernel.old.state }
-    ensures passes { OnOk result (Passes reading.read read.now.graph read.now.plan number kernel.old.state kernel.new.state) }
+    ensures passes { OnOk result (Passes reading.read k.graph k.plan number kernel.old.state kernel.new.state) }
     ensures closed { OnOk result (IsClosed kernel.new.state) }
     ensures fault { IfErr result (λ f. (f ≡ RestoreFault.OutOfMemory)
-        ⊎ ((f ≡ RestoreFault.DrewAgain number) × Contains read.now.plan.rerun number × Asks (done_again reading.read cell.now kernel.old.state))) }
+        ⊎ ((f ≡ RestoreFault.DrewAgain number) × Contains k.plan.rerun number × Asks (done_again reading.read cell.now kernel.old.state))) }
     ensures host { kernel.new.host ≡ kernel.old.host }
 {
-    if !has(read.plan.rerun.as_slice(), number) {
+    if !has(plan.rerun.as_slice(), number) {
         return Ok(());
     }
     match run_again(alloc, kernel, trees, cell)? {
@@ -62,9 +65,9 @@ fn give(
     alloc: Global,
     state: &mut State,
     version: &Version,
-    part: &PartValue,
+    part: PartValue,
 ) -> Result<(), AllocError>
-    ensures present { version.now.absent ≡ false → OnOk result (state.new ≡ loaded part.now state.old) }
+    ensures present { version.now.absent ≡ false → OnOk result (state.new ≡ loaded part state.old) }
     ensures absent { version.now.absent ≡ true → (name : List ℕ) → version.now.names ≡ name ∷ [] → OnOk result (state.new ≡ without_name state.old name) }
 {
     if !version.absent {
@@ -76,27 +79,51 @@ fn give(
     Ok(())
 }
 
-/// Gives back the copied version at index `next`, if the cell with that number wrote it. Says whether that cell did.
+/// The part at that index, which is taken out.
+fn take_part(alloc: Global, parts: &mut Items<PartValue>, at: usize) -> PartValue
+    requires { at < length parts.old }
+    ensures part { slice_get parts.old at ≡ Some result }
+    ensures left { (i : ℕ) → at < i → slice_get parts.new i ≡ slice_get parts.old i }
+{
+    let none = PartValue {
+        names: Items::new(alloc),
+        values: Items::new(alloc),
+        objects: Items::new(alloc),
+    };
+    parts.replace(at, none)
+}
+
+/// Gives back the copied version at index `next`, if the cell with that number wrote it, and takes its part for it. Says whether
+/// that cell did.
 fn give_next(
     alloc: Global,
     state: &mut State,
-    read: &Checkpoint,
+    graph: &Graph,
+    plan: &Plan,
+    parts: &mut Items<PartValue>,
     number: u32,
     next: usize,
 ) -> Result<bool, AllocError>
-    requires sound { IsSound read.now }
-    requires within { next < length read.now.plan.copied }
+    ghost k: { Checkpoint }
+    requires sound { IsSound k }
+    requires graph { graph.now ≡ k.graph }
+    requires plan { plan.now ≡ k.plan }
+    requires left { AreLeft k next parts.old }
+    requires within { next < length k.plan.copied }
     requires closed { IsClosed state.old }
-    ensures yes { result ≡ Ok true → OnCopiedAt read.now next (λ v x. (x.writer ≡ number) × GivesBack (copies read.now) v x state.old state.new) }
-    ensures no { result ≡ Ok false → (state.new ≡ state.old) × OnCopiedAt read.now next (λ v x. x.writer ≢ number) }
+    ensures yes { result ≡ Ok true → OnCopiedAt k next (λ v x. (x.writer ≡ number) × GivesBack (copies k) v x state.old state.new) }
+    ensures no { result ≡ Ok false → (state.new ≡ state.old) × OnCopiedAt k next (λ v x. x.writer ≢ number) }
+    ensures left { result ≡ Ok true → AreLeft k (next + 1) parts.new }
+    ensures same { result ≡ Ok false → parts.new ≡ parts.old }
     ensures closed { OnOk result (IsClosed state.new) }
 {
-    let v = read.plan.copied.as_slice()[next];
-    let version = &read.graph.versions.as_slice()[v as usize - 1];
+    let v = plan.copied.as_slice()[next];
+    let version = &graph.versions.as_slice()[v as usize - 1];
     if version.writer != number {
         return Ok(false);
     }
-    give(alloc, state, version, &read.parts.as_slice()[next])?;
+    let part = take_part(alloc, parts, next);
+    give(alloc, state, version, part)?;
     Ok(true)
 }
 
@@ -105,21 +132,28 @@ fn give_next(
 fn give_back(
     alloc: Global,
     state: &mut State,
-    read: &Checkpoint,
+    graph: &Graph,
+    plan: &Plan,
+    parts: &mut Items<PartValue>,
     number: u32,
     from: usize,
 ) -> Result<usize, AllocError>
-    requires sound { IsSound read.now }
-    requires between { (c : ℕ) → number ≡ c + 1 → IsBetween read.now c from }
+    ghost k: { Checkpoint }
+    requires sound { IsSound k }
+    requires graph { graph.now ≡ k.graph }
+    requires plan { plan.now ≡ k.plan }
+    requires left { AreLeft k from parts.old }
+    requires between { (c : ℕ) → number ≡ c + 1 → IsBetween k c from }
     requires above { 0 < number }
     requires closed { IsClosed state.old }
-    ensures gives { OnOk result (GivesAllBack (copies read.now) read.now.graph number read.now.plan.copied state.old state.new) }
-    ensures between { IfOk result (IsBetween read.now number) }
+    ensures gives { OnOk result (GivesAllBack (copies k) k.graph number k.plan.copied state.old state.new) }
+    ensures between { IfOk result (IsBetween k number) }
+    ensures left { IfOk result (λ next. AreLeft k next parts.new) }
     ensures closed { OnOk result (IsClosed state.new) }
 {
     let mut next = from;
-    while next < read.plan.copied.len() {
-        let given = give_next(alloc, state, read, number, next)?;
+    while next < plan.copied.len() {
+        let given = give_next(alloc, state, graph, plan, parts, number, next)?;
         if !given {
             return Ok(next);
         }
@@ -130,21 +164,40 @@ fn give_back(
 
 /// Walks over the cells of a checkpoint, from the empty state: runs those that the plan runs again, and after each cell gives back the
 /// copied versions that it wrote.
-pub(crate) fn walk(alloc: Global, read: &Checkpoint, host: u32) -> Result<Kernel, RestoreFault>
-    requires { IsSound read.now }
-    ensures walked { IfOk result (λ kernel. IsWalked read.now (length read.now.graph.cells) kernel.state) }
+pub(crate) fn walk(
+    alloc: Global,
+    graph: &Graph,
+    plan: &Plan,
+    parts: Items<PartValue>,
+    host: u32,
+) -> Result<Kernel, RestoreFault>
+    ghost k: { Checkpoint }
+    requires sound { IsSound k }
+    requires graph { graph.now ≡ k.graph }
+    requires plan { plan.now ≡ k.plan }
+    requires parts { parts ≡ k.parts }
+    ensures walked { IfOk result (λ kernel. IsWalked k (length k.graph.cells) kernel.state) }
     ensures closed { IfOk result (λ kernel. IsClosed kernel.state) }
     ensures host { IfOk result (λ kernel. kernel.host ≡ host) }
-    ensures fault { IfErr result (λ f. (f ≡ RestoreFault.OutOfMemory) ⊎ ((c : ℕ) × (f ≡ RestoreFault.DrewAgain c) × DrawsAgain read.now c)) }
+    ensures fault { IfErr result (λ f. (f ≡ RestoreFault.OutOfMemory) ⊎ ((c : ℕ) × (f ≡ RestoreFault.DrewAgain c) × DrawsAgain k c)) }
 {
-    let cells = read.graph.cells.as_slice();
+    let cells = graph.cells.as_slice();
+    let mut left = parts;
     let mut kernel = Kernel::new(alloc, host);
     let mut trees = Trees::new(alloc);
     let mut next = 0;
     for index in 0..cells.len() {
         let number = index as u32 + 1;
-        pass(alloc, &mut kernel, &mut trees, read, number, &cells[index])?;
-        next = give_back(alloc, &mut kernel.state, read, number, next)?;
+        pass(alloc, &mut kernel, &mut trees, plan, number, &cells[index])?;
+        next = give_back(
+            alloc,
+            &mut kernel.state,
+            graph,
+            plan,
+            &mut left,
+            number,
+            next,
+        )?;
     }
     Ok(kernel)
 }

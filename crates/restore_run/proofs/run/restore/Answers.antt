@@ -1,5 +1,6 @@
 use Rattle.std.proofs.Common.{refl}
-use Rattle.restore_run.proofs.Finishing.{restored_on, fault_of}
+use Rattle.std.proofs.lemmas.Result.{err_from_is_err_and}
+use Rattle.restore_run.proofs.Finishing.{restored_on, fault_of, stopped_early}
 use Rattle.restore_run.proofs.run.restore.Goals as goal
 
 pub returns-clause-restored : goal.returns-clause-restored
@@ -11,3 +12,8 @@ pub returns-clause-fault : goal.returns-clause-fault
 returns-clause-fault c =
     let k = c.in-Ok.read in
     fault_of c.args.bytes.now k c.in_ok-kernel.kernel.state c.in_ok-state.state (c.in-Ok.ensures.exact refl) c.in_ok-kernel.ensures.walked c.in_ok-state.ensures.tidied c.restored.result c.restored.ensures.fault
+
+pub returns-in_err-kernel-clause-fault : goal.returns-in_err-kernel-clause-fault
+returns-in_err-kernel-clause-fault c =
+    let p = err_from_is_err_and c.from_residual.result c.from_residual.ensures.1 in
+    rw (p.1, p.2) (stopped_early c.args.bytes.now c.in-Ok.read c.in_err-kernel.field-0.0 (c.in-Ok.ensures.exact refl) c.in_err-kernel.ensures.fault)
