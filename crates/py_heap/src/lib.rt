@@ -15,6 +15,8 @@ mod objects;
 mod reach;
 mod search;
 mod state;
+#[cfg(test)]
+mod tests;
 
 pub use dict::Dict;
 pub use function::Function;
