@@ -4,3 +4,6 @@ pub mod Numbers
 pub mod Growing
 pub mod Plans
 pub mod Sizes
+pub mod PartTurns
+pub mod PartNames
+pub mod WholeParts

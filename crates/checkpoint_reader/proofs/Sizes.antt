@@ -16,11 +16,11 @@ use Rattle.py_value.specs.declared.value.Value.TheVariants as the_value
 use Rattle.py_heap.specs.declared.heap.Object.{Object}
 use Rattle.py_heap.specs.Dicts.{Pairs, value_under}
 use Rattle.part_bytes.specs.declared.part.PartValue.{PartValue}
-use Rattle.part_reader.specs.declared.fault.PartFault.{PartFault}
-use Rattle.part_reader.specs.declared.fault.PartFault.TheVariants.{BadTag, BadRef, BadKey, BadName, BadText}
-use Rattle.part_reader.specs.declared.spot.Spot.{Spot}
-use Rattle.part_reader.specs.Reads.{Answer, Read, pure, fail, place, after, ◌>>=◌, more}
-use Rattle.part_reader.specs.Reading.{follows, referred_to, builtin_of, builtin_at, function_of, is_object_tag, bounded, taken, byte, four, sixteen, text, name, key_by, reference, builtin, value_by, value, held, pair_with, pair, list, dict, function, content, object_by, object, objects, names, values, part, start, with_size, part_read}
+use Rattle.checkpoint_reader.specs.declared.part_fault.PartFault.{PartFault}
+use Rattle.checkpoint_reader.specs.declared.part_fault.PartFault.TheVariants.{BadTag, BadRef, BadKey, BadName, BadText}
+use Rattle.checkpoint_reader.specs.declared.spot.Spot.{Spot}
+use Rattle.checkpoint_reader.specs.PartReads.{Answer, Read, pure, fail, place, after, ◌>>=◌, more}
+use Rattle.checkpoint_reader.specs.PartReading.{follows, referred_to, builtin_of, builtin_at, function_of, is_object_tag, bounded, taken, byte, four, sixteen, text, name, key_by, reference, builtin, value_by, value, held, pair_with, pair, list, dict, function, content, object_by, object, objects, names, values, part, start, with_size, part_read}
 
 module _ (bytes : List ℕ) where
   -- an answer that goes on goes on within the bytes

@@ -9,8 +9,8 @@ use Rattle.py_value.specs.declared.value.Value.{Value}
 use Rattle.graph_model.specs.declared.graph.CellRecord.{CellRecord}
 use Rattle.graph_model.specs.declared.graph.Version.{Version}
 use Rattle.part_bytes.specs.declared.part.PartValue.{PartValue}
-use Rattle.part_reader.specs.declared.fault.PartFault.{PartFault}
-use Rattle.part_reader.specs.Reading.{part_read}
+use Rattle.checkpoint_reader.specs.declared.part_fault.PartFault.{PartFault}
+use Rattle.checkpoint_reader.specs.PartReading.{part_read}
 use Rattle.checkpoint_reader.specs.declared.fields.Cells.{Cells}
 use Rattle.checkpoint_reader.specs.declared.fields.Versions.{Versions}
 use Rattle.checkpoint_reader.specs.declared.fields.Fields.{Fields}

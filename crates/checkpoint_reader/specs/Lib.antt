@@ -2,3 +2,5 @@ pub mod Reads
 pub mod Fields
 pub mod Numbered
 pub mod Judging
+pub mod PartReads
+pub mod PartReading

@@ -1,5 +1,5 @@
+use crate::PartFault;
 use graph_model::GraphFault;
-use part_reader::PartFault;
 use plan_model::Item;
 use std::alloc::AllocError;
 use std::error::Error;

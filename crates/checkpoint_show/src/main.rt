@@ -10,10 +10,10 @@
 #![tactic(auto)]
 
 use anyhow::{Result, bail};
+use checkpoint_commands::fault_line;
 use checkpoint_reader::{Checkpoint, CheckpointFault, read_checkpoint};
 use nb_outside::status;
 use plain_data::Text;
-use plan_command::fault_line;
 use std::alloc::Global;
 use std::io::Read;
 use std::process::ExitCode;

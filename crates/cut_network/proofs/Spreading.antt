@@ -6,8 +6,7 @@ use Rattle.std.proofs.lemmas.Bool.{cases_eq, or_left, or_right, or_cases, and_pa
 use Rattle.std.proofs.lemmas.List.Folds.{Any-from_list_any, list_any-from_Any}
 use Rattle.graph_model.specs.declared.graph.Version.{Version}
 use Rattle.graph_model.specs.declared.graph.Graph.{Graph}
-use Rattle.graph_model.specs.Graphs.{IsActive, ReadsOldOf, Needs}
-use Rattle.graph_model.specs.Graphs.{writer, before}
+use Rattle.graph_model.specs.Graphs.{IsActive, ReadsOldOf, Needs, writer, before}
 use Rattle.graph_model.specs.Faults.{IsGraph}
 use Rattle.graph_model.specs.Networks.{actives, old_writers}
 use Rattle.graph_model.proofs.Needing.{reads_old_before}

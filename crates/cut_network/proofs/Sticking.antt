@@ -7,15 +7,13 @@ use Rattle.std.proofs.lemmas.List.Elements.{Contains-get_or}
 use Rattle.flow_model.specs.First.{IsFirst}
 use Rattle.graph_model.specs.declared.graph.Version.{Version}
 use Rattle.graph_model.specs.declared.graph.Graph.{Graph}
-use Rattle.graph_model.specs.Graphs.{VersionAt, ReadsOldOf, Needs, IsStuck, IsFirstStuck}
-use Rattle.graph_model.specs.Graphs.{writer, before}
+use Rattle.graph_model.specs.Graphs.{VersionAt, ReadsOldOf, Needs, IsStuck, IsFirstStuck, writer, before}
 use Rattle.graph_model.specs.Faults.{IsGraph}
 use Rattle.graph_model.specs.Marks.{IsMarked}
 use Rattle.graph_model.proofs.Lookups.{same_version, version_within, cell_within}
 use Rattle.graph_model.proofs.Needing.{reads_old_before}
 use Rattle.plan_model.proofs.Ascents.{Rises, rises-upto}
-use Rattle.cut_network.specs.Drawn.{HasDrawn, LeadsTo}
-use Rattle.cut_network.specs.Drawn.{itself, further}
+use Rattle.cut_network.specs.Drawn.{HasDrawn, LeadsTo, itself, further}
 
 -- the first index of a rising list at which a fact holds has the least such number
 pub first_at : (P : ℕ → Type 0) (xs : List ℕ) (i : ℕ) → Rises xs → i < length xs → ((k d : ℕ) → k < i → P (get_or xs k d) → ⊥) → P (get_or xs i 0)

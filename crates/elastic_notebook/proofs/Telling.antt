@@ -6,7 +6,7 @@ use Rattle.nb_outside.specs.Streams.{Adds, Takes, IsAtEnd}
 use Rattle.restore_run.specs.declared.fault.RestoreFault.{RestoreFault}
 use Rattle.restore_run.specs.declared.fault.RestoreFault.TheVariants as fault
 use Rattle.restore_run.specs.Restoring.{IsRestoreFault}
-use Rattle.restore_command.specs.Told.{status_of}
+use Rattle.checkpoint_commands.specs.Told.{status_of}
 use Rattle.elastic_notebook.specs.declared.say.Question.{Question}
 use Rattle.elastic_notebook.specs.declared.say.Question.TheVariants.{Plan, Restore}
 use Rattle.node_run.specs.Frames.{AddsFront}

@@ -2,8 +2,8 @@
 use Rattle.std.specs.Prelude.{◌≡◌, ℕ, Bool, ◌||◌, ◌==◌, IsTrue, List, [], ◌++◌, Option, Some, None}
 use Rattle.nb_outside.specs.Streams.{Adds}
 use Rattle.plan_model.specs.Weighing.{AreSmall}
-use Rattle.plan_command.specs.Said.{IsSaid}
-use Rattle.restore_command.specs.Told.{IsToldOf}
+use Rattle.checkpoint_commands.specs.Said.{IsSaid}
+use Rattle.checkpoint_commands.specs.Told.{IsToldOf}
 use Rattle.elastic_notebook.specs.declared.say.Question.{Question}
 use Rattle.elastic_notebook.specs.declared.say.Question.TheVariants.{Plan, Restore}
 use Rattle.node_run.specs.Frames.{AddsFront}

@@ -3,11 +3,10 @@ ghost use Rattle.nb_outside.specs.Counts.{HasRisen, HasRisenBy};
 ghost use Rattle.elastic_notebook.specs.Saying.{IsAsked, IsAnswered, Says, SaysTold};
 
 use crate::streams::{ReadingEnd, read_all};
+use checkpoint_commands::{Said, planned, restored};
 use graph_model::Weights;
 use nb_outside::{Sink, Source, status};
 use node_run::write_all;
-use plan_command::{Said, planned};
-use restore_command::restored;
 use std::alloc::{AllocError, Global};
 
 /// What is asked of a checkpoint.

@@ -6,3 +6,5 @@ pub mod Writing
 pub mod Histories
 pub mod Listed
 pub mod SameTexts
+pub mod Names
+pub mod Valid

@@ -1,1 +1,2 @@
 pub mod Existence
+pub mod Reading

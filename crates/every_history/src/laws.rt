@@ -7,7 +7,7 @@ ghost use Rattle.linked_parts.specs.Parts.{HasValue};
 ghost use Rattle.run_graph.specs.Histories.{Run};
 ghost use Rattle.run_graph.specs.Soundness.{Reader, IsRun};
 ghost use Rattle.run_graph.specs.RunLists.{Entry, IsRunList, run_of};
-ghost use Rattle.read_runs.specs.Reading.{read};
+ghost use Rattle.every_history.specs.Reading.{read};
 ghost use Rattle.every_history.specs.Existence.{IsInAPart, HasNext, HasHistory, HasSoundHistory};
 
 /// In a closed state each name with a value is in a part.

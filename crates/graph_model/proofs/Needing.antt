@@ -6,8 +6,7 @@ use Rattle.std.proofs.lemmas.List.{get_or-set_same, get_or-set_other, get_or_pas
 use Rattle.std.proofs.lemmas.List.Elements.{Contains-push, Contains-push_cases, Contains-append_left, Contains-get_or}
 use Rattle.graph_model.specs.declared.graph.Version.{Version}
 use Rattle.graph_model.specs.declared.graph.Graph.{Graph}
-use Rattle.graph_model.specs.Graphs.{VersionAt, ReadsOldOf, Needs}
-use Rattle.graph_model.specs.Graphs.{writer, before}
+use Rattle.graph_model.specs.Graphs.{VersionAt, ReadsOldOf, Needs, writer, before}
 use Rattle.graph_model.specs.Faults.{Ascends, IsGraph}
 use Rattle.graph_model.specs.Marks.{IsMarked, WroteOld, WroteOldOf}
 use Rattle.graph_model.proofs.Lookups.{same_version, cell_within}

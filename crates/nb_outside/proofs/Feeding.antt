@@ -1,12 +1,12 @@
 -- What draws make of a feed.
-use Rattle.std.proofs.Common.{◌≡◌, ℕ, ◌+◌, ◌≤◌, List, [], ◌∷◌, ◌++◌, Option, Some, None, refl, ap, sym, append_assoc, ◌∙◌, subst, ◌⊎◌, inl, inr, arith}
+use Rattle.std.proofs.Common.{◌≡◌, ℕ, zero, suc, ◌+◌, ◌<◌, ◌≤◌, List, [], ◌∷◌, ◌++◌, Option, Some, None, refl, ap, sym, append_assoc, ◌∙◌, subst, ◌⊎◌, inl, inr, arith}
 use Rattle.std.specs.Prelude.{replicate, Contains}
 use Rattle.std.proofs.lemmas.List.{replicate-append-replicate, append-nil}
 use Rattle.std.proofs.lemmas.List.Elements.{Contains-append_cases, Contains-push_cases}
 use Rattle.nb_outside.specs.declared.feed.Drawn.{Drawn}
 use Rattle.nb_outside.specs.declared.feed.Drawn.TheVariants.{Failed}
 use Rattle.nb_outside.specs.Counts.{HasRisen}
-use Rattle.nb_outside.specs.Feeds.{Seen, IsNext, Gives, AreTaken, Fed}
+use Rattle.nb_outside.specs.Feeds.{Seen, IsNext, Gives, AreFirst, AreTaken, Fed}
 
 -- ---- faults
 
@@ -27,7 +27,17 @@ fails xs ys a b c h k f g (inr new) = risen_after a b c h (g new)
 
 taken_none : (o : Option (List Drawn)) → AreTaken o [] o
 taken_none None = refl
-taken_none (Some answers) = (answers, 0, refl, append-nil answers)
+taken_none (Some answers) = (
+  answers,
+  refl,
+  record {
+    given = [];
+    failures = 0;
+    answers_are = refl;
+    drawn_are = refl;
+    none_left = λ k. absurd (omega (arith, k));
+  },
+)
 
 pub fed_none : (s : Seen) → Fed s [] s
 fed_none s = record {
@@ -41,8 +51,28 @@ fed_none s = record {
 
 taken_one : (l r : Option (List Drawn)) (d : Drawn) → IsNext l d r → AreTaken l (d ∷ []) r
 taken_one None r d h = h
-taken_one (Some []) r d h = ([], 1, h.1, ap (λ x. x ∷ []) (sym h.0))
-taken_one (Some (y ∷ ys)) r d h = (ys, 0, h.1, append-nil (y ∷ ys) ∙ ap (λ x. x ∷ ys) (sym h.0))
+taken_one (Some []) r d h = (
+  [],
+  h.1,
+  record {
+    given = [];
+    failures = 1;
+    answers_are = refl;
+    drawn_are = ap (λ x. x ∷ []) h.0;
+    none_left = λ k. refl;
+  },
+)
+taken_one (Some (y ∷ ys)) r d h = (
+  ys,
+  h.1,
+  record {
+    given = y ∷ [];
+    failures = 0;
+    answers_are = refl;
+    drawn_are = ap (λ x. x ∷ []) h.0;
+    none_left = λ k. absurd (omega (arith, k));
+  },
+)
 
 only_case : (d : Drawn) → Contains [] Failed ⊎ (d ≡ Failed) → d ≡ Failed
 only_case d (inl none) = absurd (omega (arith, none.1))
@@ -61,17 +91,41 @@ fed_one s t d g = record {
 
 -- ---- some draws after others
 
-joined : (answers xs ys more rest : List Drawn) (n m : ℕ) → answers ++ replicate n Failed ≡ xs ++ more → more ++ replicate m Failed ≡ ys ++ rest
-    → answers ++ replicate (n + m) Failed ≡ (xs ++ ys) ++ rest
-joined answers xs ys more rest n m e f =
-    ap (λ z. answers ++ z) (sym (replicate-append-replicate n m Failed)) ∙ sym (append_assoc answers (replicate n Failed) (replicate m Failed))
-    ∙ ap (λ z. z ++ replicate m Failed) e ∙ append_assoc xs more (replicate m Failed) ∙ ap (λ z. xs ++ z) f ∙ sym (append_assoc xs ys rest)
+both_empty : (xs ys : List Drawn) → xs ++ ys ≡ [] → (xs ≡ []) × (ys ≡ [])
+both_empty [] ys e = (refl, e)
+both_empty (x ∷ xs) ys e = cc
+
+-- the second draws come after all that was given, so if the first failed, the second do too
+joined : (answers xs ys more rest given next : List Drawn) (n m : ℕ) → answers ≡ given ++ more → xs ≡ given ++ replicate n Failed → (0 < n → more ≡ [])
+    → more ≡ next ++ rest → ys ≡ next ++ replicate m Failed → (0 < m → rest ≡ []) → AreFirst answers (xs ++ ys) rest
+joined answers xs ys more rest given next zero m a x none b y later = record {
+  given = given ++ next;
+  failures = m;
+  answers_are = a ∙ ap (λ z. given ++ z) b ∙ sym (append_assoc given next rest);
+  drawn_are = ap (λ z. z ++ ys) (x ∙ append-nil given) ∙ ap (λ z. given ++ z) y ∙ sym (append_assoc given next (replicate m Failed));
+  none_left = later;
+}
+joined answers xs ys more rest given next (suc n) m a x none b y later =
+    let spent : more ≡ [] = none (omega arith) in
+    let neither : (next ≡ []) × (rest ≡ []) = both_empty next rest (sym b ∙ spent) in
+    record {
+      given = given;
+      failures = suc n + m;
+      answers_are = a ∙ ap (λ z. given ++ z) (spent ∙ sym neither.1);
+      drawn_are = ap (λ z. z ++ ys) x ∙ ap (λ z. (given ++ replicate (suc n) Failed) ++ z) (y ∙ ap (λ z. z ++ replicate m Failed) neither.0)
+          ∙ append_assoc given (replicate (suc n) Failed) (replicate m Failed) ∙ ap (λ z. given ++ z) (replicate-append-replicate (suc n) m Failed);
+      none_left = λ k. neither.1;
+    }
 
 taken_more : (a b c : Option (List Drawn)) (xs ys : List Drawn) → AreTaken a xs b → AreTaken b ys c → AreTaken a (xs ++ ys) c
 taken_more None b c xs ys t u = subst (λ z. AreTaken z ys c) t u
-taken_more (Some answers) b c xs ys (more, n, is, e) u =
+taken_more (Some answers) b c xs ys (more, is, t) u =
     let next = subst (λ z. AreTaken z ys c) is u in
-    (next.0, n + next.1, next.2, joined answers xs ys more next.0 n next.1 e next.3)
+    let v = next.2 in (
+      next.0,
+      next.1,
+      joined answers xs ys more next.0 t.given v.given t.failures v.failures t.answers_are t.drawn_are t.none_left v.answers_are v.drawn_are v.none_left,
+    )
 
 pub fed_more : (a b c : Seen) (xs ys : List Drawn) → Fed a xs b → Fed b ys c → Fed a (xs ++ ys) c
 fed_more a b c xs ys f g = record {

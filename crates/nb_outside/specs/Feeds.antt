@@ -1,5 +1,5 @@
 -- What is seen of a feed, and what draws make of it.
-use Rattle.std.specs.Prelude.{◌≡◌, ℕ, ◌≤◌, List, [], ◌∷◌, ◌++◌, replicate, Contains, Option, Some, None}
+use Rattle.std.specs.Prelude.{◌≡◌, ℕ, ◌<◌, ◌≤◌, List, [], ◌∷◌, ◌++◌, replicate, Contains, Option, Some, None}
 use Rattle.nb_outside.specs.declared.feed.Drawn.{Drawn}
 use Rattle.nb_outside.specs.declared.feed.Drawn.TheVariants.{Failed}
 use Rattle.nb_outside.specs.Counts.{HasRisen}
@@ -27,10 +27,18 @@ pub record Gives (old : Seen) (drawn : Drawn) (new : Seen) : Type 0 where
 abbrev pub HasAll : Seen → Type 0
 HasAll seen = seen.left ≡ seen.made
 
--- these draws are the first of the answers left, and after them Failed alone
+-- these draws are the first of the answers, and after them Failed alone, which comes only if no answer is left
+pub record AreFirst (answers drawn left : List Drawn) : Type 0 where
+  pub given : List Drawn
+  pub failures : ℕ
+  pub answers_are : answers ≡ given ++ left
+  pub drawn_are : drawn ≡ given ++ replicate failures Failed
+  pub none_left : 0 < failures → left ≡ []
+
+-- of a feed with these answers left these draws were taken; a feed that doesn't tell goes on not telling
 abbrev pub AreTaken : Option (List Drawn) → List Drawn → Option (List Drawn) → Type 0
 AreTaken None drawn left = left ≡ None
-AreTaken (Some answers) drawn left = (more : List Drawn) × (n : ℕ) × (left ≡ Some more) × (answers ++ replicate n Failed ≡ drawn ++ more)
+AreTaken (Some answers) drawn left = (more : List Drawn) × (left ≡ Some more) × AreFirst answers drawn more
 
 -- since a feed was seen as at the start, just these draws were taken from it
 pub record Fed (start : Seen) (drawn : List Drawn) (now : Seen) : Type 0 where

@@ -7,7 +7,7 @@ use Rattle.std.proofs.lemmas.Bool.{eq-eqb, ne_eqb}
 use Rattle.std.proofs.lemmas.Bool.Decides.{eqb_tells}
 use Rattle.session_core.specs.declared.request.Request.{Request}
 use Rattle.reply_frames.specs.declared.node.NodeError.{NodeError}
-use Rattle.reply_frames.specs.Intake.{Taken, Node, session_of, with_request}
+use Rattle.node_intake.specs.Intake.{Taken, Node, session_of, with_request}
 use Rattle.node_intake.specs.declared.session.Session.{Session}
 use Rattle.node_intake.specs.Sessions.{taken_of, AreApart, IsAt}
 

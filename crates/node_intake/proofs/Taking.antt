@@ -9,7 +9,7 @@ use Rattle.nb_outside.specs.Streams.{Takes}
 use Rattle.jupyter_messages.specs.Reading.{message_in}
 use Rattle.jupyter_frames.specs.Framing.{frame, IsBody, IsRest, place_after, Held}
 use Rattle.jupyter_frames.specs.Turns.{nothing_held}
-use Rattle.reply_frames.specs.Intake.{Node, no_sessions, with_frames, with_message}
+use Rattle.node_intake.specs.Intake.{Node, no_sessions, with_frames, with_message}
 use Rattle.node_intake.specs.declared.session.TakenIn.{TakenIn}
 use Rattle.node_intake.specs.declared.session.IntakeEnd.{IntakeEnd}
 use Rattle.node_intake.specs.declared.session.IntakeEnd.TheVariants.{End, Failed, TooMany}

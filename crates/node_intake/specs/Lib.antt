@@ -1,2 +1,3 @@
 pub mod Sessions
 pub mod Taking
+pub mod Intake

@@ -1,6 +1,6 @@
 -- Sessions, as the definition of an intake has them.
 use Rattle.std.specs.Prelude.{◌≡◌, ℕ, List, [], ◌∷◌, map, slice_get, Some, None}
-use Rattle.reply_frames.specs.Intake.{Taken, session_of}
+use Rattle.node_intake.specs.Intake.{Taken, session_of}
 use Rattle.node_intake.specs.declared.session.Session.{Session}
 
 abbrev pub taken_of : Session → Taken

@@ -3,7 +3,7 @@ use Rattle.std.specs.Prelude.{◌≡◌, ◌≢◌, ℕ, ◌⊎◌, Bool, true, 
 use Rattle.std.specs.List.{flat_map, AllByRecursion}
 use Rattle.nb_outside.specs.Streams.{IsAtEnd}
 use Rattle.jupyter_frames.specs.Framing.{frame, IsBody, IsBegun, IsBad, IsRest, stream, place_after, Held}
-use Rattle.reply_frames.specs.Intake.{Node, no_sessions, with_frames}
+use Rattle.node_intake.specs.Intake.{Node, no_sessions, with_frames}
 use Rattle.node_intake.specs.declared.session.TakenIn.{TakenIn}
 use Rattle.node_intake.specs.declared.session.IntakeEnd.{IntakeEnd}
 use Rattle.node_intake.specs.declared.session.IntakeEnd.TheVariants.{End, Failed, TooMany}

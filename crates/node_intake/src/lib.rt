@@ -1,13 +1,14 @@
 //! What a node takes in of a stream of frames: the sessions that are opened, what is asked of each, and the errors.
 //!
-//! A source is read in pieces. Each frame is taken in as soon as it is whole, and isn't kept. `specs/Taking` says what was
-//! taken in, in the words of `reply_frames`' definition of an intake.
+//! `specs/Intake` defines it, over the bytes of a stream. A source is read in pieces; each frame is taken in as soon as it is whole,
+//! and isn't kept. `specs/Taking` says what was taken in of a source.
 //!
 //! The contracts leave open when memory runs out, so a body that always answers that it ran out meets them. Therefore the tests
 //! here, of `node_run` and of the program run `take_in`.
 #![tactic(auto)]
 
 mod frames;
+pub mod laws;
 mod node;
 mod pieces;
 mod session;

@@ -3,8 +3,8 @@
 ghost use Rattle.std.specs.Prelude.{◌≡◌, ◌<◌, [], ◌∷◌, ◌++◌, length, map, nat_le, slice_get, slice_set, Some, None, true, Ok, MatchOption, OnOk, OnErr};
 ghost use Rattle.jupyter_messages.specs.Outcomes.{is_told};
 ghost use Rattle.jupyter_messages.specs.Reading.{message_in};
-ghost use Rattle.reply_frames.specs.Intake as spec;
-ghost use Rattle.reply_frames.specs.Intake.{Taken};
+ghost use Rattle.node_intake.specs.Intake as spec;
+ghost use Rattle.node_intake.specs.Intake.{Taken};
 ghost use Rattle.node_intake.specs.Sessions.{taken_of, IsAt};
 ghost use Rattle.node_intake.specs.declared.session.Session.{Session as Opened};
 
@@ -25,7 +25,7 @@ pub struct Intake {
 
 impl Model for Intake {
     ghost use Rattle.std.specs.Prelude.{map};
-    ghost use Rattle.reply_frames.specs.Intake.{Node};
+    ghost use Rattle.node_intake.specs.Intake.{Node};
     ghost use Rattle.node_intake.specs.Sessions.{taken_of, AreApart};
 
     ghost Value = { Node };

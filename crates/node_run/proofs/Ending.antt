@@ -17,7 +17,7 @@ use Rattle.jupyter_messages.specs.declared.fault.MessageFault.TheVariants as fau
 use Rattle.jupyter_messages.specs.Reading.{message_in}
 use Rattle.reply_frames.specs.declared.node.NodeError.{NodeError}
 use Rattle.reply_frames.specs.declared.node.NodeErrorKind.TheVariants as kind
-use Rattle.reply_frames.specs.Intake.{Taken, Node, no_sessions, most_sessions, most_requests, failed, unread, session_of, opening, with_request, asking, with_kind, with_message, with_frames, ended, node_of}
+use Rattle.node_intake.specs.Intake.{Taken, Node, no_sessions, most_sessions, most_requests, failed, unread, session_of, opening, with_request, asking, with_kind, with_message, with_frames, ended, node_of}
 use Rattle.node_intake.specs.declared.session.TakenIn.{TakenIn}
 use Rattle.node_intake.specs.declared.session.IntakeEnd.{IntakeEnd}
 use Rattle.node_intake.specs.declared.session.IntakeEnd.TheVariants as intake

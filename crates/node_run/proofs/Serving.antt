@@ -18,7 +18,7 @@ use Rattle.session_core.specs.Stepping.{GoesOn}
 use Rattle.session_core.specs.Aloneness.{Seen}
 use Rattle.session_core.specs.Feeding.{HasFed}
 use Rattle.session_core.proofs.Feeding.{first_answers}
-use Rattle.reply_frames.specs.Intake.{Taken}
+use Rattle.node_intake.specs.Intake.{Taken}
 use Rattle.node_intake.specs.declared.session.Session.{Session}
 use Rattle.node_intake.specs.Sessions.{taken_of}
 use Rattle.node_run.specs.Journals.{Answers, IsJournalOf, AreHosted, Run, IsRunOf, AreRuns}

@@ -4,7 +4,7 @@ use Rattle.nb_outside.specs.Streams.{IsAtEnd}
 use Rattle.jupyter_frames.specs.Framing.{IsBegun, IsBad}
 use Rattle.reply_frames.specs.declared.node.NodeError.{NodeError}
 use Rattle.reply_frames.specs.declared.node.NodeErrorKind.TheVariants as kind
-use Rattle.reply_frames.specs.Intake.{Node, no_sessions, with_frames, node_of}
+use Rattle.node_intake.specs.Intake.{Node, no_sessions, with_frames, node_of}
 use Rattle.node_intake.specs.declared.session.IntakeEnd.{IntakeEnd}
 use Rattle.node_intake.specs.declared.session.IntakeEnd.TheVariants as intake
 use Rattle.node_run.specs.declared.end.RunEnd.{RunEnd}

@@ -5,7 +5,7 @@ use Rattle.session_core.specs.declared.entry.Entry.{Entry}
 use Rattle.reply_frames.specs.declared.node.NodeError.{NodeError}
 use Rattle.reply_frames.specs.Nodes.{frame_of}
 use Rattle.reply_frames.specs.Replies.{entry_frames, entry_length}
-use Rattle.reply_frames.specs.Intake.{Taken, Node}
+use Rattle.node_intake.specs.Intake.{Taken, Node}
 use Rattle.node_run.specs.Journals.{Run, journal_of}
 
 -- of errors, with running numbers from the first on

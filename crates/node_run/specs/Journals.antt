@@ -8,7 +8,7 @@ use Rattle.session_core.specs.Meanings.{Meaning}
 use Rattle.session_core.specs.Legal.{IsLegal, asked, main_asked, control_asked}
 use Rattle.session_core.specs.Aloneness.{Seen}
 use Rattle.session_core.specs.Feeding.{drawn_in, AreFirstAnswers}
-use Rattle.reply_frames.specs.Intake.{Taken, main_requests, control_requests}
+use Rattle.node_intake.specs.Intake.{Taken, main_requests, control_requests}
 
 -- the answers that the feed of each kernel's session is made with, if they are told
 abbrev pub Answers : Type 0

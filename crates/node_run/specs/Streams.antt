@@ -5,7 +5,7 @@ use Rattle.nb_outside.specs.Streams.{Adds}
 use Rattle.jupyter_frames.specs.Framing.{IsBody, IsRest, stream}
 use Rattle.session_core.specs.declared.entry.Entry.{Entry}
 use Rattle.session_core.specs.Meanings.{Meaning}
-use Rattle.reply_frames.specs.Intake.{Node}
+use Rattle.node_intake.specs.Intake.{Node}
 use Rattle.reply_frames.specs.declared.node.NodeError.{NodeError}
 use Rattle.node_run.specs.declared.end.RunEnd.{RunEnd}
 use Rattle.node_run.specs.Journals.{Answers, Run, AreRuns, AreJournals}

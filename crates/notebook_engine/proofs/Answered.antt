@@ -7,16 +7,17 @@ use Rattle.py_meaning.specs.declared.end.CellError.{CellError}
 use Rattle.py_meaning.specs.Cells.{outcome, end, error_in, result_in}
 use Rattle.py_reader.specs.declared.fault.SyntaxFault.{SyntaxFault}
 use Rattle.py_reader.specs.Verdict.{Judged, verdict}
-use Rattle.py_session.specs.Session.{failure, refused}
+use Rattle.notebook_meaning.specs.Errors.{failure, refused}
 use Rattle.run_graph.specs.RunLists.{Entry, raised, entry_done}
 use Rattle.run_graph.specs.Soundness.{statements}
-use Rattle.read_runs.specs.Reading.{tree_in, read}
+use Rattle.every_history.specs.Reading.{tree_in, read}
 use Rattle.graph_model.specs.declared.graph.Graph.{Graph}
 use Rattle.replay_laws.specs.Sizing.{size_of}
 use Rattle.replay_laws.specs.Sessions.{StandsFor}
 use Rattle.replay_laws.proofs.GoingOn.{entry_alike}
 use Rattle.notebook_meaning.specs.Cells.{recorded, unmoved}
-use Rattle.notebook_meaning.specs.Answers.{executed, answer_from}
+use Rattle.session_core.specs.declared.reply.Reply.TheVariants.{Executed}
+use Rattle.notebook_meaning.specs.Answers.{answer_from}
 use Rattle.notebook_meaning.proofs.Recorded.{reads_alike}
 use Rattle.notebook_engine.specs.Holding.{fault_in, reply_from}
 
@@ -37,7 +38,7 @@ module _ (cells : List Entry) (g : Graph) (t : State) (stands : StandsFor read s
   by_verdict : (o : Judged) → verdict code ≡ o
       → reply_from (raised E t).count silent (fault_in o) (end (statements (tree_in o)) (raised E t) draws).printed (end (statements (tree_in o)) (raised E t) draws).result (end (statements (tree_in o)) (raised E t) draws).error
       ≡ answer_from (raised E U) silent draws o
-  by_verdict (Err fault) v = ap (λ (n : ℕ). executed n silent [] None (Some (refused fault))) same_count
+  by_verdict (Err fault) v = ap (λ (n : ℕ). Executed n silent [] None (Some (refused fault))) same_count
   by_verdict (Ok body) v =
       let both = entry_alike read E U t stands.same in
       let here = done_as (Ok body) v t in
@@ -45,9 +46,9 @@ module _ (cells : List Entry) (g : Graph) (t : State) (stands : StandsFor read s
       let printed : (outcome body (raised E t) draws).1.printed ≡ (outcome body (raised E U) draws).1.printed =
       sym (ap (λ o. o.1.printed) here) ∙ (sym both.printed ∙ ap (λ o. o.1.printed) there) in
       let result : (outcome body (raised E t) draws).0 ≡ (outcome body (raised E U) draws).0 = sym (ap (λ o. o.0) here) ∙ (sym both.result ∙ ap (λ o. o.0) there) in
-      ap (λ (n : ℕ). executed n silent (outcome body (raised E t) draws).1.printed (result_in (outcome body (raised E t) draws).0) (option_map failure (error_in (outcome body (raised E t) draws).0))) same_count
-      ∙ (ap (λ (text : List ℕ). executed (raised E U).count silent text (result_in (outcome body (raised E t) draws).0) (option_map failure (error_in (outcome body (raised E t) draws).0))) printed
-      ∙ ap (λ r. executed (raised E U).count silent (outcome body (raised E U) draws).1.printed (result_in r) (option_map failure (error_in r))) result)
+      ap (λ (n : ℕ). Executed n silent (outcome body (raised E t) draws).1.printed (result_in (outcome body (raised E t) draws).0) (option_map failure (error_in (outcome body (raised E t) draws).0))) same_count
+      ∙ (ap (λ (text : List ℕ). Executed (raised E U).count silent text (result_in (outcome body (raised E t) draws).0) (option_map failure (error_in (outcome body (raised E t) draws).0))) printed
+      ∙ ap (λ r. Executed (raised E U).count silent (outcome body (raised E U) draws).1.printed (result_in r) (option_map failure (error_in r))) result)
 
   pub answered : (count : ℕ) (fault : Option SyntaxFault) (printed : List ℕ) (shown : Option (List ℕ)) (error : Option CellError)
       → count ≡ (raised E t).count → fault ≡ fault_in (verdict code)

@@ -20,7 +20,7 @@ use Rattle.run_graph.specs.RunLists.{Entry, raised, entry_done, run_of}
 use Rattle.run_graph.specs.Soundness.{statements}
 use Rattle.run_graph.proofs.Runs.{is_run}
 use Rattle.run_graph.proofs.Kept.{in_part_value}
-use Rattle.read_runs.specs.Reading.{read}
+use Rattle.every_history.specs.Reading.{read}
 use Rattle.part_bytes.specs.Texts.{part_text}
 use Rattle.history_graph.specs.declared.history.History.{History}
 use Rattle.history_graph.specs.Ends.{IsCell, Makes}

@@ -14,7 +14,7 @@ use Rattle.history_graph.specs.declared.history.History.{History}
 use Rattle.linked_parts.specs.Parts.{ArePartsOf}
 use Rattle.run_graph.specs.RunLists.{Entry}
 use Rattle.run_graph.proofs.Runs.{is_run}
-use Rattle.read_runs.specs.Reading.{read}
+use Rattle.every_history.specs.Reading.{read}
 use Rattle.replay_laws.specs.Sizing.{size_of}
 use Rattle.replay_laws.specs.Sessions.{StandsFor}
 use Rattle.replay_laws.proofs.Tidying.{tidied_same, tidied_objects, tidied_size}
@@ -23,7 +23,7 @@ use Rattle.restore_run.specs.declared.restored.Restored.{Restored}
 use Rattle.restore_run.specs.declared.fault.RestoreFault.{RestoreFault}
 use Rattle.restore_run.specs.declared.fault.RestoreFault.TheVariants as fault
 use Rattle.restore_run.specs.Restoring.{IsRestoredOn, IsRestoreFault}
-use Rattle.saved_sessions.proofs.Restored.{restored_so, no_fault}
+use Rattle.notebook_engine.proofs.Restored.{restored_so, no_fault}
 use Rattle.session_core.specs.declared.engine.PackFault.{PackFault}
 use Rattle.session_core.specs.declared.engine.PackFault.TheVariants as pack
 use Rattle.session_core.specs.Meanings.{Served, IsPacked}

@@ -17,7 +17,7 @@ use Rattle.py_laws.specs.Same.{HasPair, ValuesMatch, Same, Every, SameStates}
 use Rattle.py_laws.proofs.Closing.{closed_after}
 use Rattle.py_laws.proofs.Partners.{one_in, first_in}
 use Rattle.py_laws.proofs.Sameness.{same_turned}
-use Rattle.py_answer.proofs.Counted.{cell_counts}
+use Rattle.notebook_engine.proofs.Counted.{cell_counts}
 use Rattle.graph_model.specs.declared.graph.CellRecord.{CellRecord}
 use Rattle.graph_model.specs.declared.graph.Version.{Version}
 use Rattle.graph_model.specs.declared.graph.Graph.{Graph}
@@ -35,7 +35,7 @@ use Rattle.run_graph.specs.Soundness.{statements}
 use Rattle.run_graph.proofs.Growing.{in_of_get, get_of_in, old_or_new, to_new}
 use Rattle.run_graph.proofs.Only.{same_list, one_history}
 use Rattle.run_graph.proofs.Runs.{is_run}
-use Rattle.read_runs.specs.Reading.{read}
+use Rattle.every_history.specs.Reading.{read}
 use Rattle.part_bytes.specs.Texts.{part_text}
 use Rattle.history_graph.specs.declared.history.History.{History}
 use Rattle.history_graph.specs.Texts.{IsTextIn, IsCodeOf}

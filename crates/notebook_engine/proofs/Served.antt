@@ -11,7 +11,7 @@ use Rattle.py_heap.specs.States.{empty}
 use Rattle.graph_model.specs.declared.plan.Tally.{Tally}
 use Rattle.linked_parts.specs.Parts.{IsPartOf, ArePartsOf}
 use Rattle.run_graph.specs.RunLists.{Entry}
-use Rattle.read_runs.specs.Reading.{read}
+use Rattle.every_history.specs.Reading.{read}
 use Rattle.replay_laws.specs.Sizing.{size_of}
 use Rattle.replay_laws.proofs.GoingOn.{begins_so}
 use Rattle.session_core.specs.declared.request.Ask.{Ask}

@@ -6,9 +6,9 @@ use Rattle.linked_parts.specs.Parts.{ArePartsOf}
 use Rattle.py_meaning.specs.declared.end.CellError.{CellError}
 use Rattle.py_reader.specs.declared.fault.SyntaxFault.{SyntaxFault}
 use Rattle.py_reader.specs.Verdict.{Judged, verdict}
-use Rattle.py_session.specs.Session.{failure, refused}
+use Rattle.notebook_meaning.specs.Errors.{failure, refused}
 use Rattle.run_graph.specs.RunLists.{Entry, raised}
-use Rattle.read_runs.specs.Reading.{read}
+use Rattle.every_history.specs.Reading.{read}
 use Rattle.replay_laws.specs.Sizing.{size_of}
 use Rattle.replay_laws.specs.Sessions.{StandsFor}
 use Rattle.session_core.specs.declared.reply.Reply.{Reply}
@@ -17,7 +17,8 @@ use Rattle.notebook_meaning.specs.Cells.{cells_of, unmoved}
 use Rattle.notebook_meaning.specs.Codes.{HaveCodes}
 use Rattle.notebook_meaning.specs.Numbers.{IsPassedFirst}
 use Rattle.notebook_meaning.specs.Lists.{MayRun, IsRunOfAsks}
-use Rattle.notebook_meaning.specs.Answers.{executed, answer_from}
+use Rattle.session_core.specs.declared.reply.Reply.TheVariants.{Executed}
+use Rattle.notebook_meaning.specs.Answers.{answer_from}
 use Rattle.restore_run.specs.Restoring.{IsRestoredOn}
 use Rattle.notebook_engine.specs.declared.notebook.Notebook.{Notebook}
 
@@ -72,5 +73,5 @@ fault_in (Err fault) = Some fault
 
 -- what is answered for it
 abbrev pub reply_from : ℕ → Bool → Option SyntaxFault → List ℕ → Option (List ℕ) → Option CellError → Reply
-reply_from count silent (Some fault) printed shown error = executed count silent [] None (Some (refused fault))
-reply_from count silent None printed shown error = executed count silent printed shown (option_map failure error)
+reply_from count silent (Some fault) printed shown error = Executed count silent [] None (Some (refused fault))
+reply_from count silent None printed shown error = Executed count silent printed shown (option_map failure error)

@@ -8,8 +8,8 @@ use Rattle.run_graph.specs.RunLists.{Entry, run_of}
 use Rattle.run_graph.proofs.Only.{one_history}
 use Rattle.run_graph.proofs.Checking.{checks}
 use Rattle.run_graph.proofs.Runs.{is_run}
-use Rattle.read_runs.specs.Reading.{read}
-use Rattle.read_runs.proofs.Names.{has_names}
+use Rattle.every_history.specs.Reading.{read}
+use Rattle.every_history.proofs.Names.{has_names}
 use Rattle.replay_laws.specs.Sizing.{size_of}
 use Rattle.session_core.specs.declared.request.Ask.{Ask}
 use Rattle.session_core.specs.declared.request.Ask.TheVariants.{Execute, Info, Complete, Shutdown, Migrate}

@@ -7,7 +7,7 @@ ghost use Rattle.py_meaning.specs.Cells as spec;
 ghost use Rattle.py_reader.specs.Verdict.{verdict};
 ghost use Rattle.run_graph.specs.RunLists.{Entry};
 ghost use Rattle.run_graph.specs.Soundness.{statements};
-ghost use Rattle.read_runs.specs.Reading.{read};
+ghost use Rattle.every_history.specs.Reading.{read};
 ghost use Rattle.session_core.specs.Engines.{HasDrawn};
 ghost use Rattle.notebook_meaning.specs.Cells.{recorded};
 ghost use Rattle.notebook_engine.specs.Holding.{HoldsCells, HasRoom, IsFull, PassesWith, HasRun, fault_in};
@@ -16,17 +16,15 @@ use crate::notebook::Notebook;
 use crate::replies::reply_of;
 use graph_model::Tally as Number;
 use history_graph::HistoryFault;
-use kept_trees::Trees;
 use nb_outside::{Feed, draws_add_up};
-use plain_data::Items;
+use plain_data::{Items, cut_at};
 use py_heap::State;
 use py_kernel::Kernel;
 use py_meaning::CellEnd;
-use py_reader::{ReadError, SyntaxFault, read_cell};
+use py_reader::{ReadError, SyntaxFault, Trees, read_cell};
 use py_tree::Tree;
 use session_core::{Done, RunFault};
 use std::alloc::{AllocError, Global};
-use text_cuts::cut_at;
 
 /// The most bytes of a code that is recorded.
 const MOST_RECORDED: usize = 262_148;

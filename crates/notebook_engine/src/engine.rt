@@ -7,11 +7,10 @@ ghost use Rattle.notebook_engine.specs.Holding.{HoldsCells};
 use crate::notebook::Notebook;
 use graph_model::Weights;
 use history_graph::History;
-use kept_trees::Trees;
 use nb_outside::{Feed, draws_add_up};
 use plain_data::Items;
 use py_kernel::Kernel;
-use py_reader::{Completeness, completeness};
+use py_reader::{Completeness, Trees, completeness};
 use session_core::{Ask, Completion, Done, Engine, PackFault, Packed, Reply, RunFault};
 use std::alloc::{AllocError, Global};
 

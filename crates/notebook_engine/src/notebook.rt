@@ -1,8 +1,8 @@
 ghost use Rattle.std.specs.Prelude.{◌≡◌};
 
 use history_graph::History;
-use kept_trees::Trees;
 use py_kernel::Kernel;
+use py_reader::Trees;
 use restore_run::Restored;
 use std::alloc::Global;
 

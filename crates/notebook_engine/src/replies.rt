@@ -1,44 +1,45 @@
 ghost use Rattle.std.specs.Prelude.{◌≡◌, [], Some, None, IfOk};
-ghost use Rattle.py_session.specs.Session.{refused as as_refused};
-ghost use Rattle.notebook_meaning.specs.Answers.{name_in, text_in, executed};
+ghost use Rattle.session_core.specs.declared.reply.Reply.TheVariants.{Executed};
+ghost use Rattle.notebook_meaning.specs.Errors.{failure, refused as as_refused};
 ghost use Rattle.notebook_engine.specs.Holding.{reply_from};
 
 use plain_data::Text;
-use py_answer::{failure_of, refused};
+use py_machine::PyError;
 use py_meaning::CellError;
 use py_reader::SyntaxFault;
-use py_session::Failure;
-use session_core::Reply;
+use session_core::{Failure, Reply};
 use std::alloc::{AllocError, Global};
 
-/// The name and the text of an error, both empty if there is none.
-fn error_texts(alloc: Global, failed: Option<Failure>) -> Result<(Text, Text), AllocError>
-    ensures { IfOk result (λ texts. (texts.0 ≡ name_in failed) × (texts.1 ≡ text_in failed)) }
+fn raised(alloc: Global, error: PyError) -> Result<Failure, AllocError>
+    ensures { IfOk result (λ it. it ≡ failure (CellError.Raised error)) }
 {
-    match failed {
-        Some(Failure { name, text }) => Ok((name, text)),
-        None => Ok((Text::new(alloc, "")?, Text::new(alloc, "")?)),
+    let PyError { kind, text } = error;
+    Ok(Failure {
+        name: Text::new(alloc, kind.name())?,
+        text,
+    })
+}
+
+/// How a cell failed.
+fn failure_of(alloc: Global, error: CellError) -> Result<Failure, AllocError>
+    ensures { IfOk result (λ it. it ≡ failure error) }
+{
+    match error {
+        CellError::Raised(error) => raised(alloc, error),
+        CellError::Feed => Ok(Failure {
+            name: Text::new(alloc, "OSError")?,
+            text: Text::new(alloc, "feed")?,
+        }),
     }
 }
 
-fn executed_reply(
-    alloc: Global,
-    count: u32,
-    silent: bool,
-    printed: Text,
-    shown: Option<Text>,
-    failed: Option<Failure>,
-) -> Result<Reply, AllocError>
-    ensures { IfOk result (λ reply. reply ≡ executed count silent printed shown failed) }
+/// Why a code has no tree, as a SyntaxError.
+fn refused(alloc: Global, fault: SyntaxFault) -> Result<Failure, AllocError>
+    ensures { IfOk result (λ it. it ≡ as_refused fault) }
 {
-    let (ename, evalue) = error_texts(alloc, failed)?;
-    Ok(Reply::Executed {
-        count,
-        silent,
-        printed,
-        shown,
-        ename,
-        evalue,
+    Ok(Failure {
+        name: Text::new(alloc, "SyntaxError")?,
+        text: fault.text(alloc)?,
     })
 }
 
@@ -49,11 +50,17 @@ fn refused_reply(
     silent: bool,
     fault: SyntaxFault,
 ) -> Result<Reply, AllocError>
-    ensures { IfOk result (λ reply. reply ≡ executed count silent [] None (Some (as_refused fault))) }
+    ensures { IfOk result (λ reply. reply ≡ Executed count silent [] None (Some (as_refused fault))) }
 {
     let printed = Text::new(alloc, "")?;
-    let failed = refused(alloc, fault)?;
-    executed_reply(alloc, count, silent, printed, None, Some(failed))
+    let error = Some(refused(alloc, fault)?);
+    Ok(Reply::Executed {
+        count,
+        silent,
+        printed,
+        shown: None,
+        error,
+    })
 }
 
 /// The reply to a cell that printed and showed this, and ended with this error, or whose code has no tree for this reason.
@@ -71,9 +78,15 @@ pub(crate) fn reply_of(
     if let Some(fault) = fault {
         return refused_reply(alloc, count, silent, fault);
     }
-    let failed = match error {
+    let error = match error {
         Some(error) => Some(failure_of(alloc, error)?),
         None => None,
     };
-    executed_reply(alloc, count, silent, printed, shown, failed)
+    Ok(Reply::Executed {
+        count,
+        silent,
+        printed,
+        shown,
+        error,
+    })
 }

@@ -13,9 +13,9 @@ use Rattle.py_machine.specs.Runs.{Name}
 use Rattle.py_laws.proofs.Partners.{none_in, first_in, later_in}
 use Rattle.linked_parts.specs.Parts.{HasNone}
 use Rattle.run_graph.proofs.Lists.{cons_cases}
-use Rattle.part_reader.proofs.Names.{identifier-utf8}
+use Rattle.checkpoint_reader.proofs.PartNames.{identifier-utf8}
 use Rattle.checkpoint_bytes.specs.Texts.{lists}
-use Rattle.checkpoint_spelling.specs.Spelled.{IsName}
+use Rattle.checkpoint_laws.specs.Spelled.{IsName}
 
 pub by_places : {A : Type 0} (P : A → Type 0) (xs : List A) → ((k : ℕ) (x : A) → slice_get xs k ≡ Some x → P x) → AllByRecursion P xs
 by_places P [] h = tt

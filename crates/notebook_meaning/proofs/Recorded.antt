@@ -5,10 +5,10 @@ use Rattle.std.proofs.lemmas.Bool.{cases_lt}
 use Rattle.std.proofs.lemmas.Str.{IsUtf8-take, is_utf8-from_IsUtf8}
 use Rattle.py_reader.specs.Verdict.{verdict}
 use Rattle.py_reader.proofs.Final.{too_long}
-use Rattle.text_cuts.specs.Cuts.{cut_within}
-use Rattle.text_cuts.proofs.Near.{cut_at_boundary, cut_size, cut_whole, cut_near}
-use Rattle.read_runs.specs.Reading.{tree_in, read}
-use Rattle.checkpoint_spelling.specs.Spelled.{IsCode}
+use Rattle.plain_data.specs.Cuts.{cut_within}
+use Rattle.plain_data.proofs.Near.{cut_at_boundary, cut_size, cut_whole, cut_near}
+use Rattle.every_history.specs.Reading.{tree_in, read}
+use Rattle.checkpoint_laws.specs.Spelled.{IsCode}
 use Rattle.notebook_meaning.specs.Cells.{recorded}
 
 pub is_code : (code : List ℕ) → IsUtf8 code → IsCode (recorded code)

@@ -20,7 +20,7 @@ use Rattle.py_machine.specs.Runs.{Name}
 use Rattle.py_laws.specs.Same.{HasPair, Same, Every, ObjectsMatch, PairsMatch, Both}
 use Rattle.py_laws.proofs.Partners.{one_in, reach_partner}
 use Rattle.py_laws.proofs.Sameness.{same_turned}
-use Rattle.read_functions.specs.Texts.{IsItsText}
+use Rattle.reader_laws.specs.Texts.{IsItsText}
 use Rattle.graph_model.specs.declared.graph.CellRecord.{CellRecord}
 use Rattle.graph_model.specs.declared.graph.Version.{Version}
 use Rattle.graph_model.specs.declared.graph.Graph.{Graph}
@@ -34,18 +34,18 @@ use Rattle.run_graph.specs.RunLists.{Entry, entry, state_after, run_of}
 use Rattle.run_graph.proofs.Runs.{is_run}
 use Rattle.run_graph.proofs.Kept.{in_part_value}
 use Rattle.run_graph.proofs.Reached.{reach_from_one, not_both}
-use Rattle.read_runs.specs.Reading.{read}
-use Rattle.read_runs.proofs.Names.{has_names}
+use Rattle.every_history.specs.Reading.{read}
+use Rattle.every_history.proofs.Names.{has_names}
 use Rattle.part_bytes.specs.Parts.{part_of}
 use Rattle.part_bytes.specs.Plain.{IsPlainPart}
-use Rattle.part_laws.proofs.Alike.{one_part}
+use Rattle.replay_laws.proofs.PartsAlike.{one_part}
 use Rattle.checkpoint_bytes.specs.Texts.{lists, checkpoint_text}
 use Rattle.checkpoint_bytes.specs.Plain.{IsPlainCell, IsPlainVersion, IsPlainCheckpoint}
-use Rattle.checkpoint_sameness.proofs.Alike.{one_checkpoint_text}
-use Rattle.part_spelling.specs.Spelled.{IsPart as HasPartText}
+use Rattle.checkpoint_laws.proofs.Alike.{one_checkpoint_text}
+use Rattle.checkpoint_laws.specs.SpelledParts.{IsPart as HasPartText}
 use Rattle.part_copies.specs.Written.{IsWritable, CanBeWritten}
 use Rattle.part_copies.proofs.Written.{part_is}
-use Rattle.checkpoint_spelling.specs.Spelled.{IsCode, IsName, IsCell, IsVersion, EachCopied, HasText}
+use Rattle.checkpoint_laws.specs.Spelled.{IsCode, IsName, IsCell, IsVersion, EachCopied, HasText}
 use Rattle.replay_laws.specs.Restored.{HasVersions}
 use Rattle.replay_laws.specs.Sizing.{holds_handle, have_values, size_of}
 use Rattle.replay_laws.specs.Sessions.{StandsFor}

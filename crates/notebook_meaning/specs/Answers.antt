@@ -1,5 +1,5 @@
 -- What a session answers that never moved.
-use Rattle.std.specs.Prelude.{ℕ, Bool, List, [], Option, Some, None, option_map, Ok, Err}
+use Rattle.std.specs.Prelude.{Bool, List, [], Some, None, option_map, Ok, Err}
 use Rattle.nb_outside.specs.declared.feed.Drawn.{Drawn}
 use Rattle.py_heap.specs.declared.state.State.{State}
 use Rattle.py_meaning.specs.Cells.{end}
@@ -7,8 +7,7 @@ use Rattle.py_reader.specs.Verdict.{Judged, verdict}
 use Rattle.py_reader.specs.Completeness.{completeness_of}
 use Rattle.py_reader.specs.declared.answer.Completeness.{Completeness}
 use Rattle.py_reader.specs.declared.answer.Completeness.TheVariants as completeness
-use Rattle.py_session.specs.declared.reply.Failure.{Failure}
-use Rattle.py_session.specs.Session.{failure, refused}
+use Rattle.notebook_meaning.specs.Errors.{failure, refused}
 use Rattle.run_graph.specs.RunLists.{Entry, raised}
 use Rattle.session_core.specs.declared.request.Ask.{Ask}
 use Rattle.session_core.specs.declared.request.Ask.TheVariants.{Execute, Info, Complete, Shutdown, Migrate}
@@ -18,24 +17,12 @@ use Rattle.session_core.specs.declared.reply.Reply.{Reply}
 use Rattle.session_core.specs.declared.reply.Reply.TheVariants as reply
 use Rattle.notebook_meaning.specs.Cells.{cell_of, unmoved}
 
--- the name and the text of an error, both empty if there is none
-abbrev pub name_in : Option Failure → List ℕ
-name_in None = []
-name_in (Some f) = f.name
-
-abbrev pub text_in : Option Failure → List ℕ
-text_in None = []
-text_in (Some f) = f.text
-
-abbrev pub executed : ℕ → Bool → List ℕ → Option (List ℕ) → Option Failure → Reply
-executed count silent printed shown failed = reply.Executed count silent printed shown (name_in failed) (text_in failed)
-
 -- what a cell with this tree answers from a state, or what a code without a tree does
 abbrev pub answer_from : State → Bool → List Drawn → Judged → Reply
-answer_from s silent draws (Err fault) = executed s.count silent [] None (Some (refused fault))
+answer_from s silent draws (Err fault) = reply.Executed s.count silent [] None (Some (refused fault))
 answer_from s silent draws (Ok body) =
     let cell = end body s draws in
-    executed s.count silent cell.printed cell.result (option_map failure cell.error)
+    reply.Executed s.count silent cell.printed cell.result (option_map failure cell.error)
 
 abbrev pub completion_in : Completeness → Completion
 completion_in completeness.Complete = completion.Complete

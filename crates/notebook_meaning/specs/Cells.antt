@@ -1,10 +1,10 @@
 -- The cells among the asks of a session.
 use Rattle.std.specs.Prelude.{ℕ, Bool, true, false, not, ◌&&◌, List, [], ◌∷◌, ◌++◌, length}
-use Rattle.text_cuts.specs.Cuts.{prefix_within}
+use Rattle.plain_data.specs.Cuts.{prefix_within}
 use Rattle.nb_outside.specs.declared.feed.Drawn.{Drawn}
 use Rattle.py_heap.specs.declared.state.State.{State}
 use Rattle.run_graph.specs.RunLists.{Entry, state_after}
-use Rattle.read_runs.specs.Reading.{read}
+use Rattle.every_history.specs.Reading.{read}
 use Rattle.session_core.specs.declared.request.Ask.{Ask}
 use Rattle.session_core.specs.declared.request.Ask.TheVariants.{Execute, Info, Complete, Shutdown, Migrate}
 use Rattle.session_core.specs.Meanings.{Served}

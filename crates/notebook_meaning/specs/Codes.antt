@@ -2,7 +2,7 @@
 use Rattle.std.specs.Prelude.{List}
 use Rattle.std.specs.List.{AllByRecursion}
 use Rattle.run_graph.specs.RunLists.{Entry}
-use Rattle.checkpoint_spelling.specs.Spelled.{IsCode}
+use Rattle.checkpoint_laws.specs.Spelled.{IsCode}
 
 abbrev pub HasCode : Entry → Type 0
 HasCode e = IsCode e.code

@@ -6,7 +6,7 @@ use Rattle.py_meaning.specs.Cells.{UsesUp}
 use Rattle.graph_model.specs.declared.plan.Tally.{Tally}
 use Rattle.run_graph.specs.Soundness.{statements}
 use Rattle.run_graph.specs.RunLists.{Entry, raised}
-use Rattle.read_runs.specs.Reading.{read}
+use Rattle.every_history.specs.Reading.{read}
 use Rattle.session_core.specs.declared.request.Ask.{Ask}
 use Rattle.session_core.specs.declared.request.Ask.TheVariants.{Execute, Info, Complete, Shutdown, Migrate}
 use Rattle.session_core.specs.Asks.{is_end}

@@ -6,7 +6,7 @@ use Rattle.graph_model.specs.declared.plan.Plan.{Plan}
 use Rattle.graph_model.specs.declared.plan.Tally.{Tally}
 use Rattle.run_graph.specs.RunLists.{Entry}
 use Rattle.checkpoint_bytes.specs.Texts.{checkpoint_text}
-use Rattle.checkpoint_spelling.specs.Spelled.{HasText}
+use Rattle.checkpoint_laws.specs.Spelled.{HasText}
 use Rattle.replay_laws.specs.Tidied.{AreObjectsOf}
 use Rattle.session_core.specs.declared.request.Ask.{Ask}
 use Rattle.session_core.specs.declared.request.Ask.TheVariants.{Execute, Info, Complete, Shutdown, Migrate}

@@ -8,7 +8,7 @@ use Rattle.graph_model.specs.declared.plan.Tally.TheVariants as tally
 use Rattle.graph_model.specs.Faults.{TextBelow, Ascends}
 use Rattle.run_graph.specs.Histories.{IsHistory}
 use Rattle.run_graph.specs.RunLists.{Entry, run_of}
-use Rattle.read_runs.specs.Reading.{read}
+use Rattle.every_history.specs.Reading.{read}
 use Rattle.replay_laws.specs.Sizing.{size_of}
 use Rattle.history_graph.specs.Texts.{IsTextIn}
 use Rattle.history_graph.specs.Tallies.{rank}

@@ -2,17 +2,18 @@ ghost use Rattle.std.specs.Prelude.{ℕ, ◌≡◌, ◌+◌, ◌≤◌, List, []
 ghost use Rattle.std.specs.Str.{IsUtf8};
 ghost use Rattle.nb_outside.specs.declared.feed.Drawn.{Drawn};
 ghost use Rattle.py_heap.specs.declared.state.State.{State};
+ghost use Rattle.py_heap.specs.States.{empty};
 ghost use Rattle.graph_model.specs.declared.graph.Graph.{Graph};
 ghost use Rattle.graph_model.specs.declared.plan.Plan.{Plan};
 ghost use Rattle.graph_model.specs.Plans.{NamesOf, IsFeasible};
-ghost use Rattle.run_graph.specs.RunLists.{Entry, state_after, steps_of, IsRunList};
-ghost use Rattle.read_runs.specs.Reading.{read};
+ghost use Rattle.run_graph.specs.RunLists.{Entry, entry_done, state_after, steps_of, IsRunList};
+ghost use Rattle.every_history.specs.Reading.{read};
 ghost use Rattle.checkpoint_bytes.specs.Texts.{checkpoint_text};
 ghost use Rattle.checkpoint_bytes.specs.Plain.{IsPlainCheckpoint};
-ghost use Rattle.checkpoint_spelling.specs.Spelled.{IsCode, HasText};
+ghost use Rattle.checkpoint_laws.specs.Spelled.{IsCode, HasText};
 ghost use Rattle.replay_laws.specs.Sizing.{size_of};
 ghost use Rattle.replay_laws.specs.Sessions.{StandsFor};
-ghost use Rattle.valid_sessions.specs.Valid.{IsValidState};
+ghost use Rattle.reader_laws.specs.Valid.{IsValidState};
 ghost use Rattle.session_core.specs.declared.request.Ask.{Ask};
 ghost use Rattle.session_core.specs.Meanings.{Served, more, HasNoEnd};
 ghost use Rattle.notebook_meaning.specs.Cells.{recorded, with_ask, cells_of, unmoved};
@@ -40,8 +41,11 @@ pub fn a_list_of_asks_is_a_run_list()
     ensures codes { (served : List Served) → IsRunOfAsks served → HaveCodes (cells_of served) }
 {}
 
-/// Each state that cells with such codes leave is valid, and no cell takes more than 1,000,000 steps.
+/// The empty state is valid. A cell with any text as its code keeps a valid state valid, whatever it draws. So each state that cells
+/// with such codes leave is valid. No cell takes more than 1,000,000 steps.
 pub fn states_of_codes_are_valid()
+    ensures begins { IsValidState empty }
+    ensures cell { (e : Entry) (s : State) → IsUtf8 e.code → IsValidState s → IsValidState (entry_done read e s).1.state }
     ensures states { (cells : List Entry) (n : ℕ) → HaveCodes cells → IsValidState (state_after read cells n) }
     ensures steps { (cells : List Entry) (n : ℕ) → steps_of read cells n ≤ 1000000 }
 {}

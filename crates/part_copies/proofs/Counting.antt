@@ -17,8 +17,8 @@ use Rattle.py_heap.specs.Searches.{has, all_noted}
 use Rattle.py_heap.proofs.Numbers.{all_noted_is, has_of_contains, contains_of_has}
 use Rattle.py_machine.specs.Runs.{Name}
 use Rattle.part_bytes.specs.Parts.{number_in, numbered, numbered_pair, numbered_object, held_of}
-use Rattle.part_spelling.specs.Spelled.{counted}
-use Rattle.part_spelling.proofs.Offs.{below, not_below}
+use Rattle.checkpoint_laws.specs.SpelledParts.{counted}
+use Rattle.checkpoint_laws.proofs.Offs.{below, not_below}
 
 -- ---- the number of what is met
 

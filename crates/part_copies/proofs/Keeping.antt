@@ -25,8 +25,8 @@ use Rattle.py_laws.proofs.Partners.{first_in}
 use Rattle.graph_model.specs.Faults.{TextBelow, Ascends}
 use Rattle.part_bytes.specs.Parts.{number_in, numbered, numbered_pair, numbered_object}
 use Rattle.part_bytes.specs.Plain.{IsPlain, IsPlainPair, IsPlainObject}
-use Rattle.part_reader.specs.Reading.{stands_after, follows}
-use Rattle.part_spelling.specs.Spelled.{IsValue, ArePairs, IsObject, AreNames}
+use Rattle.checkpoint_reader.specs.PartReading.{stands_after, follows}
+use Rattle.checkpoint_laws.specs.SpelledParts.{IsValue, ArePairs, IsObject, AreNames}
 use Rattle.replay_laws.proofs.Renumbering.{number_at}
 use Rattle.part_copies.specs.Written.{IsWritable}
 

@@ -27,7 +27,7 @@ use Rattle.part_bytes.specs.Parts.{order, number_in, numbered, numbered_object, 
 use Rattle.part_bytes.specs.Plain.{IsPlainIn, IsPlainAt}
 use Rattle.part_bytes.proofs.Orders.{order_lists, order_first}
 use Rattle.part_bytes.proofs.Pieces.{as_many}
-use Rattle.part_spelling.specs.Spelled.{counted, IsHeld, AreObjects, IsPart}
+use Rattle.checkpoint_laws.specs.SpelledParts.{counted, IsHeld, AreObjects, IsPart}
 use Rattle.part_copies.specs.Written.{CanBeWritten}
 use Rattle.part_copies.proofs.Counting.{counts, refs_object, refs_names, in_longer}
 use Rattle.part_copies.proofs.Keeping.{value_kept, object_kept, names_kept}

@@ -7,8 +7,8 @@ ghost use Rattle.py_machine.specs.Runs.{Name};
 ghost use Rattle.py_laws.specs.Same.{Same};
 ghost use Rattle.part_bytes.specs.Parts.{part_of};
 ghost use Rattle.part_bytes.specs.Texts.{part_text};
-ghost use Rattle.part_reader.specs.Reading.{part_read};
-ghost use Rattle.part_spelling.specs.Spelled.{IsPart};
+ghost use Rattle.checkpoint_reader.specs.PartReading.{part_read};
+ghost use Rattle.checkpoint_laws.specs.SpelledParts.{IsPart};
 ghost use Rattle.part_loader.specs.Loading.{state_of};
 ghost use Rattle.part_copies.specs.Written.{CanBeWritten};
 

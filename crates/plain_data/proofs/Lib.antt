@@ -1,3 +1,5 @@
 pub mod TextMaps
 pub mod Characters
 pub mod Order
+pub mod CutLaws
+pub mod Near

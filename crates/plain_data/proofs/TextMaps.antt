@@ -1,5 +1,5 @@
 -- A `BTreeMap` over texts, as a finite map.
-use Rattle.std.proofs.Common.{◌≡◌, ℕ, Bool, cond, List, [], ◌∷◌, Some, None, refl, sym, ap, ◌∙◌}
+use Rattle.std.proofs.Common.{◌≡◌, ℕ, Bool, cond, List, [], ◌∷◌, Some, None, refl, sym, ap, ◌∙◌, map, length}
 use Rattle.std.specs.Ordering.{is_eq, nat_cmp}
 use Rattle.std.specs.Cmp.Lexicographic.{slice_cmp, nat_list_cmp_total}
 use Rattle.std.specs.Cmp.{eq_by_cmp_equiv}
@@ -7,7 +7,6 @@ use Rattle.std.specs.Map.{lookup}
 use Rattle.std.specs.FinMap as finite
 use Rattle.std.specs.FinMap.{find, put, slice_cmp-IsAntisymmetric, nat_cmp-IsAntisymmetric}
 use Rattle.std.specs.List.Sorted.{IsStrictlySortedBy}
-use Rattle.std.proofs.Common.{map, length}
 use native.Mathlib.Omega.{arith}
 
 abbrev pub by_name : List ℕ → List ℕ → Bool

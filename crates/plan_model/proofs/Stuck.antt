@@ -5,8 +5,7 @@ use Rattle.std.proofs.lemmas.Bool.{false≢true}
 use Rattle.graph_model.specs.declared.graph.Version.{Version}
 use Rattle.graph_model.specs.declared.graph.Graph.{Graph}
 use Rattle.graph_model.specs.declared.plan.Plan.{Plan}
-use Rattle.graph_model.specs.Graphs.{VersionAt, Needs, IsStuck}
-use Rattle.graph_model.specs.Graphs.{writer, before}
+use Rattle.graph_model.specs.Graphs.{VersionAt, Needs, IsStuck, writer, before}
 use Rattle.graph_model.specs.Plans.{IsFeasible}
 use Rattle.graph_model.proofs.Lookups.{same_version}
 

@@ -1,8 +1,7 @@
 -- The locals of a call.
-use Rattle.std.proofs.Common.{◌≡◌, ℕ, ◌+◌, Bool, true, false, cond, List, [], ◌∷◌, ◌++◌, length, not, filter, Option, Some, None, refl, sym, ap, subst, ◌∙◌, drop, get_or, ◌<◌, inl, inr, true≢false}
+use Rattle.std.proofs.Common.{◌≡◌, ℕ, ◌+◌, Bool, true, false, cond, List, [], ◌∷◌, ◌++◌, length, not, filter, Option, Some, None, refl, sym, ap, subst, ◌∙◌, drop, get_or, ◌<◌, inl, inr, true≢false, All, ◌-◌, ◌≤◌, suc, take, take_all, drop-cons}
 use Rattle.std.specs.Prelude.{is_some, option_map, nat_eq, slice_get, Contains, ◌⊎◌}
 use Rattle.std.specs.List.{AllByRecursion}
-use Rattle.std.proofs.Common.{All, ◌-◌, ◌≤◌, suc, take, take_all, drop-cons}
 use native.Mathlib.Omega.{arith}
 use Rattle.std.proofs.lemmas.List.Elements.{All-from_recursion, All-weaker, Contains-get_or, Contains-append_right}
 use Rattle.std.proofs.lemmas.Map.Made.{Contains-tail}

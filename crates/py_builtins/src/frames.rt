@@ -9,7 +9,7 @@ ghost use Rattle.py_meaning.specs.Meaning as spec;
 use plain_data::Text;
 use py_heap::Function;
 use py_machine::{Fault, Flow, Frame, Machine, Slots, not_callable};
-use py_objects::kind_of;
+use py_ops::kind_of;
 use py_value::Value;
 use std::alloc::{AllocError, Global};
 

@@ -8,14 +8,13 @@ use Rattle.py_token.specs.declared.kinds.Symbol.TheVariants as s
 use Rattle.py_postfix.specs.declared.entries.Node.TheVariants as node
 use Rattle.py_postfix.specs.declared.entries.Entry.{Entry}
 use Rattle.py_postfix.specs.Entries.{additive_op, multiplicative_op}
-use Rattle.py_postfix.specs.Expressions.{post_primary, post_signed}
+use Rattle.py_postfix.specs.Expressions.{post_primary, post_signed, is_minus}
 use Rattle.py_grammar.specs.Words.{not_word, in_word, none_word, true_word, false_word, floor_sign, plus_sign, minus_sign, times_sign, mod_sign, open_parenthesis, close_parenthesis, open_bracket, close_bracket, open_brace, close_brace, colon, dot}
 use Rattle.py_grammar.specs.Expressions.{Additive, plus, minus, Multiplicative, times, floor, modulo, Signed, unsigned, Primary, Compares, compares_none, compares_not_none, function, method, additive_sign, multiplicative_sign, spell_compares, spell_signed, spell_primary}
 use Rattle.py_grammar.specs.Readings as r
 use Rattle.py_grammar.specs.Readings.{Upper, upper, Related, Added, added, Scaled, scaled, Lower, lower, in_display, in_dict, in_call, in_index, in_slice, Opened, opened, Reading, wants, has, has_none, has_not_none, after_is, after_is_not, after_not, after_dot, after_method, add_signs, add_scaled, add_added, compares_of, close_parenthesis_at, close_bracket_at, close_brace_at, colon_at, read, no_upper, no_lower, no_lower_part, bare, if_nothing, deny}
 use Rattle.py_grammar.specs.Open.{front_scaled, spell_upper, spell_lower}
 use Rattle.py_grammar.proofs.Spelled.{compares_of-spelled}
-use Rattle.py_postfix.specs.Expressions.{is_minus}
 use Rattle.py_expressions.specs.declared.reading.Bracket as bracket_of
 use Rattle.py_expressions.specs.declared.reading.Opened as opened_of
 use Rattle.py_expressions.specs.declared.reading.Lower as a_lower

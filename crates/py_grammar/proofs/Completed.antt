@@ -1,11 +1,10 @@
 -- Whatever has been read goes on to some cell.
-use Rattle.std.proofs.Common.{◌≡◌, ◌+◌, ◌<◌, ℕ, zero, suc, Bool, true, false, IsTrue, List, [], ◌∷◌, ◌++◌, length, Option, Some, None, not, nat_eq, ◌&&◌, refl, ap, ◌∙◌, sym}
+use Rattle.std.proofs.Common.{◌≡◌, ◌+◌, ◌<◌, ℕ, zero, suc, Bool, true, false, IsTrue, List, [], ◌∷◌, ◌++◌, length, Option, Some, None, not, nat_eq, ◌&&◌, refl, ap, ◌∙◌, sym, arith}
 use Rattle.py_token.specs.declared.kinds.Kind.{Kind}
 use Rattle.py_token.specs.declared.kinds.Kind.TheVariants as t
 use Rattle.std.specs.Prelude.{pos}
 use Rattle.std.specs.Cmp.Lexicographic.{pointwise}
 use Rattle.std.proofs.lemmas.Bool.{false≢true}
-use Rattle.std.proofs.Common.{arith}
 use Rattle.py_grammar.specs.Words.{in_word, none_word, return_word, global_word, del_word, def_word, open_parenthesis, close_parenthesis, open_bracket, close_bracket, colon}
 use Rattle.py_grammar.specs.Expressions.{Compares, compares_more, compares_none, compares_not_none, not_within, sums_one, products_one, unsigned, Primary, number, call, method, no_args, spell_compares, spell_primary}
 use Rattle.py_grammar.specs.Readings.{Upper, Lower, Opened, opened, Reading, wants, has, has_none, has_not_none, after_is, after_is_not, after_not, after_dot, after_method, begun, compares_of, bare, bare_below, narrow}

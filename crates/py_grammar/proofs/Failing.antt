@@ -1,8 +1,7 @@
 -- The failing token, the tree, and that there is no other.
-use Rattle.std.proofs.Common.{◌≡◌, ◌+◌, ◌<◌, ◌≤◌, ℕ, zero, suc, List, [], ◌∷◌, ◌++◌, length, take, slice_get, Option, Some, None, refl, ap, ◌∙◌, sym, subst, append_assoc}
+use Rattle.std.proofs.Common.{◌≡◌, ◌+◌, ◌<◌, ◌≤◌, ℕ, zero, suc, List, [], ◌∷◌, ◌++◌, length, take, slice_get, Option, Some, None, refl, ap, ◌∙◌, sym, subst, append_assoc, arith, take_at, take-take, take-append-drop, append-nil, drop}
 use Rattle.py_token.specs.declared.kinds.Kind.{Kind}
 use Rattle.std.specs.Prelude.{◌↔◌}
-use Rattle.std.proofs.Common.{arith, take_at, take-take, take-append-drop, append-nil, drop}
 use Rattle.py_tree.specs.declared.statements.Stmt.{Stmt}
 use Rattle.py_grammar.specs.declared.constructs.Construct.{Construct}
 use Rattle.py_grammar.specs.Statements.{Params, compound, define, Block, statements_one, spell_statement, Cell, IsCell, BeginsCell, IsFailing}

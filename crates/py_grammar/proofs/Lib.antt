@@ -11,3 +11,7 @@ pub mod Whole
 pub mod Refused
 pub mod Failing
 mod Examples
+pub mod AloneKept
+pub mod AloneRead
+pub mod AloneFailing
+mod AloneExamples

@@ -1,7 +1,6 @@
 -- What the machine reads is the grammar: cells, their beginnings, and the failing token.
-use Rattle.std.proofs.Common.{◌≡◌, ◌+◌, ◌≤◌, ℕ, zero, suc, List, [], ◌∷◌, ◌++◌, length, Option, Some, None, refl, ap, ◌∙◌, sym, subst, append_assoc}
+use Rattle.std.proofs.Common.{◌≡◌, ◌+◌, ◌≤◌, ℕ, zero, suc, List, [], ◌∷◌, ◌++◌, length, Option, Some, None, refl, ap, ◌∙◌, sym, subst, append_assoc, arith}
 use Rattle.py_token.specs.declared.kinds.Kind.{Kind}
-use Rattle.std.proofs.Common.{arith}
 use Rattle.std.proofs.lemmas.List.{append-nil}
 use Rattle.py_grammar.specs.Statements.{Cell, IsCell, BeginsCell}
 use Rattle.py_grammar.specs.States.{State, done, start, step, run, spell_state, state_stands}

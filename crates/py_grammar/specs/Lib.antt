@@ -6,3 +6,5 @@ pub mod Statements
 pub mod States
 pub mod Trees
 pub mod Outside
+pub mod Alone
+pub mod AloneMachine

@@ -11,8 +11,7 @@ use py_heap::Object;
 use py_machine::{
     Change, Fault, Machine, ValueKind, no_assigned_index, no_item_deletion, no_key, not_an_index,
 };
-use py_objects::{keyed, kind_of};
-use py_ops::sign_of;
+use py_ops::{keyed, kind_of, sign_of};
 use py_value::{Key, Value, key_text};
 use std::alloc::Global;
 

@@ -6,7 +6,7 @@ ghost use Rattle.py_meaning.specs.Meaning as spec;
 use crate::stored::put;
 use plain_data::Items;
 use py_machine::{Fault, Machine};
-use py_objects::keyed;
+use py_ops::keyed;
 use py_value::{Key, Value};
 use std::alloc::Global;
 

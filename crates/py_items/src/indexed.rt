@@ -11,8 +11,7 @@ use py_machine::{
     Fault, Machine, ValueKind, no_key, no_list_index, no_text_index, not_an_index,
     not_subscriptable,
 };
-use py_objects::{keyed, kind_of};
-use py_ops::{made_text, sign_of};
+use py_ops::{keyed, kind_of, made_text, sign_of};
 use py_value::{Value, key_text};
 use std::alloc::Global;
 

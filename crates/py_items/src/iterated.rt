@@ -8,8 +8,7 @@ use py_machine::{
     Fault, Iteration, Machine, TextRest, ValueKind, not_iterable, wrong_argument, wrong_number,
     zero_range_step,
 };
-use py_objects::kind_of;
-use py_ops::as_number;
+use py_ops::{as_number, kind_of};
 use py_value::Value;
 use std::alloc::Global;
 

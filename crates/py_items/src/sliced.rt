@@ -9,8 +9,7 @@ use crate::positions::clipped;
 use plain_data::{Items, SharedText, Text};
 use py_heap::Object;
 use py_machine::{Fault, Machine, ValueKind, not_an_index, not_subscriptable};
-use py_objects::copy_items;
-use py_ops::{as_number, by_sign, joined, made_text};
+use py_ops::{as_number, by_sign, copy_items, joined, made_text};
 use py_value::Value;
 use std::alloc::{AllocError, Global};
 

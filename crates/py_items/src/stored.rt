@@ -13,8 +13,7 @@ use py_heap::Object;
 use py_machine::{
     Change, Fault, Machine, ValueKind, no_assigned_index, no_item_assignment, not_an_index,
 };
-use py_objects::{keyed, kind_of};
-use py_ops::{charge, sign_of};
+use py_ops::{charge, keyed, kind_of, sign_of};
 use py_value::{Key, Value, weight};
 use std::alloc::Global;
 

@@ -12,7 +12,7 @@ use nb_outside::Feed;
 use plain_data::{Items, Text};
 use py_items::{advance, iterate, range_of};
 use py_machine::{Fault, Flow, Iteration, Machine, step_limit_error};
-use py_objects::truth_of;
+use py_ops::truth_of;
 use py_tree::{Expr, Stmt};
 use py_value::{Builtin, Value};
 use std::alloc::Global;

@@ -4,8 +4,7 @@ use Rattle.std.proofs.Math.ListN.{length-set}
 use Rattle.std.proofs.lemmas.Bool.{cases_eq, cases_order}
 use Rattle.std.proofs.lemmas.Option.{slice_get_within, slice_get_past, none-some}
 use Rattle.std.proofs.lemmas.List.Elements.{AllZip-push}
-use Rattle.std.specs.Prelude.{slice_get, is_some, nat_lt, nat_le}
-use Rattle.std.specs.Prelude.{insert as inserted, remove as removed}
+use Rattle.std.specs.Prelude.{slice_get, is_some, nat_lt, nat_le, insert as inserted, remove as removed}
 use Rattle.std.specs.List.{AllZip}
 use Rattle.std.specs.FinMap as finite
 use Rattle.nb_outside.specs.declared.feed.Drawn.{Drawn}

@@ -1,11 +1,10 @@
 -- Slots by number, as a finite map from names.
-use Rattle.std.proofs.Common.{◌≡◌, ℕ, Bool, true, false, cond, List, [], ◌∷◌, map, length, replicate, Option, Some, None, refl, sym, ap, subst, ◌∙◌, true≢false}
+use Rattle.std.proofs.Common.{◌≡◌, ℕ, Bool, true, false, cond, List, [], ◌∷◌, map, length, replicate, Option, Some, None, refl, sym, ap, subst, ◌∙◌, true≢false, get_or-set_same, get_or-set_other}
 use Rattle.std.specs.Prelude.{option_map, slice_index_or, slice_set, zero, suc}
 use Rattle.std.specs.Ordering.{nat_cmp}
 use Rattle.std.specs.Cmp.Lexicographic.{slice_cmp, nat_list_cmp_total}
 use Rattle.std.specs.FinMap as finite
 use Rattle.std.specs.FinMap.{find}
-use Rattle.std.proofs.Common.{get_or-set_same, get_or-set_other}
 use Rattle.py_heap.specs.Numbering.{Numbers, IsNumbering}
 use Rattle.py_machine.specs.declared.frame.FrameSlot.{FrameSlot}
 use Rattle.py_machine.specs.declared.frame.FrameSlot.TheVariants.{Empty}

@@ -10,7 +10,7 @@ use py_machine::{
     BoundMethod, Fault, Machine, ValueKind, dict_method_named, list_method_named, no_attribute,
     text_method_named,
 };
-use py_objects::kind_of;
+use py_ops::kind_of;
 use py_value::Value;
 use std::alloc::Global;
 

@@ -6,7 +6,7 @@ ghost use Rattle.py_meaning.specs.Methods as spec;
 
 use py_heap::Object;
 use py_machine::{Change, Fault, Machine, no_key};
-use py_objects::keyed;
+use py_ops::keyed;
 use py_value::{Key, Value, key_text};
 use std::alloc::{AllocError, Global};
 

@@ -11,8 +11,7 @@ use plain_data::Items;
 use py_heap::Object;
 use py_items::{clipped, position_in, short_position};
 use py_machine::{Change, Fault, Machine, no_popped_index, popped_empty, wrong_argument};
-use py_objects::{copy_items, take_steps};
-use py_ops::{Signed, charge_items, sign_of};
+use py_ops::{Signed, charge_items, copy_items, sign_of, take_steps};
 use py_value::{Value, weight};
 use std::alloc::{AllocError, Global};
 

@@ -8,8 +8,7 @@ ghost use Rattle.py_meaning.specs.Methods as spec;
 use plain_data::{Items, SharedText};
 use py_heap::{METER_LIMIT, Object};
 use py_machine::{Fault, MAX_STEPS, Machine, empty_separator, memory_error, wrong_argument};
-use py_objects::take_steps;
-use py_ops::joined;
+use py_ops::{joined, take_steps};
 use py_value::Value;
 use std::alloc::{AllocError, Global};
 

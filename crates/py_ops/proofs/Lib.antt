@@ -3,3 +3,5 @@ pub mod Deeper
 pub mod Lengths
 pub mod Substrings
 pub mod Repeated
+pub mod Copied
+pub mod Stepping

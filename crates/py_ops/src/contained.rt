@@ -9,10 +9,10 @@ ghost use Rattle.py_meaning.specs.Items.{keyed as keyed_of};
 use crate::affixes::occurs;
 use crate::equal::pair_equal;
 use crate::positions::item_of;
+use crate::{keyed, kind_of};
 use plain_data::SharedText;
 use py_heap::{Dict, Object};
 use py_machine::{Fault, Machine, ValueKind, not_in_text, not_searched};
-use py_objects::{keyed, kind_of};
 use py_value::Value;
 use std::alloc::Global;
 

@@ -7,10 +7,10 @@ ghost use Rattle.py_meaning.specs.Operators as spec;
 
 use crate::numbers::{as_number, calculated};
 use crate::repetition::multiplied;
+use crate::{kind_of, list_at, take_steps};
 use plain_data::{Items, SharedText, Text};
 use py_heap::{METER_LIMIT, Object};
 use py_machine::{Fault, Machine, bad_operand, memory_error, overflow_error, unsupported_operands};
-use py_objects::{kind_of, list_at, take_steps};
 use py_tree::Op;
 use py_value::{Value, weight};
 use std::alloc::{AllocError, Global};

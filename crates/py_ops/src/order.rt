@@ -5,11 +5,11 @@ ghost use Rattle.py_meaning.specs.Acts.{run};
 ghost use Rattle.py_meaning.specs.Compared as spec;
 
 use crate::equal::pair_equal;
+use crate::kind_of;
 use crate::numbers::as_number;
 use crate::positions::item_of;
 use py_heap::Object;
 use py_machine::{Fault, Machine, not_ordered, recursion_error};
-use py_objects::kind_of;
 use py_tree::Op;
 use py_value::Value;
 use std::alloc::Global;

@@ -7,12 +7,12 @@ ghost use Rattle.py_meaning.specs.Numbers as numbers;
 ghost use Rattle.py_meaning.specs.Operators as spec;
 ghost use Rattle.py_ops.specs.Signs.{number_of};
 
+use crate::list_at;
 use crate::operators::{listed, unsupported};
 use crate::signs::{Signed, sign_of};
 use plain_data::{Items, SharedText, Text};
 use py_heap::METER_LIMIT;
 use py_machine::{Fault, Machine, memory_error};
-use py_objects::list_at;
 use py_tree::Op;
 use py_value::{Value, weight};
 use std::alloc::{AllocError, Global};

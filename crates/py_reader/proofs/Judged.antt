@@ -1,6 +1,5 @@
 -- What reading the tokens tells of the verdict.
-use Rattle.std.proofs.Common.{◌≡◌, ℕ, zero, suc, ◌+◌, ◌-◌, ◌<◌, ◌≤◌, Bool, true, false, ◌&&◌, nat_lt, nat_le, nat_eq, max, if◌then◌else◌, List, [], ◌∷◌, ◌++◌, length, take, drop, slice_get, Option, Some, None, refl, ap, ◌∙◌, sym, subst}
-use Rattle.std.proofs.Common.{arith}
+use Rattle.std.proofs.Common.{◌≡◌, ℕ, zero, suc, ◌+◌, ◌-◌, ◌<◌, ◌≤◌, Bool, true, false, ◌&&◌, nat_lt, nat_le, nat_eq, max, if◌then◌else◌, List, [], ◌∷◌, ◌++◌, length, take, drop, slice_get, Option, Some, None, refl, ap, ◌∙◌, sym, subst, arith, Result, Err}
 use Rattle.py_token.specs.declared.kinds.Kind.{Kind}
 use Rattle.py_token.specs.declared.kinds.Kind.TheVariants as t
 use Rattle.py_token.specs.declared.kinds.Token.{Token}
@@ -10,7 +9,6 @@ use Rattle.py_grammar.proofs.Whole.{then_run, run-append}
 use Rattle.py_postfix.specs.declared.entries.Entry.{Entry}
 use Rattle.py_nesting.specs.Depth.{count_if, depth, IsShallow, IsFirstTooDeep}
 use Rattle.std.specs.Option.{MatchOption}
-use Rattle.std.proofs.Common.{Result, Err}
 use Rattle.py_reader.specs.declared.fault.SyntaxFault.TheVariants.{TooDeep}
 use Rattle.py_reader.specs.declared.fault.SyntaxFault.{SyntaxFault}
 use Rattle.py_reader.specs.declared.scan.Scan.{Scan}

@@ -1,6 +1,5 @@
 -- What reading the tokens of a text that is to be one function alone tells of the verdict on it.
-use Rattle.std.proofs.Common.{◌≡◌, ℕ, zero, suc, ◌+◌, ◌<◌, ◌≤◌, Bool, true, false, nat_lt, if◌then◌else◌, List, [], ◌∷◌, length, take, drop, slice_get, Option, Some, None, Result, Ok, Err, refl, ap, ◌∙◌, sym, subst}
-use Rattle.std.proofs.Common.{arith}
+use Rattle.std.proofs.Common.{◌≡◌, ℕ, zero, suc, ◌+◌, ◌<◌, ◌≤◌, Bool, true, false, nat_lt, if◌then◌else◌, List, [], ◌∷◌, length, take, drop, slice_get, Option, Some, None, Result, Ok, Err, refl, ap, ◌∙◌, sym, subst, arith}
 use Rattle.std.proofs.lemmas.List.{take_all, drop_all}
 use Rattle.py_token.specs.declared.kinds.Kind.{Kind}
 use Rattle.py_token.specs.declared.kinds.Token.{Token}
@@ -15,9 +14,9 @@ use Rattle.py_grammar.specs.declared.constructs.Construct.{Construct}
 use Rattle.py_grammar.specs.States as m
 use Rattle.py_grammar.specs.Statements.{IsCell}
 use Rattle.py_grammar.specs.States.{done}
-use Rattle.py_definition.specs.Alone.{alone}
-use Rattle.py_definition.specs.Machine.{step_alone, run_alone}
-use Rattle.py_definition.proofs.Read.{then_alone, alone-read, read_is_one, one_is_read}
+use Rattle.py_grammar.specs.Alone.{alone}
+use Rattle.py_grammar.specs.AloneMachine.{step_alone, run_alone}
+use Rattle.py_grammar.proofs.AloneRead.{then_alone, alone-read, read_is_one, one_is_read}
 use Rattle.py_postfix.specs.declared.entries.Entry.{Entry}
 use Rattle.py_postfix.specs.Statements.{post_cell}
 use Rattle.py_statements.specs.declared.state.Reader.{Reader}

@@ -10,3 +10,4 @@ pub mod WholeAlone
 pub mod MeantAlone
 pub mod Told
 pub mod Sources
+pub mod Keeping

@@ -1,13 +1,12 @@
 -- The verdict says what it says in the words of the grammar.
-use Rattle.std.proofs.Common.{◌≡◌, ℕ, zero, suc, ◌+◌, ◌-◌, ◌<◌, ◌≤◌, Bool, true, false, nat_lt, nat_eq, if◌then◌else◌, List, [], ◌∷◌, length, take, slice_get, Option, Some, None, Result, Ok, Err, refl, ap, ◌∙◌, sym, subst}
-use Rattle.std.proofs.Common.{arith}
+use Rattle.std.proofs.Common.{◌≡◌, ℕ, zero, suc, ◌+◌, ◌-◌, ◌<◌, ◌≤◌, Bool, true, false, nat_lt, nat_eq, if◌then◌else◌, List, [], ◌∷◌, length, take, slice_get, Option, Some, None, Result, Ok, Err, refl, ap, ◌∙◌, sym, subst, arith}
 use Rattle.py_token.specs.declared.kinds.Kind.{Kind}
 use Rattle.py_token.specs.declared.kinds.Token.{Token}
 use Rattle.py_token.specs.declared.faults.TokenFault.{TokenFault}
 use Rattle.py_token.specs.Lines.{tokens_of}
 use Rattle.py_tree.specs.declared.statements.Tree.{Tree}
 use Rattle.py_grammar.specs.States as m
-use Rattle.py_grammar.specs.Outside.{Fails}
+use Rattle.py_grammar.specs.Outside.{Fails, outside}
 use Rattle.py_grammar.proofs.Whole.{led, then_run, read_is}
 use Rattle.py_token.proofs.Ends.{ends_well}
 use Rattle.py_grammar.proofs.Failing.{is_failing}
@@ -19,7 +18,6 @@ use Rattle.py_reader.specs.declared.fault.SyntaxFault.{SyntaxFault}
 use Rattle.py_reader.specs.declared.fault.SyntaxFault.TheVariants.{TooLong, TooDeep}
 use Rattle.py_reader.specs.Verdicts.{start_of, parts_before, of_cell, of_open, Verdict, too_long, bad_token, too_deep, refused, whole}
 use Rattle.py_reader.specs.Verdict.{End, all_read, stopped, run_from, deep_from, most, unless_deep, nested, of_end, of_tokens, verdict}
-use Rattle.py_grammar.specs.Outside.{outside}
 use Rattle.py_reader.specs.declared.fault.ReadError.{ReadError}
 use Rattle.py_reader.specs.declared.fault.ReadError.TheVariants.{OutOfMemory, Fault}
 use Rattle.py_reader.specs.Gives as gives

@@ -1,6 +1,5 @@
 -- The verdict on a text that is to be one function alone says what it says in the words of the grammar.
-use Rattle.std.proofs.Common.{◌≡◌, ℕ, suc, ◌+◌, ◌≤◌, Bool, true, false, nat_lt, if◌then◌else◌, List, [], ◌∷◌, length, take, slice_get, Option, Some, None, Result, Ok, Err, refl, ap, ◌∙◌, sym, subst}
-use Rattle.std.proofs.Common.{arith}
+use Rattle.std.proofs.Common.{◌≡◌, ℕ, suc, ◌+◌, ◌≤◌, Bool, true, false, nat_lt, if◌then◌else◌, List, [], ◌∷◌, length, take, slice_get, Option, Some, None, Result, Ok, Err, refl, ap, ◌∙◌, sym, subst, arith}
 use Rattle.py_token.specs.declared.kinds.Kind.{Kind}
 use Rattle.py_token.specs.declared.kinds.Token.{Token}
 use Rattle.py_token.specs.declared.faults.TokenFault.{TokenFault}
@@ -12,10 +11,10 @@ use Rattle.py_grammar.specs.Statements.{Params, Block, IsCell}
 use Rattle.py_grammar.specs.States as m
 use Rattle.py_grammar.specs.Outside.{outside}
 use Rattle.py_grammar.proofs.Whole.{led}
-use Rattle.py_definition.specs.Alone.{alone, IsDefinition, FailsAlone}
-use Rattle.py_definition.specs.Machine.{step_alone, run_alone}
-use Rattle.py_definition.proofs.Read.{then_alone, alone-read, read_is_one}
-use Rattle.py_definition.proofs.Failing.{is_failing}
+use Rattle.py_grammar.specs.Alone.{alone, IsDefinition, FailsAlone}
+use Rattle.py_grammar.specs.AloneMachine.{step_alone, run_alone}
+use Rattle.py_grammar.proofs.AloneRead.{then_alone, alone-read, read_is_one}
+use Rattle.py_grammar.proofs.AloneFailing.{is_failing}
 use Rattle.py_postfix.specs.Statements.{post_cell}
 use Rattle.py_nesting.specs.Depth.{IsShallow}
 use Rattle.py_build.specs.Built.{kinds}

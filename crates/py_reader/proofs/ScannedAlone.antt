@@ -8,9 +8,9 @@ use Rattle.py_grammar.specs.Statements.{compound, choose, Statements, statements
 use Rattle.py_grammar.specs.States as m
 use Rattle.py_grammar.specs.States.{outer, line, after_colon, after_newline}
 use Rattle.py_grammar.proofs.Whole.{run-append, then_run}
-use Rattle.py_definition.specs.Machine.{step_alone, run_alone}
-use Rattle.py_definition.proofs.Kept.{step-read}
-use Rattle.py_definition.proofs.Read.{then_alone, alone-append}
+use Rattle.py_grammar.specs.AloneMachine.{step_alone, run_alone}
+use Rattle.py_grammar.proofs.AloneKept.{step-read}
+use Rattle.py_grammar.proofs.AloneRead.{then_alone, alone-append}
 use Rattle.py_postfix.specs.declared.entries.Entry.{Entry}
 use Rattle.py_statements.specs.declared.state.Reader.{Reader}
 use Rattle.py_statements.specs.Held.{held_last, held_state}

@@ -1,6 +1,5 @@
 -- What the words of a text that is one function span.
-use Rattle.std.proofs.Common.{◌≡◌, ℕ, ◌-◌, ◌≤◌, Bool, true, false, List, [], ◌∷◌, ◌++◌, length, Option, Some, None, Ok, refl, ap, ◌∙◌, sym, subst}
-use Rattle.std.proofs.Common.{arith, length-append, take_all, take_at}
+use Rattle.std.proofs.Common.{◌≡◌, ℕ, ◌-◌, ◌≤◌, Bool, true, false, List, [], ◌∷◌, ◌++◌, length, Option, Some, None, Ok, refl, ap, ◌∙◌, sym, subst, arith, length-append, take_all, take_at}
 use Rattle.std.proofs.lemmas.List.{reverse-append}
 use Rattle.std.specs.Prelude.{reverse, find, not, slice_range, IsUtf8, if◌then◌else◌}
 use Rattle.py_token.specs.declared.kinds.Kind.{Kind}
@@ -12,7 +11,7 @@ use Rattle.py_token.proofs.Ends.{ends_well}
 use Rattle.py_grammar.specs.Words.{def_word}
 use Rattle.py_grammar.specs.Statements.{Params, Block, Statement, compound, define, spell_statement}
 use Rattle.py_grammar.proofs.Places.{statement-tokens}
-use Rattle.py_definition.specs.Alone.{IsDefinition}
+use Rattle.py_grammar.specs.Alone.{IsDefinition}
 use Rattle.py_build.specs.Source.{is_layout, last_word, text_of, text_up_to, text_from, source_of}
 use Rattle.py_build.specs.Built.{kinds}
 use Rattle.py_build.proofs.Texts.{text_of-utf8}

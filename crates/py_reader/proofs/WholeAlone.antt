@@ -1,6 +1,5 @@
 -- What the tokens of one function are judged as, by what is before them, their nesting and what is after them.
-use Rattle.std.proofs.Common.{◌≡◌, ℕ, ◌≤◌, Bool, false, nat_lt, if◌then◌else◌, List, [], ◌∷◌, ◌++◌, length, Option, None, Ok, Err, IsUtf8, ap, ◌∙◌, sym}
-use Rattle.std.proofs.Common.{arith}
+use Rattle.std.proofs.Common.{◌≡◌, ℕ, ◌≤◌, Bool, false, nat_lt, if◌then◌else◌, List, [], ◌∷◌, ◌++◌, length, Option, None, Ok, Err, IsUtf8, ap, ◌∙◌, sym, arith}
 use Rattle.py_token.specs.declared.kinds.Token.{Token}
 use Rattle.py_tree.specs.declared.statements.Def.{Def, roll-Def}
 use Rattle.py_tree.specs.declared.statements.Stmt.{Stmt, out-Stmt}
@@ -10,7 +9,7 @@ use Rattle.py_tree.specs.declared.statements.Stmt.TheVariants as s
 use Rattle.py_tree.specs.declared.statements.Arm.{Arm}
 use Rattle.py_grammar.specs.Statements.{Cell, IsCell}
 use Rattle.py_grammar.specs.Trees.{tree_params, tree_block, tree_cell}
-use Rattle.py_definition.specs.Alone.{alone}
+use Rattle.py_grammar.specs.Alone.{alone}
 use Rattle.py_postfix.specs.declared.entries.Entry.{Entry}
 use Rattle.py_postfix.specs.Statements.{post_cell}
 use Rattle.py_build.specs.Source.{source_of}

@@ -8,8 +8,8 @@ use Rattle.py_grammar.specs.declared.constructs.Construct.{Construct}
 use Rattle.py_grammar.specs.Words.{def_word}
 use Rattle.py_grammar.specs.Statements.{Params, Block}
 use Rattle.py_grammar.specs.States as forms
-use Rattle.py_definition.specs.Alone.{alone, IsDefinition}
-use Rattle.py_definition.specs.Machine.{step_alone, run_alone}
+use Rattle.py_grammar.specs.Alone.{alone, IsDefinition}
+use Rattle.py_grammar.specs.AloneMachine.{step_alone, run_alone}
 use Rattle.py_postfix.specs.declared.entries.Entry.{Entry}
 use Rattle.py_postfix.specs.Statements.{post_cell}
 use Rattle.py_statements.specs.declared.state.Last.{Last}

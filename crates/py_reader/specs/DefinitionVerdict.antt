@@ -8,8 +8,8 @@ use Rattle.py_tree.specs.declared.statements.Def.{Def}
 use Rattle.py_grammar.specs.Statements.{compound, define, statements_one}
 use Rattle.py_grammar.specs.States.{State, done, start}
 use Rattle.py_grammar.specs.Outside.{outside}
-use Rattle.py_definition.specs.Alone.{alone}
-use Rattle.py_definition.specs.Machine.{step_alone}
+use Rattle.py_grammar.specs.Alone.{alone}
+use Rattle.py_grammar.specs.AloneMachine.{step_alone}
 use Rattle.py_postfix.specs.declared.entries.Entry.{Entry}
 use Rattle.py_postfix.specs.Statements.{post_cell}
 use Rattle.py_statements.specs.Written.{written_state}

@@ -8,7 +8,7 @@ use Rattle.py_tree.specs.declared.statements.Def.{Def, roll-Def}
 use Rattle.py_grammar.specs.declared.constructs.Construct.{Construct}
 use Rattle.py_grammar.specs.Statements.{Params, Block}
 use Rattle.py_grammar.specs.Trees.{tree_params, tree_block}
-use Rattle.py_definition.specs.Alone.{alone, IsDefinition, FailsAlone}
+use Rattle.py_grammar.specs.Alone.{alone, IsDefinition, FailsAlone}
 use Rattle.py_postfix.specs.declared.entries.Entry.{Entry}
 use Rattle.py_postfix.specs.Statements.{post_cell}
 use Rattle.py_statements.specs.Written.{written_state}

@@ -8,3 +8,4 @@ pub mod Alone
 pub mod Texts
 pub mod Sources
 pub mod Completeness
+pub mod Kept

@@ -4,20 +4,28 @@
 //! The tokens are read one after the other by a machine that writes the postfix form of the cell (`py_statements`), from which
 //! the nesting is judged (`py_nesting`) and the tree is built (`py_build`). Nothing is recursive, so no text, however deep its
 //! brackets or long its chains, needs a larger stack.
+//!
+//! `Trees` keeps the trees of codes that were read, so that a code that comes again isn't read again. Contracts say nothing of which
+//! codes are kept, so a `look` that finds nothing, or a `keep` that keeps nothing, would be proved too. The tests keep codes and find
+//! them.
 #![tactic(auto)]
 
 mod answer;
 mod begun;
 mod definition;
 mod fault;
+#[cfg(test)]
+mod kept_tests;
 mod read;
 mod scan;
 #[cfg(test)]
 mod tests;
 mod text;
+mod trees;
 
 pub use answer::Completeness;
 pub use begun::completeness;
 pub use definition::read_def;
 pub use fault::{ReadError, SyntaxFault};
 pub use read::read_cell;
+pub use trees::Trees;

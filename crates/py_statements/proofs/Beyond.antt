@@ -3,17 +3,15 @@ use Rattle.std.proofs.Common.{◌≡◌, ◌↔◌, IsTrue, Bool, if◌then◌el
 use Rattle.py_token.specs.declared.kinds.Kind.{Kind}
 use Rattle.py_token.specs.declared.kinds.Kind.TheVariants as t
 use Rattle.py_token.specs.declared.kinds.Keyword.TheVariants as k
-use Rattle.py_grammar.specs.Words.{def_word, assign_sign}
+use Rattle.py_grammar.specs.Words.{def_word, assign_sign, comma}
 use Rattle.py_grammar.specs.declared.constructs.Construct.TheVariants.{ChainedAssignment}
 use Rattle.py_grammar.specs.Expressions.{Expression}
 use Rattle.py_grammar.specs.Readings as r
-use Rattle.py_grammar.specs.Readings.{whole}
+use Rattle.py_grammar.specs.Readings.{whole, is_empty}
 use Rattle.py_grammar.specs.Statements.{Target, Cell}
 use Rattle.py_grammar.specs.States as m
 use Rattle.py_grammar.specs.States.{outer, showing, giving, deleting, assigning, augmenting, line, in_simple, after_word, in_global, has_global, in_test, after_for, after_for_name, after_else, after_def, after_def_name, in_params, has_params, after_params, after_colon, after_newline, done}
 use Rattle.py_grammar.specs.Outside as g
-use Rattle.py_grammar.specs.Readings.{is_empty}
-use Rattle.py_grammar.specs.Words.{comma}
 use Rattle.py_grammar.specs.Outside.{first_of}
 use Rattle.py_expressions.specs.Held.{held, held_opened}
 use Rattle.py_expressions.specs.Places.{is_whole}

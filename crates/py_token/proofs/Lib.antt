@@ -7,3 +7,9 @@ pub mod Inverted
 pub mod Quoted
 pub mod Reading
 pub mod Spelled
+pub mod CutLexemes
+pub mod CutBlocks
+pub mod CutTurning
+pub mod CutReading
+pub mod CutReaching
+pub mod Cutting

@@ -5,3 +5,4 @@ pub mod Laws
 pub mod Gives
 pub mod Bodies
 pub mod Texts
+pub mod Cuts

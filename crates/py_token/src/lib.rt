@@ -1,7 +1,8 @@
-//! The tokens of a text of the language.
+//! The tokens of a text of the language. A law says that a section of a text, cut out alone, has the same tokens.
 #![tactic(auto)]
 
 mod blocks;
+mod cut_laws;
 mod faults;
 mod kinds;
 mod lexemes;
@@ -14,6 +15,7 @@ mod texts;
 mod turns;
 mod words;
 
+pub use cut_laws::a_cut_text_has_the_same_tokens;
 pub use faults::{TokenError, TokenFault};
 pub use kinds::{Keyword, Kind, Symbol, Token};
 pub use read::tokens;

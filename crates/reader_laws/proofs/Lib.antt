@@ -1,1 +1,10 @@
 pub mod Variables
+pub mod Made
+pub mod Named
+pub mod Tokens
+pub mod Allowed
+pub mod Parts
+pub mod Tails
+pub mod Shallow
+pub mod Alone
+pub mod Cells

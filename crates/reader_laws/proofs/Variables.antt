@@ -13,7 +13,7 @@ use Rattle.py_reader.specs.Definitions as functions
 use Rattle.py_reader.specs.DefinitionVerdict.{verdict_alone}
 use Rattle.py_reader.proofs.Meant.{means}
 use Rattle.py_reader.proofs.MeantAlone as alone
-use Rattle.tree_laws.proofs.Tokens.{cell_names, function_names}
+use Rattle.reader_laws.proofs.Tokens.{cell_names, function_names}
 
 judged : (code : List ℕ) (body : List Stmt) → Verdict code (Ok body) → AllPass is_variable (names_in body)
 judged _ _ (cells.whole {code} {tokens} {cell} l e is shallow) = cell_names code tokens (source_of code tokens) cell e is

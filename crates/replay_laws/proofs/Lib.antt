@@ -14,3 +14,5 @@ pub mod Canonical
 pub mod OneWalk
 pub mod Renumbering
 pub mod Sizing
+pub mod Zips
+pub mod PartsAlike

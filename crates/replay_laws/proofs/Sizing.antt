@@ -17,7 +17,7 @@ use Rattle.py_laws.proofs.Partners.{first_in, later_in}
 use Rattle.part_bytes.specs.Parts.{order}
 use Rattle.part_bytes.specs.Texts.{bytes_of, part_text}
 use Rattle.part_bytes.proofs.Orders.{order_lists}
-use Rattle.part_laws.proofs.Alike.{one_part}
+use Rattle.replay_laws.proofs.PartsAlike.{one_part}
 use Rattle.run_graph.specs.Histories.{Run}
 use Rattle.run_graph.specs.Fitting.{TellsParts}
 use Rattle.run_graph.proofs.Weighing.{same_truth, handles_alike}

@@ -1,6 +1,6 @@
 -- Lists in messages have no floats, and neither do their pieces.
 use Rattle.std.proofs.Common.{◌≡◌, ℕ, zero, suc, Bool, false, List, [], ◌∷◌, ◌++◌, refl, sym, subst}
-use Rattle.std.specs.Prelude.{map, take, drop}
+use Rattle.std.specs.Prelude.{map, take, drop, codes}
 use Rattle.std.proofs.lemmas.Bool.{or_parts, or_from}
 use Rattle.std.proofs.lemmas.List.{take-map, drop-map}
 use Rattle.serde_json.specs.Data.{Data, string}
@@ -14,7 +14,6 @@ use Rattle.session_core.specs.declared.reply.Completion.TheVariants as completio
 use Rattle.session_core.specs.declared.entry.MoveRefusal.{MoveRefusal}
 use Rattle.session_core.specs.declared.entry.MoveRefusal.TheVariants as refusal
 use Rattle.reply_frames.specs.Replies.{step, steps, arc_said, completion_content, shutdown_content, stuck_content, stayed_content, refused_content}
-use Rattle.std.specs.Prelude.{codes}
 
 front_no_float : (n : ℕ) (ds : List Data) → items_have_float (items_of ds) ≡ false → items_have_float (items_of (take n ds)) ≡ false
 front_no_float zero ds none = refl

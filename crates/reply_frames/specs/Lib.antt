@@ -3,4 +3,3 @@ pub mod Frames
 pub mod Pieces
 pub mod Replies
 pub mod Nodes
-pub mod Intake

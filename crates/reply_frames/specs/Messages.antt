@@ -3,8 +3,8 @@ use Rattle.std.specs.Prelude.{ℕ, List, [], ◌∷◌, ◌++◌, codes, length,
 use Rattle.serde_json.specs.Data.{Data, number, unsigned, string, array, object, no_items, item, Members, no_members, member}
 use Rattle.session_core.specs.declared.request.Channel.{Channel}
 use Rattle.session_core.specs.declared.request.Channel.TheVariants.{Shell, Control}
-use Rattle.py_session.specs.declared.reply.Failure.{Failure}
-use Rattle.text_cuts.specs.Cuts.{prefix_within, pieces}
+use Rattle.session_core.specs.declared.reply.Failure.{Failure}
+use Rattle.plain_data.specs.Cuts.{prefix_within, pieces}
 
 -- ---- JSON
 

@@ -27,7 +27,7 @@ use Rattle.session_core.specs.declared.entry.MoveRefusal.{MoveRefusal}
 use Rattle.session_core.specs.declared.entry.MoveRefusal.TheVariants as refusal
 use Rattle.session_core.specs.declared.entry.Entry.{Entry}
 use Rattle.session_core.specs.declared.entry.Entry.TheVariants as entry
-use Rattle.py_session.specs.declared.reply.Failure.{Failure}
+use Rattle.session_core.specs.declared.reply.Failure.{Failure}
 use Rattle.reply_frames.specs.declared.lists.Listing.{Listing}
 use Rattle.reply_frames.specs.declared.lists.Listing.TheVariants as listing
 use Rattle.reply_frames.specs.Messages.{Said, json, whole, on_iopub, channel_name, busy, idle, evalue, traceback, input, streams, results, error, reply_content}
@@ -46,11 +46,6 @@ unfoldable pub open_content : ℕ → Data
 open_content host = json ((codes "host", whole host) ∷ (codes "status", string (codes "ok")) ∷ [])
 
 -- ---- what ran
-
--- an error without a name is none
-abbrev pub failure_in : List ℕ → List ℕ → Option Failure
-failure_in [] text = None
-failure_in (c ∷ name) text = Some (record { name = c ∷ name; text = text })
 
 -- the error of a cell, or its result if it has one
 unfoldable pub outcome : ℕ → Option (List ℕ) → Option Failure → List Said
@@ -92,7 +87,7 @@ unfoldable pub shutdown_content : Bool → Data
 shutdown_content restart = json ((codes "restart", boolean restart) ∷ (codes "status", string (codes "ok")) ∷ [])
 
 unfoldable pub ran_said : Request → Reply → List Said
-ran_said request (reply.Executed count silent printed shown ename text) = cell_said silent request count printed shown (failure_in ename text)
+ran_said request (reply.Executed count silent printed shown failure) = cell_said silent request count printed shown failure
 ran_said request reply.Info = replied request (codes "kernel_info_reply") info_content ∷ []
 ran_said request (reply.Complete whether) = replied request (codes "is_complete_reply") (completion_content whether) ∷ []
 ran_said request (reply.Shut restart) = replied request (codes "shutdown_reply") (shutdown_content restart) ∷ []

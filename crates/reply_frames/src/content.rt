@@ -7,11 +7,10 @@ ghost use Rattle.reply_frames.specs.Messages.{json, whole};
 ghost use Rattle.reply_frames.specs.Replies as replies;
 
 use crate::envelope::push_text;
-use plain_data::Text;
-use py_session::Failure;
+use plain_data::{Text, cut_at};
 use serde_json::{Value, json};
+use session_core::Failure;
 use std::alloc::{AllocError, Global};
-use text_cuts::cut_at;
 
 /// The most bytes of a cell's code that are said.
 const MOST_CODE: usize = 262_144;

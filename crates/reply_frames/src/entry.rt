@@ -5,10 +5,9 @@ ghost use Rattle.reply_frames.specs.Frames as spec;
 use crate::content::{error_content, input_content, result_content, status_json, stream_content};
 use crate::outbox::Outbox;
 use jupyter_messages::Channel;
-use plain_data::Text;
-use py_session::Failure;
+use plain_data::{Text, cut_at};
+use session_core::Failure;
 use std::alloc::{AllocError, Global};
-use text_cuts::cut_at;
 
 /// The most bytes of a piece of printed text.
 const MOST_PIECE: usize = 65_536;
@@ -52,7 +51,7 @@ fn say_stream(outbox: &mut Outbox<'_>, alloc: Global, piece: &str) -> Result<(),
 }
 
 /// The printed text, in pieces of at most 65,536 bytes.
-#[tactic(auto, unfolding(text_cuts::specs::Cuts::pieces))]
+#[tactic(auto, unfolding(plain_data::specs::Cuts::pieces))]
 pub fn say_streams(outbox: &mut Outbox<'_>, alloc: Global, printed: &str) -> Result<(), AllocError>
     ensures { OnOk result (outbox.new ≡ spec.say_all (said.streams printed.now) outbox.old) }
 {

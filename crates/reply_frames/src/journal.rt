@@ -13,14 +13,13 @@ use crate::lists::{Listing, arcs_of, say_lists, steps_of};
 use crate::message::kernel_name;
 use crate::outbox::Outbox;
 use crate::replies::{
-    completion_content, dead_failure, died_failure, failed_reply, failure_in, host_content,
-    info_content, moved_content, refused_content, reply_kind, resumed_content, shutdown_content,
+    completion_content, dead_failure, died_failure, failed_reply, host_content, info_content,
+    moved_content, refused_content, reply_kind, resumed_content, shutdown_content,
 };
 use graph_model::Certified;
 use plain_data::{Items, Text};
-use py_session::Failure;
 use serde_json::Value;
-use session_core::{Ask, Channel, Completion, Entry, Header, MoveRefusal, Reply, Request};
+use session_core::{Ask, Channel, Completion, Entry, Failure, Header, MoveRefusal, Reply, Request};
 use std::alloc::{AllocError, Global};
 
 /// A reply, on the channel of its request.
@@ -147,14 +146,12 @@ fn say_ran(
             silent,
             printed,
             shown,
-            ename,
-            evalue,
+            error,
         } => {
-            let failure = failure_in(alloc, ename.as_str(), evalue.as_str())?;
             if *silent {
-                say_cell_reply(outbox, alloc, request, *count, &failure)
+                say_cell_reply(outbox, alloc, request, *count, error)
             } else {
-                say_cell(outbox, alloc, request, *count, printed, shown, &failure)
+                say_cell(outbox, alloc, request, *count, printed, shown, error)
             }
         }
         Reply::Info => say_info(outbox, alloc, request),

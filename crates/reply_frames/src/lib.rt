@@ -12,7 +12,6 @@ mod content;
 mod entry;
 mod envelope;
 mod journal;
-pub mod laws;
 mod lists;
 mod message;
 mod node;

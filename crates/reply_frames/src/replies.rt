@@ -12,9 +12,8 @@ use crate::content::{failed_content, reply_content};
 use graph_model::Certified;
 use plain_data::Text;
 use plan_model::{Weight, WeightFault};
-use py_session::Failure;
 use serde_json::{Value, json};
-use session_core::{Ask, Completion, DiedCause, MoveRefusal};
+use session_core::{Ask, Completion, DiedCause, Failure, MoveRefusal};
 use std::alloc::{AllocError, Global};
 
 /// The most names of a version in a reply.
@@ -111,16 +110,6 @@ pub fn reply_kind(ask: &Ask) -> &'static str
         Ask::Shutdown { .. } => "shutdown_reply",
         Ask::Migrate { .. } => "migrate_reply",
     }
-}
-
-/// An error with this name and text; none if the name is empty.
-pub fn failure_in(alloc: Global, name: &str, text: &str) -> Result<Option<Failure>, AllocError>
-    ensures { IfOk result (λ failure. failure ≡ spec.failure_in name.now text.now) }
-{
-    if name.is_empty() {
-        return Ok(None);
-    }
-    Ok(Some(failure_of(alloc, name, text)?))
 }
 
 fn failure_of(alloc: Global, name: &str, text: &str) -> Result<Failure, AllocError>

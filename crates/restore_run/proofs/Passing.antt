@@ -8,7 +8,7 @@ use Rattle.py_laws.proofs.Closing.{closed_after}
 use Rattle.graph_model.specs.declared.graph.CellRecord.{CellRecord}
 use Rattle.graph_model.specs.Graphs.{CellAt}
 use Rattle.run_graph.specs.Soundness.{statements}
-use Rattle.read_runs.specs.Reading.{read}
+use Rattle.every_history.specs.Reading.{read}
 use Rattle.checkpoint_reader.specs.declared.checkpoint.Checkpoint.{Checkpoint}
 use Rattle.replay_laws.specs.Walks.{with_meter, done_again}
 use Rattle.restore_run.specs.declared.fault.RestoreFault.{RestoreFault}

@@ -21,11 +21,11 @@ use Rattle.py_heap.specs.Dicts.{Pairs, value_under}
 use Rattle.py_heap.specs.References.{value_refs, pair_refs, object_refs, AreLive}
 use Rattle.py_heap.specs.Reaching.{held_refs}
 use Rattle.part_bytes.specs.declared.part.PartValue.{PartValue}
-use Rattle.part_reader.specs.declared.fault.PartFault.{PartFault}
-use Rattle.part_reader.specs.declared.fault.PartFault.TheVariants.{BadTag, BadRef, BadKey, BadText}
-use Rattle.part_reader.specs.declared.spot.Spot.{Spot}
-use Rattle.part_reader.specs.Reads.{Answer, Read, pure, fail, place, after, ◌>>=◌, more}
-use Rattle.part_reader.specs.Reading.{referred_to, builtin_of, builtin_at, function_of, is_object_tag, bounded, taken, byte, four, sixteen, text, key_by, reference, builtin, value_by, value, held, pair_with, pair, list, dict, function, content, object_by, object, objects, names, values, part, start, with_size, part_read}
+use Rattle.checkpoint_reader.specs.declared.part_fault.PartFault.{PartFault}
+use Rattle.checkpoint_reader.specs.declared.part_fault.PartFault.TheVariants.{BadTag, BadRef, BadKey, BadText}
+use Rattle.checkpoint_reader.specs.declared.spot.Spot.{Spot}
+use Rattle.checkpoint_reader.specs.PartReads.{Answer, Read, pure, fail, place, after, ◌>>=◌, more}
+use Rattle.checkpoint_reader.specs.PartReading.{referred_to, builtin_of, builtin_at, function_of, is_object_tag, bounded, taken, byte, four, sixteen, text, key_by, reference, builtin, value_by, value, held, pair_with, pair, list, dict, function, content, object_by, object, objects, names, values, part, start, with_size, part_read}
 
 -- ---- from one spot to another
 

@@ -24,7 +24,7 @@ use Rattle.part_bytes.proofs.ByAddress.{there}
 use Rattle.checkpoint_reader.specs.declared.checkpoint.Checkpoint.{Checkpoint}
 use Rattle.checkpoint_reader.specs.Fields.{is_same, is_otherwise, is_unlike}
 use Rattle.checkpoint_reader.specs.Numbered.{IsCopyAt}
-use Rattle.read_runs.specs.Reading.{read}
+use Rattle.every_history.specs.Reading.{read}
 use Rattle.replay_laws.specs.Walks.{IsLoaded, Passes, GivesBack, GivesAllBack, goes_on}
 use Rattle.part_loader.specs.Loading.{state_of, loaded}
 use Rattle.part_loader.proofs.Loads.{AreDistinct, never_descending_distinct, part_loaded}

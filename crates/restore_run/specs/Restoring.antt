@@ -9,7 +9,7 @@ use Rattle.graph_model.specs.Graphs.{CellAt}
 use Rattle.graph_model.specs.Faults.{Never, IsGraph}
 use Rattle.graph_model.specs.Plans.{NamesOf, IsFeasible}
 use Rattle.linked_parts.specs.Parts.{ArePartsOf}
-use Rattle.read_runs.specs.Reading.{read}
+use Rattle.every_history.specs.Reading.{read}
 use Rattle.part_bytes.specs.declared.part.PartValue.{PartValue}
 use Rattle.checkpoint_reader.specs.declared.checkpoint.Checkpoint.{Checkpoint}
 use Rattle.checkpoint_reader.specs.declared.fault.CheckpointFault.TheVariants as checkpoint

@@ -1,13 +1,12 @@
 ghost use Rattle.std.specs.Prelude.{◌≡◌, ◌≤◌, [], Ok};
 ghost use Rattle.py_meaning.specs.Cells.{outcome, Asks};
-ghost use Rattle.read_runs.specs.Reading as reading;
+ghost use Rattle.every_history.specs.Reading as reading;
 ghost use Rattle.replay_laws.specs.Walks.{done_again};
 
 use graph_model::CellRecord;
-use kept_trees::Trees;
 use nb_outside::NoFeed;
 use py_kernel::Kernel;
-use py_reader::{ReadError, read_cell};
+use py_reader::{ReadError, Trees, read_cell};
 use py_tree::{Stmt, Tree};
 use std::alloc::{AllocError, Global};
 

@@ -5,7 +5,7 @@ ghost use Rattle.py_meaning.specs.Cells.{Asks};
 ghost use Rattle.graph_model.specs.declared.graph.Version.{Version};
 ghost use Rattle.graph_model.specs.Graphs.{CellAt, VersionAt};
 ghost use Rattle.graph_model.specs.Faults.{Ascends};
-ghost use Rattle.read_runs.specs.Reading as reading;
+ghost use Rattle.every_history.specs.Reading as reading;
 ghost use Rattle.replay_laws.specs.Walks.{done_again, Passes, GivesBack, GivesAllBack};
 ghost use Rattle.part_loader.specs.Loading.{loaded};
 ghost use Rattle.restore_run.specs.Restoring.{IsSound, copies, IsWalked, DrawsAgain};
@@ -15,12 +15,12 @@ ghost use Rattle.checkpoint_reader.specs.declared.checkpoint.Checkpoint.{Checkpo
 use crate::again::{Ran, run_again};
 use crate::fault::RestoreFault;
 use graph_model::{CellRecord, Graph, Plan, Version};
-use kept_trees::Trees;
 use part_bytes::PartValue;
 use part_loader::load;
 use plain_data::Items;
 use py_heap::State;
 use py_kernel::Kernel;
+use py_reader::Trees;
 use std::alloc::{AllocError, Global};
 
 /// Whether the number is among the numbers, which ascend.

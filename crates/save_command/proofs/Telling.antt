@@ -6,7 +6,7 @@ use Rattle.nb_outside.specs.Streams.{Adds, Takes}
 use Rattle.graph_model.specs.declared.plan.Weights.{Weights}
 use Rattle.session_core.specs.declared.entry.Entry.{Entry}
 use Rattle.session_core.specs.Meanings.{Meaning}
-use Rattle.reply_frames.specs.Intake.{Taken}
+use Rattle.node_intake.specs.Intake.{Taken}
 use Rattle.reply_frames.specs.declared.node.NodeError.{NodeError}
 use Rattle.notebook_meaning.specs.Notebooks.{notebooks}
 use Rattle.node_run.specs.declared.end.RunEnd.{RunEnd}

@@ -3,7 +3,7 @@ use Rattle.std.specs.Prelude.{◌≡◌, ◌≢◌, ℕ, ◌⊎◌, Bool, ◌||�
 use Rattle.nb_outside.specs.Streams.{Adds}
 use Rattle.graph_model.specs.declared.plan.Weights.{Weights}
 use Rattle.session_core.specs.declared.entry.Entry.{Entry}
-use Rattle.reply_frames.specs.Intake.{Node}
+use Rattle.node_intake.specs.Intake.{Node}
 use Rattle.notebook_meaning.specs.Notebooks.{notebooks}
 use Rattle.node_run.specs.declared.end.RunEnd.{RunEnd}
 use Rattle.node_run.specs.declared.end.RunEnd.TheVariants.{Whole}

@@ -1,8 +1,10 @@
 -- What a session's feed gave, as its journal goes on.
-use Rattle.std.proofs.Common.{◌≡◌, ℕ, true, false, ◌⊎◌, inl, inr, List, [], ◌∷◌, ◌++◌, append_assoc, append-nil, refl, sym, ap, ◌∙◌, subst, Option, Some, None, Err}
+use Rattle.std.proofs.Common.{◌≡◌, ℕ, zero, suc, ◌<◌, true, false, ◌⊎◌, inl, inr, List, [], ◌∷◌, ◌++◌, append_assoc, append-nil, refl, sym, ap, ◌∙◌, subst, Option, Some, None, Err, arith}
+use Rattle.std.specs.Prelude.{replicate}
 use Rattle.std.specs.List.{AllByRecursion}
 use Rattle.std.proofs.lemmas.List.Concat.{flat_map-append}
 use Rattle.nb_outside.specs.declared.feed.Drawn.{Drawn}
+use Rattle.nb_outside.specs.declared.feed.Drawn.TheVariants.{Failed}
 use Rattle.nb_outside.specs.Feeds.{Seen, HasAll, AreTaken, Fed}
 use Rattle.nb_outside.proofs.Feeding.{fed_none, fed_more}
 use Rattle.session_core.specs.declared.request.Request.{Request}
@@ -130,11 +132,18 @@ fed_by answers old new e seen now is alive drew h = fed_either answers old new e
 
 -- ---- the feed's answers
 
+first_of : (answers draws lost more given : List Drawn) (n : ℕ) → answers ≡ given ++ more → draws ++ lost ≡ given ++ replicate n Failed → (0 < n → more ≡ [])
+    → AreFirstAnswers (Some answers) draws
+first_of answers draws lost more given zero a d none =
+    (lost ++ more, 0, append-nil answers ∙ a ∙ ap (λ z. z ++ more) (sym (append-nil given) ∙ sym d) ∙ append_assoc draws lost more)
+first_of answers draws lost more given (suc n) a d none =
+    (lost, suc n, ap (λ z. z ++ replicate (suc n) Failed) (a ∙ ap (λ z. given ++ z) (none (omega arith)) ∙ append-nil given) ∙ sym d)
+
 first_taken : (answers made left : Option (List Drawn)) (draws lost : List Drawn) → made ≡ answers → AreTaken made (draws ++ lost) left → AreFirstAnswers answers draws
 first_taken None made left draws lost is taken = tt
 first_taken (Some answers) made left draws lost is taken =
-    let t = subst (λ m. AreTaken m (draws ++ lost) left) is taken in
-    (lost ++ t.0, t.1, t.3 ∙ append_assoc draws lost t.0)
+    let (more, is_left, t) = subst (λ m. AreTaken m (draws ++ lost) left) is taken in
+    first_of answers draws lost more t.given t.failures t.answers_are t.drawn_are t.none_left
 
 -- what the entries say was drawn are the feed's first answers
 pub first_answers : (answers : Option (List Drawn)) (entries : List Entry) (seen : Seen) → HasFed answers entries seen → AreFirstAnswers answers (drawn_in entries)

@@ -22,5 +22,5 @@ pub use alone::Alone;
 pub use engine::{Engine, PackFault, Packed, RunFault};
 pub use entry::{DiedCause, Entry, MoveRefusal, copies_of_texts};
 pub use journal::Journal;
-pub use reply::{Completion, Done, Reply};
+pub use reply::{Completion, Done, Failure, Reply};
 pub use request::{Ask, Channel, Header, Request};

@@ -13,6 +13,15 @@ pub enum Completion {
     Invalid,
 }
 
+/// An error of a cell. (Jupyter messaging 5.3, `error`: `ename` and `evalue`.)
+#[derive(Debug, Drop)]
+pub struct Failure {
+    /// The name of the error, for example `NameError`.
+    pub name: Text,
+    /// What it says.
+    pub text: Text,
+}
+
 /// What a session answers to an ask.
 #[derive(Debug, Drop)]
 pub enum Reply {
@@ -25,10 +34,8 @@ pub enum Reply {
         printed: Text,
         /// The text of its last expression's value, if that is one and isn't None.
         shown: Option<Text>,
-        /// The name of the error that ended it; empty if none did.
-        ename: Text,
-        /// The text of that error.
-        evalue: Text,
+        /// The error that ended it, if one did.
+        error: Option<Failure>,
     },
     Info,
     Complete(Completion),
@@ -53,6 +60,27 @@ fn copy_of_shown(alloc: Global, shown: &Option<Text>) -> Result<Option<Text>, Al
     }
 }
 
+fn copy_of_error(alloc: Global, error: &Option<Failure>) -> Result<Option<Failure>, AllocError>
+    ensures { IfOk result (λ copy. copy ≡ error.now) }
+{
+    match error {
+        Some(failure) => Ok(Some(failure.copy(alloc)?)),
+        None => Ok(None),
+    }
+}
+
+impl Failure {
+    /// An equal error.
+    pub fn copy(&self, alloc: Global) -> Result<Failure, AllocError>
+        ensures { IfOk result (λ failure. failure ≡ self.now) }
+    {
+        Ok(Failure {
+            name: self.name.copy(alloc)?,
+            text: self.text.copy(alloc)?,
+        })
+    }
+}
+
 impl Reply {
     /// An equal reply.
     pub fn copy(&self, alloc: Global) -> Result<Reply, AllocError>
@@ -64,15 +92,13 @@ impl Reply {
                 silent,
                 printed,
                 shown,
-                ename,
-                evalue,
+                error,
             } => Ok(Reply::Executed {
                 count: *count,
                 silent: *silent,
                 printed: printed.copy(alloc)?,
                 shown: copy_of_shown(alloc, shown)?,
-                ename: ename.copy(alloc)?,
-                evalue: evalue.copy(alloc)?,
+                error: copy_of_error(alloc, error)?,
             }),
             Reply::Info => Ok(Reply::Info),
             Reply::Complete(completion) => Ok(Reply::Complete(*completion)),

@@ -54,10 +54,10 @@ pub passes_count : (held next : ℕ) (served : List Served) (ask : Ask) (draws :
 passes_count held next served ask draws is added_is four = (refl, subst (λ n. 4 ≤ n) (total_is held next served ask draws is added_is) four)
 
 pub runs_on : (held next : ℕ) (served : List Served) (ask : Ask) (draws : List Drawn) (reply : Reply) → held ≡ total served → next ≡ added held ask → next < 4
-    → reply ≡ Executed next false [] None [] [] → (reply ≡ Executed (total (more served ask draws)) false [] None [] []) × (total (more served ask draws) < 4)
+    → reply ≡ Executed next false [] None None → (reply ≡ Executed (total (more served ask draws)) false [] None None) × (total (more served ask draws) < 4)
 runs_on held next served ask draws reply is added_is less answers =
     let same = total_is held next served ask draws is added_is in
-    (answers ∙ ap (λ n. Executed n false [] None [] []) same, subst (λ n. n < 4) same less)
+    (answers ∙ ap (λ n. Executed n false [] None None) same, subst (λ n. n < 4) same less)
 
 pub stands_then : (held next : ℕ) (served : List Served) (ask : Ask) (draws : List Drawn) → held ≡ total served → next ≡ added held ask → next < 4
     → (next ≡ total (more served ask draws)) × (total (more served ask draws) < 4)

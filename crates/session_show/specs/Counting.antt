@@ -45,7 +45,7 @@ graph_at n = cond (n == 2) stuck_graph no_graph
 abbrev pub counting : Meaning
 counting = record {
   IsRun = λ served. total served < 4;
-  answer = λ served ask draws. Executed (total (more served ask draws)) false [] None [] [];
+  answer = λ served ask draws. Executed (total (more served ask draws)) false [] None None;
   Passes = λ served ask draws which. (which ≡ Count) × (4 ≤ total (more served ask draws));
   count = total;
   IsGraph = λ served g. g ≡ graph_at (total served);

@@ -33,15 +33,14 @@ fn added(total: u32, ask: &Ask) -> u32
 }
 
 fn executed(alloc: Global, count: u32) -> Result<Reply, AllocError>
-    ensures { IfOk result (λ reply. reply ≡ Executed count false [] None [] []) }
+    ensures { IfOk result (λ reply. reply ≡ Executed count false [] None None) }
 {
     Ok(Reply::Executed {
         count,
         silent: false,
         printed: Text::new(alloc, "")?,
         shown: None,
-        ename: Text::new(alloc, "")?,
-        evalue: Text::new(alloc, "")?,
+        error: None,
     })
 }
 

@@ -14,7 +14,7 @@ use Rattle.session_core.specs.Feeding.{drawn_in, AreFirstAnswers}
 use Rattle.jupyter_messages.specs.Reading.{message_in}
 use Rattle.reply_frames.specs.declared.node.NodeError.{NodeError}
 use Rattle.reply_frames.specs.declared.node.NodeErrorKind.TheVariants.{BadFrame}
-use Rattle.reply_frames.specs.Intake.{Taken, Node, no_sessions, most_requests, failed, with_message, with_frames, ended}
+use Rattle.node_intake.specs.Intake.{Taken, Node, no_sessions, most_requests, failed, with_message, with_frames, ended}
 use Rattle.node_run.specs.declared.end.RunEnd.{RunEnd}
 use Rattle.node_run.specs.declared.end.RunEnd.TheVariants.{Whole, Broken, SourceFailed, TooManyReads}
 use Rattle.node_run.specs.Journals.{Answers, IsJournalOf, AreJournals}

@@ -2,7 +2,6 @@
 use Rattle.std.specs.Prelude.{◌≡◌, ℕ, ◌⊎◌, List, [], ◌∷◌, ◌++◌, length, Option, Some, None, Ok}
 use Rattle.std.specs.List.{flat_map, AllZip}
 use Rattle.nb_outside.specs.Streams.{Adds}
-use Rattle.py_heap.specs.States.{empty}
 use Rattle.jupyter_frames.specs.Framing.{frame, place_after, Cutting}
 use Rattle.session_core.specs.declared.request.Request.{Request}
 use Rattle.session_core.specs.declared.entry.Entry.{Entry}
@@ -12,7 +11,7 @@ use Rattle.jupyter_messages.specs.declared.message.MessageKind.TheVariants.{Open
 use Rattle.jupyter_messages.specs.Reading.{message_in}
 use Rattle.reply_frames.specs.declared.node.NodeError.{NodeError}
 use Rattle.reply_frames.specs.declared.node.NodeErrorKind.TheVariants.{BadFrame}
-use Rattle.reply_frames.specs.Intake.{Taken}
+use Rattle.node_intake.specs.Intake.{Taken}
 use Rattle.node_run.specs.declared.end.RunEnd.{RunEnd}
 use Rattle.node_run.specs.declared.end.RunEnd.TheVariants.{Whole, Broken, SourceFailed, TooManyReads}
 use Rattle.node_run.specs.Journals.{Answers}
@@ -54,7 +53,7 @@ opened_with s entries = Opened s.host s.request s.channel ∷ entries
 pub record WritesAsUnmoved (gives : Answers) (s : Taken) (bytes : List ℕ) (cut : Cutting bytes) (end : RunEnd) (left : List ℕ) (IsAdded : List ℕ → Type 0) : Type 0 where
   pub ends : EndsAt end (Some left) cut.rest
   pub entries : List Entry
-  pub answered : AreAnsweredUntilDeath s.host empty s.requests entries
+  pub answered : AreAnsweredUntilDeath s.host [] s.requests entries
   pub fed : AreFirstAnswers (gives s.kernel) (drawn_in (opened_with s entries))
   pub added : IsAdded (error_frames 1 (errors_of end cut.bodies) ++ journal_frames s.kernel 1 (opened_with s entries))
 

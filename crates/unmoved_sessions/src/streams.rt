@@ -1,7 +1,7 @@
 ghost use Rattle.std.specs.Prelude.{ℕ, ◌<◌, ◌≤◌, List, length, Option};
 ghost use Rattle.std.specs.List.{AllByRecursion};
 ghost use Rattle.jupyter_frames.specs.Framing.{Cutting};
-ghost use Rattle.reply_frames.specs.Intake.{Taken, most_requests};
+ghost use Rattle.node_intake.specs.Intake.{Taken, most_requests};
 ghost use Rattle.node_run.specs.Journals.{Answers};
 ghost use Rattle.node_run.specs.Streams.{Streams};
 ghost use Rattle.notebook_meaning.specs.Notebooks.{notebooks};

@@ -4,8 +4,8 @@ use Rattle.run_graph.proofs.Holding.{the_parts}
 use Rattle.run_graph.proofs.Standing.{stands}
 use Rattle.run_graph.proofs.Repeating.{repeats_from_its_reads}
 use Rattle.run_graph.proofs.Runs.{is_run, follows}
-use Rattle.read_runs.specs.Reading.{read}
-use Rattle.read_runs.proofs.Names.{has_names}
+use Rattle.every_history.specs.Reading.{read}
+use Rattle.every_history.proofs.Names.{has_names}
 use Rattle.every_history.proofs.Histories.{history}
 use Rattle.every_history.proofs.laws.every_list_of_codes_has_a_sound_history.Goals as goal
 

@@ -1,6 +1,6 @@
 use Rattle.std.proofs.Common.{ap, ◌∙◌}
 use Rattle.jupyter_messages.specs.Reading.{message_in}
-use Rattle.reply_frames.specs.Intake.{with_message}
+use Rattle.node_intake.specs.Intake.{with_message}
 use Rattle.node_intake.proofs.Taking.{one_more}
 use Rattle.node_intake.proofs.frames.take_frames.Goals as goal
 

@@ -1,6 +1,6 @@
 use Rattle.std.proofs.Common.{◌≡◌, drop}
 use Rattle.std.specs.Prelude.{map}
-use Rattle.reply_frames.specs.Intake.{session_of}
+use Rattle.node_intake.specs.Intake.{session_of}
 use Rattle.node_intake.specs.Sessions.{taken_of}
 use Rattle.node_intake.proofs.node.index_of.Given as goal
 

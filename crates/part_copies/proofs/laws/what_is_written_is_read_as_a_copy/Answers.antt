@@ -1,5 +1,5 @@
 use Rattle.part_bytes.specs.Parts.{part_of}
-use Rattle.part_spelling.proofs.Whole.{read_back}
+use Rattle.checkpoint_laws.proofs.WholeParts.{read_back}
 use Rattle.part_copies.proofs.Written.{part_is}
 use Rattle.part_copies.proofs.laws.what_is_written_is_read_as_a_copy.Goals as goal
 

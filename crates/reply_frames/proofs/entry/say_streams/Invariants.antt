@@ -2,7 +2,7 @@ use denote.Shadow.{shadow}
 use denote.Text.{Utf8}
 use Rattle.std.proofs.Common.{◌≡◌, ◌-◌, length}
 use Rattle.std.specs.Prelude.{map}
-use Rattle.text_cuts.specs.Cuts.{pieces}
+use Rattle.plain_data.specs.Cuts.{pieces}
 use Rattle.reply_frames.specs.Messages as said
 use Rattle.reply_frames.specs.Frames as spec
 use Rattle.reply_frames.proofs.entry.say_streams.Given as goal

@@ -1,7 +1,7 @@
 use Rattle.std.proofs.Common.{◌≡◌, ap, ◌∙◌, sym, subst, arith, length}
 use Rattle.std.specs.Prelude.{map}
 use Rattle.std.proofs.lemmas.List.{with_items_is}
-use Rattle.reply_frames.specs.Intake.{Node}
+use Rattle.node_intake.specs.Intake.{Node}
 use Rattle.node_intake.specs.Sessions.{taken_of, AreApart}
 use Rattle.node_intake.proofs.Admitting.{admitted_at, apart_with, either_way, map_ok, map_err, two}
 use Rattle.node_intake.proofs.node.Intake.admit.Goals as goal

@@ -1,5 +1,5 @@
 use Rattle.std.proofs.Common.{ap}
-use Rattle.reply_frames.specs.Intake.{Node}
+use Rattle.node_intake.specs.Intake.{Node}
 use Rattle.node_intake.proofs.Admitting.{at_taken}
 use Rattle.node_intake.proofs.node.Intake.ask.Goals as goal
 

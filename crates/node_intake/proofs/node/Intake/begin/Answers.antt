@@ -1,7 +1,7 @@
 use Rattle.std.proofs.Common.{◌≡◌, None, ap, ◌∙◌, sym, subst, ◌∷◌, []}
 use Rattle.std.specs.Prelude.{map}
 use Rattle.std.proofs.lemmas.List.{map-append}
-use Rattle.reply_frames.specs.Intake.{Node, session_of}
+use Rattle.node_intake.specs.Intake.{Node, session_of}
 use Rattle.node_intake.specs.Sessions.{taken_of, AreApart}
 use Rattle.node_intake.proofs.Admitting.{apart_more}
 use Rattle.node_intake.proofs.node.Intake.begin.Goals as goal

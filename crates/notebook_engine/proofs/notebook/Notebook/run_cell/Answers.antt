@@ -6,10 +6,10 @@ use Rattle.py_machine.specs.declared.marks.Marks.{Marks}
 use Rattle.py_meaning.specs.declared.end.CellEnd.{CellEnd}
 use Rattle.py_meaning.specs.Cells.{UsesUp, outcome, end, end_state}
 use Rattle.py_laws.proofs.Closing.{closed_after}
-use Rattle.py_answer.proofs.Counted.{cell_counts}
+use Rattle.notebook_engine.proofs.Counted.{cell_counts}
 use Rattle.run_graph.specs.RunLists.{Entry, raised}
 use Rattle.run_graph.specs.Soundness.{statements}
-use Rattle.read_runs.specs.Reading.{read}
+use Rattle.every_history.specs.Reading.{read}
 use Rattle.graph_model.specs.declared.plan.Tally.{Tally}
 use Rattle.linked_parts.specs.Parts.{ArePartsOf}
 use Rattle.history_graph.specs.Ends.{Makes}

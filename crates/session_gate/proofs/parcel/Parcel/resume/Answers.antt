@@ -2,9 +2,8 @@ use Rattle.std.proofs.Common.{◌≡◌, sym, ap, refl, subst, []}
 use Rattle.session_core.specs.declared.entry.Entry.TheVariants.{Resumed}
 use Rattle.session_core.specs.Legal.{arriving, progress_of, asked_by}
 use Rattle.session_gate.specs.Facts.{Away}
-use Rattle.session_gate.proofs.Noting.{answered_more}
+use Rattle.session_gate.proofs.Noting.{answered_more, settled_now}
 use Rattle.session_gate.proofs.Going.{may_stay, arriving_room}
-use Rattle.session_gate.proofs.Noting.{settled_now}
 use Rattle.session_gate.proofs.parcel.Parcel.resume.Goals as goal
 
 pub note-requires-clause-spare : goal.note-requires-clause-spare

@@ -1,0 +1,207 @@
+-- Objects that were read, and their bytes.
+use Rattle.std.proofs.Common.{◌≡◌, ℕ, zero, suc, ◌+◌, ◌<◌, ◌≤◌, ◌^◌, true, List, [], ◌∷◌, ◌++◌, length, Result, Ok, Err, refl, sym, ap, ◌∙◌, subst, inl, inr, arith}
+use Rattle.std.specs.Prelude.{nat_lt, ◌==◌}
+use Rattle.std.specs.List.{flat_map}
+use Rattle.std.proofs.lemmas.Bool.{cases_Bool, eqb-true, ltb-true, ltb-false}
+use Rattle.std.proofs.lemmas.List.{append-nil, append_assoc, length-append}
+use Rattle.py_tree.specs.declared.statements.Def.{Def}
+use Rattle.py_tree.specs.declared.statements.Stmt.{Stmt}
+use Rattle.py_tree.specs.declared.statements.Stmt.TheOpen.{Def-F}
+use Rattle.py_tree.specs.declared.statements.Stmt.TheViews.{out-roll-Def}
+use Rattle.py_tree.specs.declared.statements.Arm.{Arm}
+use Rattle.py_grammar.specs.Trees.{tree_params, tree_block}
+use Rattle.py_reader.specs.declared.fault.SyntaxFault.{SyntaxFault}
+use Rattle.py_reader.specs.DefinitionVerdict.{verdict_alone}
+use Rattle.py_reader.specs.Definitions.{DefinitionVerdict}
+use Rattle.py_reader.specs.Definitions as functions
+use Rattle.py_reader.proofs.MeantAlone.{means}
+use Rattle.py_value.specs.declared.key.Key.{Key}
+use Rattle.py_value.specs.declared.value.Value.{Value}
+use Rattle.py_heap.specs.declared.heap.Object.{Object}
+use Rattle.py_heap.specs.declared.heap.Object.TheVariants as the_object
+use Rattle.py_heap.specs.References.{value_refs, pair_refs, object_refs}
+use Rattle.part_bytes.specs.Texts.{four as four_bytes, text_bytes, value_bytes, pair_bytes, object_bytes}
+use Rattle.checkpoint_reader.specs.declared.part_fault.PartFault.TheVariants.{BadTag, BadRef, BadText}
+use Rattle.checkpoint_reader.specs.declared.spot.Spot.{Spot}
+use Rattle.checkpoint_reader.specs.PartReads.{pure, after, more}
+use Rattle.checkpoint_reader.specs.PartReading.{byte, four, text, function_of, value, pair, list, dict, function, is_object_tag, content, object_by, object, bounded, objects}
+use Rattle.part_bytes.specs.Plain.{IsText}
+use Rattle.checkpoint_laws.specs.SpelledParts.{IsValue, IsObject, AreObjects}
+use Rattle.checkpoint_laws.proofs.Numbers.{IsBytes}
+use Rattle.checkpoint_laws.proofs.Offs.{answer, Stands, some_same}
+use Rattle.checkpoint_laws.proofs.Values.{GoodPair}
+use Rattle.checkpoint_laws.proofs.Found.{same_value, same_spot, failed, reached, stands_join, Ate, ate_to, ate_then, ate_none, ate_as, byte_found, four_found, text_found, many_found}
+use Rattle.checkpoint_laws.proofs.FoundValues.{After, after_whole, value_found, pair_found, items_good, pairs_good}
+
+-- an object after its tag
+abbrev FoundObject : List ℕ → ℕ → Spot → Spot → Object → Type 0
+FoundObject bytes tag s t o = IsObject o × After bytes tag (object_bytes o) (object_refs o) s t
+
+-- the text of a function that was read is its source
+has_text : (code : List ℕ) (def : Def) → DefinitionVerdict code (Ok def) → def.source ≡ code
+has_text _ _ (functions.whole {code} {tokens} {called} {takes} {block} l e is start shallow end) =
+    ap (λ (x : Def-F Stmt Arm Def). x.source) (out-roll-Def (record { name = called; params = tree_params takes; body = tree_block block; source = code }))
+
+-- what a source was read as
+record Defined (source : List ℕ) (o : Object) (s t : Spot) : Type 0 where
+  pub def : Def
+  pub is : o ≡ the_object.Function def
+  pub read : verdict_alone source ≡ Ok def
+  pub spot_ : s ≡ t
+
+defined : (p : ℕ) (source : List ℕ) (r : Result Def SyntaxFault) (o : Object) (s t : Spot) → verdict_alone source ≡ r → function_of p r s ≡ answer o t → Defined source o s t
+defined p source (Ok def) o s t e h = record { def = def; is = sym (same_value (the_object.Function def) o s t h); read = e; spot_ = same_spot (the_object.Function def) o s t h }
+defined p source (Err fault) o s t e h = absurd (let no : failed Object (BadText p) ≡ answer o t = h in cc)
+
+module _ (bytes : List ℕ) (small : IsBytes bytes) where
+  list_found : (tag : ℕ) (s t : Spot) (o : Object) → tag ≡ 16 → list bytes s ≡ answer o t → FoundObject bytes tag s t o
+  unfolding list
+  list_found tag s t o e h =
+      let r = reached (four bytes s) (λ n u. after (more (λ before. value bytes) n [] u) (λ items. pure (the_object.List items))) o t h in
+      let n = four_found bytes small s r.mid r.first r.was in
+      let q = reached (more (λ before. value bytes) r.first [] r.mid) (λ items. pure (the_object.List items)) o t r.next in
+      let m = many_found bytes (λ before. value bytes) value_bytes value_refs (λ before v. IsValue v) (λ before u w v k. value_found bytes small u w v k) r.first [] q.first r.mid q.mid q.was in
+      let items : List Value = m.xs in
+      let body : List ℕ = four_bytes (length items) ++ flat_map value_bytes items in
+      let is : the_object.List items ≡ o = ap (λ (vs : List Value). the_object.List vs) (sym m.is) ∙ same_value (the_object.List q.first) o q.mid t q.next in
+      let size : r.first ≡ length items = sym m.size in
+      let whole : Ate bytes body (flat_map value_refs items) s t = ate_as bytes (four_bytes r.first ++ flat_map value_bytes items) body (flat_map value_refs items) (flat_map value_refs items) s q.mid t
+      (ap (λ (k : ℕ). four_bytes k ++ flat_map value_bytes items) size) refl (same_spot (the_object.List q.first) o q.mid t q.next)
+      (ate_then bytes (four_bytes r.first) (flat_map value_bytes items) [] (flat_map value_refs items) s r.mid q.mid n.1 m.ate) in
+      subst (λ (w : Object). FoundObject bytes tag s t w) is
+      ((subst (λ (k : ℕ). k < 2 ^ 32) size n.0, items_good [] items m.good), record { body = body; is = ap (λ (k : ℕ). k ∷ body) (sym e); ate = whole })
+
+  dict_found : (tag : ℕ) (s t : Spot) (o : Object) → tag ≡ 17 → dict bytes s ≡ answer o t → FoundObject bytes tag s t o
+  unfolding dict
+  dict_found tag s t o e h =
+      let r = reached (four bytes s) (λ n u. after (more (pair bytes) n [] u) (λ pairs. pure (the_object.Dict pairs))) o t h in
+      let n = four_found bytes small s r.mid r.first r.was in
+      let q = reached (more (pair bytes) r.first [] r.mid) (λ pairs. pure (the_object.Dict pairs)) o t r.next in
+      let m = many_found bytes (pair bytes) pair_bytes pair_refs GoodPair (λ before u w p k. pair_found bytes small before u w p k) r.first [] q.first r.mid q.mid q.was in
+      let pairs : List (Key × Value) = m.xs in
+      let body : List ℕ = four_bytes (length pairs) ++ flat_map pair_bytes pairs in
+      let is : the_object.Dict pairs ≡ o = ap (λ (ps : List (Key × Value)). the_object.Dict ps) (sym m.is) ∙ same_value (the_object.Dict q.first) o q.mid t q.next in
+      let size : r.first ≡ length pairs = sym m.size in
+      let whole : Ate bytes body (flat_map pair_refs pairs) s t = ate_as bytes (four_bytes r.first ++ flat_map pair_bytes pairs) body (flat_map pair_refs pairs) (flat_map pair_refs pairs) s q.mid t
+      (ap (λ (k : ℕ). four_bytes k ++ flat_map pair_bytes pairs) size) refl (same_spot (the_object.Dict q.first) o q.mid t q.next)
+      (ate_then bytes (four_bytes r.first) (flat_map pair_bytes pairs) [] (flat_map pair_refs pairs) s r.mid q.mid n.1 m.ate) in
+      subst (λ (w : Object). FoundObject bytes tag s t w) is
+      ((subst (λ (k : ℕ). k < 2 ^ 32) size n.0, pairs_good [] pairs m.good), record { body = body; is = ap (λ (k : ℕ). k ∷ body) (sym e); ate = whole })
+
+  function_found : (tag : ℕ) (s t : Spot) (o : Object) → tag ≡ 18 → function bytes s ≡ answer o t → FoundObject bytes tag s t o
+  unfolding function
+  function_found tag s t o e h =
+      let r = reached (text bytes s) (λ source. function_of s.at (verdict_alone source)) o t h in
+      let x = text_found bytes small s r.mid r.first r.was in
+      let d = defined s.at r.first (verdict_alone r.first) o r.mid t refl r.next in
+      let source : r.first ≡ d.def.source = sym (has_text r.first d.def (subst (DefinitionVerdict r.first) d.read (means r.first))) in
+      let body : List ℕ = text_bytes d.def.source in
+      let whole : Ate bytes body [] s t = ate_as bytes (text_bytes r.first) body [] [] s r.mid t (ap (λ (xs : List ℕ). text_bytes xs) source) refl d.spot_ x.1 in
+      let good : IsObject (the_object.Function d.def) = (subst (λ (xs : List ℕ). IsText xs) source x.0, subst (λ (xs : List ℕ). verdict_alone xs ≡ Ok d.def) source d.read) in
+      subst (λ (w : Object). FoundObject bytes tag s t w) (sym d.is) (good, record { body = body; is = ap (λ (k : ℕ). k ∷ body) (sym e); ate = whole })
+
+  content_found : (tag : ℕ) (s t : Spot) (o : Object) → is_object_tag tag ≡ true → content bytes tag s ≡ answer o t → FoundObject bytes tag s t o
+  unfolding content
+  content_found tag s t o known h = elim (cases_Bool (tag == 16)) [
+    | inl e ↦ list_found tag s t o (eqb-true tag 16 e) (rw e at h)
+    | inr f ↦ elim (cases_Bool (tag == 17)) [
+      | inl e ↦ dict_found tag s t o (eqb-true tag 17 e) (rw (f, e) at h)
+      | inr g ↦
+          let last : (tag == 18) ≡ true = rw (f, g) at known in
+          function_found tag s t o (eqb-true tag 18 last) (rw (f, g) at h)
+    ]
+  ]
+
+  object_by_found : (n p tag : ℕ) (s t : Spot) (o : Object) → object_by bytes n p tag s ≡ answer o t → (n < s.met) × FoundObject bytes tag s t o
+  unfolding object_by
+  object_by_found n p tag s t o h = elim (cases_Bool (is_object_tag tag)) [
+    | inl e ↦ elim (cases_Bool (nat_lt n s.met)) [
+      | inl l ↦ (ltb-true n s.met l, content_found tag s t o e (rw (e, l) at h))
+      | inr l ↦ absurd (let no : failed Object (BadRef p) ≡ answer o t = rw (e, l) at h in cc)
+    ]
+    | inr e ↦ absurd (let no : failed Object (BadTag p) ≡ answer o t = rw e at h in cc)
+  ]
+
+  object_found : (before : List Object) (s t : Spot) (o : Object) → object bytes before s ≡ answer o t
+      → (length before < s.met) × IsObject o × Ate bytes (object_bytes o) (object_refs o) s t
+  unfolding object
+  object_found before s t o h =
+      let r = reached (byte bytes s) (λ tag. object_by bytes (length before) s.at tag) o t h in
+      let a = byte_found bytes s r.mid r.first r.was in
+      let f = object_by_found (length before) s.at r.first r.mid t o r.next in
+      let same : r.mid.met ≡ s.met = sym (some_same s.met r.mid.met a.refs) in
+      (subst (λ (m : ℕ). length before < m) same f.0, f.1.0, after_whole bytes r.first (object_bytes o) (object_refs o) s r.mid t a f.1.1)
+
+  -- n objects
+  record Objects (n : ℕ) (before all : List Object) (s t : Spot) : Type 0 where
+    pub xs : List Object
+    pub size : length xs ≡ n
+    pub is : all ≡ before ++ xs
+    pub good : AreObjects (length before) s.met s.most xs
+    pub ate : Ate bytes (flat_map object_bytes xs) (flat_map object_refs xs) s t
+
+  objects_from : (n : ℕ) (before all : List Object) (s t : Spot) → s.met ≤ s.most → more (object bytes) n before s ≡ answer all t → Objects n before all s t
+  objects_from zero before all s t l e = record {
+    xs = [];
+    size = refl;
+    is = sym (same_value before all s t e) ∙ sym (append-nil before);
+    good = tt;
+    ate = ate_none bytes s t (same_spot before all s t e);
+  }
+  objects_from (suc n) before all s t l e =
+      let r = reached (object bytes before s) (λ o. more (object bytes) n (before ++ o ∷ [])) all t e in
+      let first = object_found before s r.mid r.first r.was in
+      let a = first.2 in
+      let room : r.mid.met ≤ s.most = a.within l in
+      let most : r.mid.most ≡ s.most = a.most in
+      let within : r.mid.met ≤ r.mid.most = omega (arith, room, most) in
+      let rest = objects_from n (before ++ r.first ∷ []) all r.mid t within r.next in
+      let number : length (before ++ r.first ∷ []) ≡ length before + 1 = length-append before (r.first ∷ []) in
+      let numbered : AreObjects (length before + 1) r.mid.met r.mid.most rest.xs = subst (λ (k : ℕ). AreObjects k r.mid.met r.mid.most rest.xs) number rest.good in
+      let good : AreObjects (length before + 1) r.mid.met s.most rest.xs = subst (λ (m : ℕ). AreObjects (length before + 1) r.mid.met m rest.xs) most numbered in
+      record {
+        xs = r.first ∷ rest.xs;
+        size = let k = rest.size in omega (arith, k);
+        is = rest.is ∙ append_assoc before (r.first ∷ []) rest.xs;
+        good = (first.0, first.1, (r.mid.met, a.refs, room, good));
+        ate = ate_then bytes (object_bytes r.first) (flat_map object_bytes rest.xs) (object_refs r.first) (flat_map object_refs rest.xs) s r.mid t a rest.ate;
+      }
+
+  -- the objects after their number
+  pub record AllObjects (os : List Object) (s t : Spot) : Type 0 where
+    pub few : length os < 2 ^ 32
+    pub within : s.met ≤ length os
+    pub good : AreObjects 0 s.met (length os) os
+    pub stands : s.at ≤ length bytes → Stands bytes s.at (four_bytes (length os) ++ flat_map object_bytes os)
+    pub end : t.at ≡ s.at + length (four_bytes (length os) ++ flat_map object_bytes os)
+
+  pub objects_found : (os : List Object) (s t : Spot) → objects bytes s ≡ answer os t → AllObjects os s t
+  unfolding objects
+  objects_found os s t h =
+      let r = reached (four bytes s) (λ k u. after (bounded s.at k u) (λ m. more (object bytes) m [])) os t h in
+      let n = four_found bytes small s r.mid r.first r.was in
+      elim (cases_Bool (nat_lt r.first r.mid.met)) [
+        | inl e ↦ absurd (let no : failed (List Object) (BadRef s.at) ≡ answer os t = rw e at r.next in cc)
+        | inr e ↦
+            let u : Spot = record r.mid { most = r.first } in
+            let rest : more (object bytes) r.first [] u ≡ answer os t = rw e at r.next in
+            let a = n.1 in
+            let same : r.mid.met ≡ s.met = sym (some_same s.met r.mid.met a.refs) in
+            let bound : r.mid.met ≤ r.first = ltb-false r.first r.mid.met e in
+            let o = objects_from r.first [] os u t bound rest in
+            let size : r.first ≡ length os = sym o.size ∙ ap (λ (xs : List Object). length xs) (sym o.is) in
+            let met : AreObjects 0 s.met r.first o.xs = subst (λ (m : ℕ). AreObjects 0 m r.first o.xs) same o.good in
+            let most : AreObjects 0 s.met (length os) o.xs = subst (λ (m : ℕ). AreObjects 0 s.met m o.xs) size met in
+            let xs : List ℕ = four_bytes r.first in
+            let ys : List ℕ = flat_map object_bytes o.xs in
+            let spelled : xs ++ ys ≡ four_bytes (length os) ++ flat_map object_bytes os = ap (λ (k : ℕ). four_bytes k ++ ys) size ∙ ap (λ (zs : List Object). four_bytes (length os) ++ flat_map object_bytes zs) (sym o.is) in
+            let b = o.ate in
+            let end : t.at ≡ s.at + length (xs ++ ys) = let one = a.end in let two = b.end in let all = length-append xs ys in omega (arith, one, two, all) in
+            record {
+              few = subst (λ (k : ℕ). k < 2 ^ 32) size n.0;
+              within = omega (arith, bound, same, size);
+              good = subst (λ (zs : List Object). AreObjects 0 s.met (length os) zs) (sym o.is) most;
+              stands = λ l. subst (λ (zs : List ℕ). Stands bytes s.at zs) spelled (stands_join bytes s.at r.mid.at xs ys a.end (a.stands l) (b.stands (ate_to bytes xs [] s r.mid a l)));
+              end = end ∙ ap (λ (zs : List ℕ). s.at + length zs) spelled;
+            }
+      ]

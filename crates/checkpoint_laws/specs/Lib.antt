@@ -1,0 +1,5 @@
+pub mod SpelledParts
+pub mod Closed
+pub mod Examples
+pub mod Spelled
+pub mod Texts

@@ -1,5 +1,0 @@
-use Rattle.checkpoint_texts.proofs.Whole.{read_is_text}
-use Rattle.checkpoint_texts.proofs.laws.what_is_read_is_a_text.Goals as goal
-
-pub returns : goal.returns
-returns c = λ bytes read end h e. read_is_text bytes h read end e

@@ -1,8 +1,0 @@
-use Rattle.part_spelling.proofs.Whole.{read_back, one_text}
-use Rattle.part_spelling.proofs.laws.a_text_is_read_back.Goals as goal
-
-pub returns-clause-read : goal.returns-clause-read
-returns-clause-read c = λ part rest h. read_back part rest h
-
-pub returns-clause-alone : goal.returns-clause-alone
-returns-clause-alone c = λ part other rest more h k e. one_text part other rest more h k e

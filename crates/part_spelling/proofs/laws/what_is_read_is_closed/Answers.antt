@@ -1,6 +1,0 @@
-use Rattle.part_spelling.proofs.FoundWhole.{read_is_text}
-use Rattle.part_spelling.proofs.Closed.{closed_part}
-use Rattle.part_spelling.proofs.laws.what_is_read_is_closed.Goals as goal
-
-pub returns : goal.returns
-returns c = λ bytes part size h e. closed_part part (read_is_text bytes part size h e).0

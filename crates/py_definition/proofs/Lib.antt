@@ -1,4 +1,0 @@
-pub mod Kept
-pub mod Read
-pub mod Failing
-mod Examples

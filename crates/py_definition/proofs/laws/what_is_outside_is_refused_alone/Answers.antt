@@ -1,5 +1,0 @@
-use Rattle.py_definition.proofs.Failing.{outside_is_refused}
-use Rattle.py_definition.proofs.laws.what_is_outside_is_refused_alone.Goals as goal
-
-pub returns : goal.returns
-returns c = outside_is_refused

@@ -1,5 +1,0 @@
-use Rattle.py_definition.proofs.Read.{read_iff_one}
-use Rattle.py_definition.proofs.laws.what_is_read_alone_is_one_function.Goals as goal
-
-pub returns : goal.returns
-returns c = read_iff_one

@@ -1,6 +1,0 @@
-use Rattle.py_definition.proofs.Read.{alone-read}
-use Rattle.py_grammar.specs.States.{start}
-use Rattle.py_definition.proofs.laws.what_is_read_alone_is_read.Goals as goal
-
-pub returns : goal.returns
-returns c = λ tokens state. alone-read tokens start state

@@ -1,7 +1,0 @@
-use Rattle.std.proofs.Common.{◌≡◌, ◌++◌, take}
-use Rattle.std.specs.List.{flat_map}
-use Rattle.restore_command.specs.Told as spec
-use Rattle.restore_command.proofs.lines.put_lines.Given as goal
-
-abbrev pub invariant-loop-name : goal.invariant-loop-name
-invariant-loop-name l = l.lines ≡ l.fn.lines ++ flat_map (spec.line_of l.state) (take l.name-index l.names)

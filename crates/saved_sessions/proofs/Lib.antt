@@ -1,3 +1,0 @@
-pub mod Like
-pub mod Copies
-pub mod Restored

@@ -1,5 +1,0 @@
-use Rattle.token_cuts.proofs.Cutting.{cuts}
-use Rattle.token_cuts.proofs.laws.a_cut_text_has_the_same_tokens.Goals as goal
-
-pub returns : goal.returns
-returns c = λ code before middle after first last end h f l n line top. cuts code before middle after first last end h f l n line top

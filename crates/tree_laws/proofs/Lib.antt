@@ -1,4 +1,0 @@
-pub mod Made
-pub mod Named
-pub mod Tokens
-pub mod Allowed

@@ -1,5 +1,0 @@
-use Rattle.tree_laws.proofs.Tokens.{cell_names}
-use Rattle.tree_laws.proofs.laws.names_in_trees_of_cells_are_variables.Goals as goal
-
-pub returns : goal.returns
-returns c = cell_names
