@@ -6,7 +6,7 @@
 //! stuck, some plan costs less.
 //!
 //! What the contracts leave open: when memory runs out, so that a body which always answers so meets them, and `network_of`
-//! and `plan` run in tests; which plan is given if several cost least, and which greatest flow shows it; and the words in
+//! and `plan` run in `plan_bench`; which plan is given if several cost least, and which greatest flow shows it; and the words in
 //! which a fault is shown.
 #![tactic(auto)]
 
@@ -20,6 +20,3 @@ mod writers;
 
 pub use network::network_of;
 pub use planner::{PlanFault, plan};
-
-#[cfg(test)]
-mod tests;

@@ -9,7 +9,7 @@
 //! `check_flow` says whether a flow is legal, and else its first fault, by one walk along each node's list.
 //!
 //! What the contracts leave open: when memory runs out, so that a body which always answers so meets them, and the calls run
-//! in tests; which of the greatest flows is found; the words in which a fault is shown; and inside, whether a pass sends
+//! in `plan_bench`; which of the greatest flows is found; the words in which a fault is shown; and inside, whether a pass sends
 //! anything (`send` says how much it sent) and which arcs it tries (`turns_of`), which decide only how soon the greatest flow
 //! is found.
 #![tactic(auto)]
@@ -33,6 +33,3 @@ pub use check::{FlowFault, check_flow};
 pub use flow::{ArcFlow, Cut};
 pub use network::Network;
 pub use solve::{max_flow, max_flow_with_cut};
-
-#[cfg(test)]
-mod tests;

@@ -5,7 +5,7 @@
 //! cells again. (Li et al., ElasticNotebook, PVLDB 17(2).)
 //!
 //! What the contracts leave open: when memory runs out, so that a body which always answers so meets them, and `check` and
-//! `need` run in tests; and the words in which a fault is shown.
+//! `need` run in `plan_bench`; and the words in which a fault is shown.
 #![tactic(auto)]
 
 mod check;
@@ -19,6 +19,3 @@ mod plan;
 pub use graph::{CellRecord, Graph, GraphFault, Version};
 pub use order::numbers_ascend;
 pub use plan::{Certified, FlowArc, Node, Plan, Tally, Weights};
-
-#[cfg(test)]
-mod tests;

@@ -17,8 +17,6 @@ mod reads;
 mod record;
 mod room;
 mod sets;
-#[cfg(test)]
-mod tests;
 mod texts;
 mod versions;
 mod written;

@@ -3,8 +3,8 @@
 //! `specs/Intake` defines it, over the bytes of a stream. A source is read in pieces; each frame is taken in as soon as it is whole,
 //! and isn't kept. `specs/Taking` says what was taken in of a source.
 //!
-//! The contracts leave open when memory runs out, so a body that always answers that it ran out meets them. Therefore the tests
-//! here, of `node_run` and of the program run `take_in`.
+//! The contracts leave open when memory runs out, so a body that always answers that it ran out meets them. Therefore the
+//! tables of cases run `take_in`, through the program.
 #![tactic(auto)]
 
 mod frames;
@@ -12,8 +12,6 @@ pub mod laws;
 mod node;
 mod pieces;
 mod session;
-#[cfg(test)]
-mod tests;
 
 pub use pieces::{read_room, take_in};
 pub use session::{IntakeEnd, Session, TakenIn};

@@ -2,8 +2,8 @@
 //!
 //! It is written for any engine. `specs/Streams` says what a run did: which journals were made, and which bytes were written.
 //!
-//! The contracts leave open when memory runs out, so a body that always answers that it ran out meets them. Therefore the tests
-//! here and of the program run the calls. The contracts leave open the words in which a fault is shown, too.
+//! The contracts leave open when memory runs out, so a body that always answers that it ran out meets them. Therefore the
+//! tables of cases run the calls, through the program. The contracts leave open the words in which a fault is shown, too.
 #![tactic(auto)]
 
 mod end;
@@ -11,8 +11,6 @@ mod run;
 mod served;
 mod sessions;
 mod streams;
-#[cfg(test)]
-mod tests;
 mod write;
 
 pub use end::RunEnd;

@@ -10,8 +10,6 @@ mod numbers;
 mod objects;
 mod part;
 pub mod tag;
-#[cfg(test)]
-mod tests;
 mod values;
 mod write;
 

@@ -15,6 +15,3 @@ pub use costs::cost;
 pub use feasibility::{Item, feasible};
 pub use names::is_plan_of;
 pub use weights::{Weight, WeightFault, check_weights, copy_weight, rerun_weight};
-
-#[cfg(test)]
-mod tests;

@@ -15,8 +15,6 @@ mod objects;
 mod reach;
 mod search;
 mod state;
-#[cfg(test)]
-mod tests;
 
 pub use dict::Dict;
 pub use function::Function;

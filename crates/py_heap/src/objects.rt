@@ -1,13 +1,13 @@
 ghost use Rattle.std.specs.Prelude.{◌≡◌, ◌↔◌, ◌<◌, ◌≤◌, [], ◌∷◌, ◌++◌, Some, IsTrue, OnOk, OnErr, length, slice_get, slice_set, insert, remove};
 ghost use Rattle.py_heap.specs.Dicts.{value_under, with_pair, without_key};
-ghost use Rattle.py_heap.specs.Objects.{IsListAt, IsDictAt, IsFunctionAt, IsHandleAt, IsListOrDictAt, items_at, pairs_at, name_at, uses_at};
+ghost use Rattle.py_heap.specs.Objects.{IsListAt, IsDictAt, IsFunctionAt, IsHandleAt, IsListOrDictAt, items_at, pairs_at, uses_at};
 ghost use Rattle.py_heap.specs.States as spec;
 
 use crate::dict::Dict;
 use crate::function::Function;
 use crate::heap::Object;
 use crate::state::State;
-use plain_data::{Items, SharedText};
+use plain_data::Items;
 use py_value::{Key, Value};
 use std::alloc::AllocError;
 
@@ -26,14 +26,6 @@ impl State {
     {
         let heap = &self.heap;
         matches!(heap.objects.get(at as usize), Some(Object::Dict(_)))
-    }
-
-    /// Whether there is an object at an address and it is a function.
-    pub fn is_function(&self, at: u32) -> bool
-        ensures { IsTrue result ↔ IsFunctionAt self.now.heap at }
-    {
-        let heap = &self.heap;
-        matches!(heap.objects.get(at as usize), Some(Object::Function(_)))
     }
 
     /// Whether there is an object at an address and it is a handle.
@@ -73,17 +65,6 @@ impl State {
     {
         match self.get(at) {
             Object::Function(function) => function,
-            _ => unreachable!(),
-        }
-    }
-
-    /// The name of the handle at an address.
-    pub fn handle_name(&self, at: u32) -> &SharedText
-        requires { IsHandleAt self.now.heap at }
-        ensures { result.now ≡ name_at self.now.heap at }
-    {
-        match self.get(at) {
-            Object::Handle { name, .. } => name,
             _ => unreachable!(),
         }
     }

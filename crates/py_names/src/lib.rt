@@ -80,24 +80,3 @@ pub fn is_variable(text: &str) -> bool
 {
     is_identifier(text) && !is_keyword(text)
 }
-
-#[cfg(test)]
-mod tests {
-    use super::*;
-
-    static VARIABLES: [&str; 5] = ["a", "_", "x1", "Print", "print"];
-
-    static OTHERS: [&str; 6] = ["", "1a", "a-b", "if", "None", "\u{e9}"];
-
-    #[test]
-    fn variables(rt: HostRuntime) {
-        for text in VARIABLES {
-            assert!(rt; is_variable(text), "{text}");
-        }
-        for text in OTHERS {
-            assert!(rt; !is_variable(text), "{text}");
-        }
-        assert!(rt; is_builtin("print"));
-        assert!(rt; !is_builtin("Print"));
-    }
-}

@@ -8,7 +8,7 @@ ghost use Rattle.py_meaning.specs.Acts as spec;
 ghost use Rattle.py_meaning.specs.Items as items;
 
 use plain_data::Items;
-use py_heap::{Dict, Object};
+use py_heap::Object;
 use py_machine::{Fault, Machine, ValueKind, unhashable};
 use py_value::{Key, KeyFault, Value, key_of};
 use std::alloc::{AllocError, Global};
@@ -50,18 +50,6 @@ pub fn list_at(alloc: Global, machine: &Machine, at: u32) -> Result<Option<Items
         Some(Object::List(items)) => Ok(Some(copy_items(alloc, items.as_slice())?)),
         _ => Ok(None),
     }
-}
-
-/// The pairs of a dict, in order. Their texts are shared.
-pub fn copy_pairs(alloc: Global, dict: &Dict) -> Result<Items<(Key, Value)>, AllocError>
-    ensures { IfOk result (λ copy. copy ≡ dict.now) }
-{
-    let mut copy = Items::new(alloc);
-    for index in 0..dict.len() {
-        let (key, value) = dict.pair_at(index);
-        copy.push((key.copy()?, value.copy()?))?;
-    }
-    Ok(copy)
 }
 
 /// Equal items. Their texts are shared.

@@ -6,20 +6,16 @@
 //! brackets or long its chains, needs a larger stack.
 //!
 //! `Trees` keeps the trees of codes that were read, so that a code that comes again isn't read again. Contracts say nothing of which
-//! codes are kept, so a `look` that finds nothing, or a `keep` that keeps nothing, would be proved too. The tests keep codes and find
-//! them.
+//! codes are kept, so a `look` that finds nothing, or a `keep` that keeps nothing, would be proved too. `reader_show`
+//! keeps codes and finds them.
 #![tactic(auto)]
 
 mod answer;
 mod begun;
 mod definition;
 mod fault;
-#[cfg(test)]
-mod kept_tests;
 mod read;
 mod scan;
-#[cfg(test)]
-mod tests;
 mod text;
 mod trees;
 

@@ -7,8 +7,6 @@
 mod key;
 mod number;
 mod repr;
-#[cfg(test)]
-mod tests;
 mod value;
 
 pub use key::{Key, KeyFault, key_of, same_key, same_key_is_an_equivalence};

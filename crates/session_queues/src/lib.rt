@@ -20,6 +20,3 @@ pub use pass::Pass;
 pub use queues::{Opened, Queues};
 pub use reader::Reader;
 pub use shared::SharedQueues;
-
-#[cfg(test)]
-mod tests;
