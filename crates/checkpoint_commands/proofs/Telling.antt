@@ -7,7 +7,7 @@ use Rattle.py_machine.specs.declared.error.Fault.{Fault}
 use Rattle.py_machine.specs.declared.error.Fault.TheVariants.{DrawFailed, Raised}
 use Rattle.py_machine.specs.declared.error.PyError.{PyError}
 use Rattle.py_machine.specs.Errors.{error_name}
-use Rattle.py_machine.specs.Runs.{Run, Stop, raised, draw_failed, asks, start, tells}
+use Rattle.py_machine.specs.Runs.{Computation, Stop, raised, draw_failed, asks, start, tells}
 use Rattle.py_show.specs.Limits.{Limit, limited}
 use Rattle.py_show.specs.Uses.{put_told, limited_text, PutsRun}
 use Rattle.py_show.proofs.Ending.{empty_limited}
@@ -52,7 +52,7 @@ told_failed (Err draw_failed) e = refl
 told_failed (Err asks) e = cc
 
 -- from no steps and an empty output on
-module _ (go : Run (List ℕ)) (s : State) (old new : Limit) (now : ℕ) (empty : old ≡ Some []) where
+module _ (go : Computation (List ℕ)) (s : State) (old new : Limit) (now : ℕ) (empty : old ≡ Some []) where
   ends : (result : Result (Unit {0}) Fault) → PutsRun go s old 0 result new now → tells result ≡ true → limited_text [] (go [] (start s)).0 ≡ put_told result new
   ends result puts t = ap (λ o. o.0) (puts [] [] (start s) refl refl (empty_limited ∙ sym empty) t)
 

@@ -15,7 +15,7 @@ use Rattle.checkpoint_reader.specs.declared.part_fault.PartFault.{PartFault}
 use Rattle.checkpoint_reader.specs.declared.part_fault.PartFault.TheVariants.{Cut, BadText}
 use Rattle.checkpoint_reader.specs.declared.spot.Spot.{Spot}
 use Rattle.checkpoint_reader.specs.PartReads.{Answer, Read, pure, after, more}
-use Rattle.checkpoint_reader.specs.PartReading.{taken, byte, four, sixteen, text, text_of}
+use Rattle.checkpoint_reader.specs.PartReading.{taken, byte, four, sixteen, text, as_text}
 use Rattle.part_bytes.specs.Plain.{IsText}
 use Rattle.checkpoint_laws.specs.SpelledParts.{counted}
 use Rattle.checkpoint_laws.proofs.Numbers.{IsBytes, bytes_back}
@@ -214,9 +214,9 @@ module _ (bytes : List ℕ) (small : IsBytes bytes) where
   pub text_found : (s t : Spot) (x : List ℕ) → text bytes s ≡ answer x t → IsText x × Ate bytes (text_bytes x) [] s t
   unfolding text
   text_found s t x e =
-      let p = reached (four bytes s) (λ n u. after (taken bytes n u) (λ xs. text_of s.at xs)) x t e in
+      let p = reached (four bytes s) (λ n u. after (taken bytes n u) (λ xs. as_text s.at xs)) x t e in
       let n = four_found s p.mid p.first p.was in
-      let q = reached (taken bytes p.first p.mid) (λ xs. text_of s.at xs) x t p.next in
+      let q = reached (taken bytes p.first p.mid) (λ xs. as_text s.at xs) x t p.next in
       let a = took bytes p.first p.mid q.mid q.first q.was in
       elim (cases_Bool (is_utf8 q.first)) [
         | inl l ↦

@@ -17,7 +17,7 @@ use Rattle.checkpoint_reader.specs.declared.fields.Cells.{Cells}
 use Rattle.checkpoint_reader.specs.declared.fields.Versions.{Versions}
 use Rattle.checkpoint_reader.specs.declared.fields.Fields.{Fields}
 use Rattle.checkpoint_reader.specs.Reads.{Answer, Read, pure, after, turns, one_more, many}
-use Rattle.checkpoint_reader.specs.Fields.{begins, format_of, bounded, truth_of, text_of, code_of, size_of, part_of, with_cell, with_version, with_copy, no_cells, no_versions, taken, byte, two, four, magic, format, at_most, truth, code, name, numbers, names, cell, flag, size, version, part, next_cell, kept, next_version, cells, versions, ended, fields}
+use Rattle.checkpoint_reader.specs.Fields.{begins, format_of, bounded, truth_of, as_text_field, code_of, size_of, part_of, with_cell, with_version, with_copy, no_cells, no_versions, taken, byte, two, four, magic, format, at_most, truth, code, name, numbers, names, cell, flag, size, version, part, next_cell, kept, next_version, cells, versions, ended, fields}
 use Rattle.checkpoint_laws.proofs.Eats.{answer, failed, reached}
 use Rattle.checkpoint_laws.proofs.TextRecords.{part_found}
 use Rattle.checkpoint_laws.proofs.WholeTexts.{then_versions, then_cells, then_meter, then_count, then_format, ended_found, magic_eaten}
@@ -116,8 +116,8 @@ module _ (a more : List ℕ) where
 
   goes_name : Goes (name a) (name b)
   unfolding name
-  goes_name = λ at. goes_then (byte a) (byte b) (λ n s. after (taken a at n s) (λ xs. text_of at xs)) (λ n s. after (taken b at n s) (λ xs. text_of at xs)) goes_byte
-      (λ n. goes_on (taken a at n) (taken b at n) (λ xs. text_of at xs) (goes_taken at n)) at
+  goes_name = λ at. goes_then (byte a) (byte b) (λ n s. after (taken a at n s) (λ xs. as_text_field at xs)) (λ n s. after (taken b at n s) (λ xs. as_text_field at xs)) goes_byte
+      (λ n. goes_on (taken a at n) (taken b at n) (λ xs. as_text_field at xs) (goes_taken at n)) at
 
   goes_numbers : Goes (numbers a) (numbers b)
   unfolding numbers

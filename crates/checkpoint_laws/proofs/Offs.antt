@@ -13,7 +13,7 @@ use Rattle.byteorder.specs.Numbers.{big_number-reads_back, length-bytes_high_fir
 use Rattle.part_bytes.specs.Texts.{four as four_bytes, sixteen as sixteen_bytes, text_bytes}
 use Rattle.checkpoint_reader.specs.declared.spot.Spot.{Spot}
 use Rattle.checkpoint_reader.specs.PartReads.{Answer, Read, pure, after, more}
-use Rattle.checkpoint_reader.specs.PartReading.{taken, byte, four, sixteen, text, text_of}
+use Rattle.checkpoint_reader.specs.PartReading.{taken, byte, four, sixteen, text, as_text}
 use Rattle.part_bytes.specs.Plain.{IsText}
 use Rattle.checkpoint_laws.specs.SpelledParts.{counted}
 
@@ -135,8 +135,8 @@ module _ (bytes : List ℕ) where
   pub off_text : (t : List ℕ) (met most : ℕ) → IsText t → Off (text bytes) (text_bytes t) t met met most
   unfolding text
   off_text t met most h = λ at s.
-      off_then (four bytes) (λ n r. after (taken bytes n r) (λ xs. text_of at xs)) (four_bytes (length t)) t (length t) t met met met most (off_four (length t) met most h.1)
-      (off_end (taken bytes (length t)) (λ xs. text_of at xs) t t t met met met most (off_taken (length t) t met most refl) (λ k. rw h.0 refl)) at s
+      off_then (four bytes) (λ n r. after (taken bytes n r) (λ xs. as_text at xs)) (four_bytes (length t)) t (length t) t met met met most (off_four (length t) met most h.1)
+      (off_end (taken bytes (length t)) (λ xs. as_text at xs) t t t met met met most (off_taken (length t) t met most refl) (λ k. rw h.0 refl)) at s
 
 -- ---- how far references count on
 

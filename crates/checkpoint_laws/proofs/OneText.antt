@@ -8,7 +8,7 @@ use Rattle.checkpoint_reader.specs.declared.fields.Fields.{Fields}
 use Rattle.checkpoint_reader.specs.Reads.{Answer}
 use Rattle.checkpoint_reader.specs.Fields.{ended, fields}
 use Rattle.checkpoint_reader.specs.Judging.{checkpoint_of, IsAnswer}
-use Rattle.checkpoint_laws.specs.Texts.{text_of}
+use Rattle.checkpoint_laws.specs.Texts.{fields_text}
 use Rattle.checkpoint_laws.proofs.Eats.{answer, failed}
 use Rattle.checkpoint_laws.proofs.WholeTexts.{read_is_text}
 use Rattle.checkpoint_laws.proofs.Longer.{fields_lead}
@@ -26,14 +26,14 @@ fields_of (Err fault) k h = absurd (let no : Ok k ≡ Err fault = h in cc)
 
 -- the text of a checkpoint
 text_for : Checkpoint → List ℕ
-text_for k = text_of (record {
+text_for k = fields_text (record {
   count = k.count;
   meter = k.meter;
   cells = record { records = k.graph.cells; rerun = k.plan.rerun };
   versions = record { records = k.graph.versions; copied = k.plan.copied; parts = k.parts; unlike = None };
 })
 
-same_text : (f : Fields) → text_of f ≡ text_for (checkpoint_of f)
+same_text : (f : Fields) → fields_text f ≡ text_for (checkpoint_of f)
 unfolding text_for
 same_text f = refl
 

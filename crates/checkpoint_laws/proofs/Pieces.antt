@@ -11,7 +11,7 @@ use Rattle.checkpoint_laws.proofs.Numbers.{bytes_back}
 use Rattle.checkpoint_bytes.specs.Texts.{truth_byte, names_bytes}
 use Rattle.checkpoint_reader.specs.declared.fault.CheckpointFault.TheVariants.{BadField, BadVersion}
 use Rattle.checkpoint_reader.specs.Reads.{Read, pure, after, one_more, many}
-use Rattle.checkpoint_reader.specs.Fields.{format_of, bounded, truth_of, text_of, code_of, size_of, taken, byte, two, four, format, at_most, truth, code, name, numbers, names, flag, size}
+use Rattle.checkpoint_reader.specs.Fields.{format_of, bounded, truth_of, as_text_field, code_of, size_of, taken, byte, two, four, format, at_most, truth, code, name, numbers, names, flag, size}
 use Rattle.checkpoint_laws.proofs.Eats.{answer, same_value, same_place, failed, reached, Spells, Ate, ate_as, Eats, eats_then, eats_end, eats_map, eats_turns, AreBytes, eats_taken}
 
 -- ---- tests of what was read
@@ -41,7 +41,7 @@ truth_found at b c s t e = elim (cases_Bool (b == 0)) [
   ]
 ]
 
-text_found : (at : ℕ) (xs b : List ℕ) (s t : ℕ) → text_of at xs s ≡ answer b t → (s ≡ t) × (xs ≡ b)
+text_found : (at : ℕ) (xs b : List ℕ) (s t : ℕ) → as_text_field at xs s ≡ answer b t → (s ≡ t) × (xs ≡ b)
 text_found at xs b s t e = elim (cases_Bool (is_utf8 xs)) [
   | inl y ↦ let is : answer xs s ≡ answer b t = rw y at e in (same_place xs b s t is, same_value xs b s t is)
   | inr f ↦ absurd (let no : failed (List ℕ) (BadField at) ≡ answer b t = rw f at e in cc)
@@ -126,8 +126,8 @@ module _ (bytes : List ℕ) (small : All (λ b. b < 256) bytes) where
 
   pub eats_name : Eats bytes (name bytes) (Spells name_bytes)
   unfolding name
-  eats_name = λ at. eats_then bytes (byte bytes) (λ n r. after (taken bytes at n r) (λ xs. text_of at xs)) (λ n. n ∷ []) (Spells name_bytes) eats_byte
-      (λ n. eats_end bytes (taken bytes at n) (λ xs. text_of at xs) (AreBytes n) (λ b ys. n ∷ ys ≡ name_bytes b) (eats_taken bytes small at n)
+  eats_name = λ at. eats_then bytes (byte bytes) (λ n r. after (taken bytes at n r) (λ xs. as_text_field at xs)) (λ n. n ∷ []) (Spells name_bytes) eats_byte
+      (λ n. eats_end bytes (taken bytes at n) (λ xs. as_text_field at xs) (AreBytes n) (λ b ys. n ∷ ys ≡ name_bytes b) (eats_taken bytes small at n)
       (λ xs b ys s t h e.
       let c = text_found at xs b s t e in
       (c.0, ap (λ (k : ℕ). k ∷ ys) (sym h.1 ∙ ap (λ (zs : List ℕ). length zs) c.1) ∙ ap (λ (zs : List ℕ). length b ∷ zs) (h.0 ∙ c.1)))) at

@@ -9,12 +9,12 @@ use Rattle.byteorder.specs.Numbers.{big_number-reads_back, length-bytes_high_fir
 use Rattle.part_bytes.specs.declared.part.PartValue.{PartValue}
 use Rattle.part_bytes.specs.Texts.{four as four_bytes, name_bytes, text_bytes, bytes_of}
 use Rattle.checkpoint_reader.specs.PartReading.{part_read}
-use Rattle.checkpoint_laws.specs.SpelledParts.{IsPart}
+use Rattle.checkpoint_laws.specs.SpelledParts.{IsClosedPart}
 use Rattle.checkpoint_laws.proofs.Offs.{Stands, stands_first, stands_next}
 use Rattle.checkpoint_laws.proofs.WholeParts.{read_back}
 use Rattle.checkpoint_bytes.specs.Texts.{truth_byte, names_bytes}
 use Rattle.checkpoint_reader.specs.Reads.{Answer, Read, pure, after, turns, one_more, many}
-use Rattle.checkpoint_reader.specs.Fields.{format_of, bounded, truth_of, text_of, code_of, part_of, taken, byte, two, four, format, at_most, truth, code, name, numbers, names, part}
+use Rattle.checkpoint_reader.specs.Fields.{format_of, bounded, truth_of, as_text_field, code_of, part_of, taken, byte, two, four, format, at_most, truth, code, name, numbers, names, part}
 use Rattle.checkpoint_laws.specs.Spelled.{IsCode, IsName, AreNames, AreNumbers}
 
 abbrev pub answer : {A : Type 0} → A → ℕ → Answer A
@@ -99,8 +99,8 @@ module _ (bytes : List ℕ) where
   pub off_name : (x : List ℕ) → IsName x → Off (name bytes) (name_bytes x) x
   unfolding name
   off_name x h = λ at s.
-      off_then (byte bytes) (λ n r. after (taken bytes at n r) (λ xs. text_of at xs)) (length x ∷ []) x (length x) x (off_byte (length x))
-      (off_end (taken bytes at (length x)) (λ xs. text_of at xs) x x x (off_taken at (length x) x refl) (λ end. rw h.0 refl)) at s
+      off_then (byte bytes) (λ n r. after (taken bytes at n r) (λ xs. as_text_field at xs)) (length x ∷ []) x (length x) x (off_byte (length x))
+      (off_end (taken bytes at (length x)) (λ xs. as_text_field at xs) x x x (off_taken at (length x) x refl) (λ end. rw h.0 refl)) at s
 
   -- ---- items of one kind
 
@@ -124,6 +124,6 @@ module _ (bytes : List ℕ) where
 
   -- ---- a part
 
-  pub off_part : (p : PartValue) → IsPart p → Off (part bytes) (bytes_of p) (p, length (bytes_of p))
+  pub off_part : (p : PartValue) → IsClosedPart p → Off (part bytes) (bytes_of p) (p, length (bytes_of p))
   unfolding part
   off_part p h = λ at s. ap (λ r. part_of at r) (ap part_read (later at (bytes_of p) s) ∙ read_back p s.rest h)

@@ -11,7 +11,7 @@ use Rattle.checkpoint_reader.specs.declared.fields.Cells.{Cells}
 use Rattle.checkpoint_reader.specs.declared.fields.Fields.{Fields}
 use Rattle.checkpoint_reader.specs.Reads.{Read, after}
 use Rattle.checkpoint_reader.specs.Fields.{letters, begins, taken, magic, format, four, at_most, cells, versions, ended, fields}
-use Rattle.checkpoint_laws.specs.Texts.{text_of}
+use Rattle.checkpoint_laws.specs.Texts.{fields_text}
 use Rattle.checkpoint_laws.proofs.Eats.{answer, same_value, same_place, failed, reached, Spells, Ate, ate_as, ate_then, Eats, eats_then, eats_end, eats_taken}
 use Rattle.checkpoint_laws.proofs.Pieces.{eats_four, eats_format, eats_at_most}
 use Rattle.checkpoint_laws.proofs.TextRecords.{grouped, cells_text, versions_text, counted_cells, eats_cells, counted_versions, eats_versions}
@@ -69,7 +69,7 @@ module _ (bytes : List ℕ) where
       let d = ended_found (record { count = count; meter = meter; cells = cs; versions = vs }) f at next e in sym d.0 ∙ d.2)))))
 
 -- the text, grouped as it is read
-grouped_text : (f : Fields) → text_of f ≡ letters ++ ((0 ∷ 1 ∷ []) ++ (four_bytes f.count ++ (four_bytes f.meter ++ (counted_cells f.cells ++ counted_versions f.versions))))
+grouped_text : (f : Fields) → fields_text f ≡ letters ++ ((0 ∷ 1 ∷ []) ++ (four_bytes f.count ++ (four_bytes f.meter ++ (counted_cells f.cells ++ counted_versions f.versions))))
 grouped_text f =
     let a : List ℕ = ((letters ++ (0 ∷ 1 ∷ [])) ++ four_bytes f.count) ++ four_bytes f.meter in
     let n : List ℕ = four_bytes (length f.cells.records) in
@@ -94,10 +94,10 @@ module _ (bytes : List ℕ) (small : All (λ b. b < 256) bytes) where
     | inr f ↦ absurd (let no : failed (List ℕ) BadMagic ≡ answer xs next = rw f at e in cc)
   ]
 
-  rest_eaten : (first : List ℕ) → Eats bytes (then_format bytes first) (λ f xs. letters ++ xs ≡ text_of f)
+  rest_eaten : (first : List ℕ) → Eats bytes (then_format bytes first) (λ f xs. letters ++ xs ≡ fields_text f)
   rest_eaten first =
       let F : List ℕ = 0 ∷ 1 ∷ [] in
-      let Q : Fields → List ℕ → Type 0 = λ f xs. letters ++ xs ≡ text_of f in
+      let Q : Fields → List ℕ → Type 0 = λ f xs. letters ++ xs ≡ fields_text f in
       eats_then bytes (format bytes) (then_count bytes) (λ n. F) Q (eats_format bytes small) (λ one.
       eats_then bytes (four bytes) (then_meter bytes) four_bytes (λ f z. Q f (F ++ z)) (eats_four bytes small) (λ count.
       eats_then bytes (at_most bytes 16777216) (then_cells bytes count) four_bytes (λ f z. Q f (F ++ (four_bytes count ++ z))) (eats_at_most bytes small 16777216) (λ meter.
@@ -106,18 +106,18 @@ module _ (bytes : List ℕ) (small : All (λ b. b < 256) bytes) where
       (λ f z. Q f (F ++ (four_bytes count ++ (four_bytes meter ++ (counted_cells cs ++ z))))) (eats_versions bytes small) (λ vs f z s t e k.
       let read : Fields = record { count = count; meter = meter; cells = cs; versions = vs } in
       let d = ended_found bytes read f s t k in
-      let spelled : letters ++ (F ++ (four_bytes count ++ (four_bytes meter ++ (counted_cells cs ++ z)))) ≡ text_of read =
+      let spelled : letters ++ (F ++ (four_bytes count ++ (four_bytes meter ++ (counted_cells cs ++ z)))) ≡ fields_text read =
       ap (λ (ys : List ℕ). letters ++ (F ++ (four_bytes count ++ (four_bytes meter ++ (counted_cells cs ++ ys))))) e ∙ sym (grouped_text read) in
-      (d.0, spelled ∙ ap text_of d.1))))))
+      (d.0, spelled ∙ ap fields_text d.1))))))
 
-  pub read_is_text : (f : Fields) (end : ℕ) → fields bytes 0 ≡ answer f end → (bytes ≡ text_of f) × (end ≡ length bytes)
+  pub read_is_text : (f : Fields) (end : ℕ) → fields bytes 0 ≡ answer f end → (bytes ≡ fields_text f) × (end ≡ length bytes)
   unfolding fields
   read_is_text f end e =
       let r = reached (magic bytes 0) (then_format bytes) f end e in
       let a = magic_eaten r.mid r.first r.was in
       let b = rest_eaten r.first r.mid end f r.next in
       let last : end ≡ length bytes = rest_ends bytes r.first r.mid end f r.next in
-      let whole : Ate bytes (λ xs. xs ≡ text_of f) 0 end = ate_then bytes (λ ys. ys ≡ letters) (λ xs. xs ≡ text_of f) 0 r.mid end a
-      (ate_as bytes (λ xs. letters ++ xs ≡ text_of f) (λ ys. a.xs ++ ys ≡ text_of f) r.mid end (λ ys k. ap (λ (zs : List ℕ). zs ++ ys) a.is ∙ k) b) in
+      let whole : Ate bytes (λ xs. xs ≡ fields_text f) 0 end = ate_then bytes (λ ys. ys ≡ letters) (λ xs. xs ≡ fields_text f) 0 r.mid end a
+      (ate_as bytes (λ xs. letters ++ xs ≡ fields_text f) (λ ys. a.xs ++ ys ≡ fields_text f) r.mid end (λ ys k. ap (λ (zs : List ℕ). zs ++ ys) a.is ∙ k) b) in
       let none : drop end bytes ≡ [] = drop_all end bytes (omega (arith, last)) in
       (whole.left ∙ (ap (λ (zs : List ℕ). whole.xs ++ zs) none ∙ (append-nil whole.xs ∙ whole.is)), last)

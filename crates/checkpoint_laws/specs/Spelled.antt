@@ -11,7 +11,7 @@ use Rattle.py_heap.specs.declared.state.State.{State}
 use Rattle.part_bytes.specs.declared.part.PartValue.{PartValue}
 use Rattle.part_bytes.specs.Parts.{part_of}
 use Rattle.part_bytes.specs.Texts.{part_text}
-use Rattle.checkpoint_laws.specs.SpelledParts.{IsPart}
+use Rattle.checkpoint_laws.specs.SpelledParts.{IsClosedPart}
 use Rattle.checkpoint_bytes.specs.Texts.{lists}
 use Rattle.checkpoint_reader.specs.declared.checkpoint.Checkpoint.{Checkpoint}
 use Rattle.checkpoint_reader.specs.declared.fields.Cells.{Cells}
@@ -31,7 +31,7 @@ AreNames names = (length names < 2 ^ 32) × AllByRecursion IsName names
 abbrev pub AreNumbers : List ℕ → Type 0
 AreNumbers numbers = (length numbers < 2 ^ 32) × AllByRecursion (λ n. n < 2 ^ 32) numbers
 
-pub record IsCell (x : CellRecord) : Type 0 where
+pub record IsCellRecord (x : CellRecord) : Type 0 where
   pub code : IsCode x.code
   pub meter : x.meter ≤ 16777216
   pub steps : x.steps ≤ 1000000
@@ -55,10 +55,10 @@ pub record HasText (s : State) (g : Graph) (p : Plan) : Type 0 where
   pub count : s.count < 2 ^ 32
   pub meter : s.meter ≤ 16777216
   pub few_cells : length g.cells < 2 ^ 32
-  pub cells : AllByRecursion IsCell g.cells
+  pub cells : AllByRecursion IsCellRecord g.cells
   pub few_versions : length g.versions < 2 ^ 32
   pub versions : AllByRecursion IsVersion g.versions
-  pub parts : EachCopied g p (λ x. IsPart (part_of s x.names))
+  pub parts : EachCopied g p (λ x. IsClosedPart (part_of s x.names))
 
 -- ---- what is read from it
 

@@ -19,7 +19,7 @@ abbrev pub version_bytes : Versions → ℕ → Version → List ℕ
 version_bytes all n version = plain_version_bytes (lists all.copied n) version ++ part_bytes all.copied all.parts n
 
 -- four letters and the format's version, which is 1; the count and the meter; the cells; the versions, from version 1 on
-abbrev pub text_of : Fields → List ℕ
-text_of read = codes "ENCK" ++ 0 ∷ 1 ∷ [] ++ four read.count ++ four read.meter
+abbrev pub fields_text : Fields → List ℕ
+fields_text read = codes "ENCK" ++ 0 ∷ 1 ∷ [] ++ four read.count ++ four read.meter
     ++ four (length read.cells.records) ++ cells_bytes (plan_of read) read.cells.records
     ++ four (length read.versions.records) ++ bytes_from (version_bytes read.versions) 1 read.versions.records

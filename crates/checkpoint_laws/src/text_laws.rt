@@ -5,12 +5,12 @@ ghost use Rattle.checkpoint_reader.specs.declared.checkpoint.Checkpoint.{Checkpo
 ghost use Rattle.checkpoint_reader.specs.declared.fields.Fields.{Fields};
 ghost use Rattle.checkpoint_reader.specs.Fields.{fields};
 ghost use Rattle.checkpoint_reader.specs.Judging.{IsAnswer};
-ghost use Rattle.checkpoint_laws.specs.Texts.{text_of};
+ghost use Rattle.checkpoint_laws.specs.Texts.{fields_text};
 
 /// Bytes whose fields are read are the text of what was read, and the reading ends where they end.
 pub fn what_is_read_is_a_text()
     ensures { (bytes : List ℕ) (read : Fields) (end : ℕ) → All (λ byte. byte < 256) bytes → fields bytes 0 ≡ Ok (read, end)
-        → (bytes ≡ text_of read) × (end ≡ length bytes) }
+        → (bytes ≡ fields_text read) × (end ≡ length bytes) }
 {}
 
 /// No two lists of bytes are read as the same checkpoint. If bytes are a checkpoint, the same bytes with more after them aren't

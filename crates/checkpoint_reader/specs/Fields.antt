@@ -35,11 +35,11 @@ bounded most at n = if nat_le n most then pure n else fail (BadField at)
 abbrev pub truth_of : ℕ → ℕ → Read Bool
 truth_of at b = if b == 0 then pure false else (if b == 1 then pure true else fail (BadField at))
 
-abbrev pub text_of : ℕ → List ℕ → Read (List ℕ)
-text_of at xs = if is_utf8 xs then pure xs else fail (BadField at)
+abbrev pub as_text_field : ℕ → List ℕ → Read (List ℕ)
+as_text_field at xs = if is_utf8 xs then pure xs else fail (BadField at)
 
 abbrev pub code_of : ℕ → List ℕ → Read (List ℕ)
-code_of at xs = if nat_le (length xs) 262148 then text_of at xs else fail (BadField at)
+code_of at xs = if nat_le (length xs) 262148 then as_text_field at xs else fail (BadField at)
 
 -- only a part without a handle has a size
 abbrev pub size_of : ℕ → ℕ → ℕ → Read ℕ
@@ -156,7 +156,7 @@ module _ (bytes : List ℕ) where
     at ← place
     n ← byte
     xs ← taken at n
-    text_of at xs
+    as_text_field at xs
 
   unfoldable pub numbers : Read (List ℕ)
   numbers = do

@@ -28,19 +28,19 @@ abbrev pub IsDisagreement : Option ℕ → Graph → Plan → Item → Type 0
 IsDisagreement (Some v) g p item = item ≡ the_item.Version v
 IsDisagreement None g p item = IsFirstFailing g p item
 
-abbrev pub IsJudged : Fields → Result Checkpoint CheckpointFault → Type 0
-IsJudged read (Ok checkpoint) = (checkpoint ≡ checkpoint_of read) × IsGraph (graph_of read) × (read.versions.unlike ≡ None) × NamesOf (graph_of read) (plan_of read) × IsFeasible (graph_of read) (plan_of read)
-IsJudged read (Err (fault.Graph f)) = IsFault (graph_of read) f
-IsJudged read (Err (PlanDisagrees item)) = IsGraph (graph_of read) × IsDisagreement read.versions.unlike (graph_of read) (plan_of read) item
-IsJudged read (Err OutOfMemory) = ⊥
-IsJudged read (Err BadMagic) = ⊥
-IsJudged read (Err (BadVersion n)) = ⊥
-IsJudged read (Err (Cut at)) = ⊥
-IsJudged read (Err (Part at f)) = ⊥
-IsJudged read (Err (Trailing at)) = ⊥
-IsJudged read (Err (BadField at)) = ⊥
+abbrev pub IsCheckpointJudged : Fields → Result Checkpoint CheckpointFault → Type 0
+IsCheckpointJudged read (Ok checkpoint) = (checkpoint ≡ checkpoint_of read) × IsGraph (graph_of read) × (read.versions.unlike ≡ None) × NamesOf (graph_of read) (plan_of read) × IsFeasible (graph_of read) (plan_of read)
+IsCheckpointJudged read (Err (fault.Graph f)) = IsFault (graph_of read) f
+IsCheckpointJudged read (Err (PlanDisagrees item)) = IsGraph (graph_of read) × IsDisagreement read.versions.unlike (graph_of read) (plan_of read) item
+IsCheckpointJudged read (Err OutOfMemory) = ⊥
+IsCheckpointJudged read (Err BadMagic) = ⊥
+IsCheckpointJudged read (Err (BadVersion n)) = ⊥
+IsCheckpointJudged read (Err (Cut at)) = ⊥
+IsCheckpointJudged read (Err (Part at f)) = ⊥
+IsCheckpointJudged read (Err (Trailing at)) = ⊥
+IsCheckpointJudged read (Err (BadField at)) = ⊥
 
 -- the first fault of the fields; if there is none, what they are judged to be
 abbrev pub IsAnswer : Answer Fields → Result Checkpoint CheckpointFault → Type 0
-IsAnswer (Ok read) result = IsJudged read.0 result
+IsAnswer (Ok read) result = IsCheckpointJudged read.0 result
 IsAnswer (Err f) result = result ≡ Err f

@@ -1,6 +1,6 @@
 -- What is known of what was read: the numbers of some of it ascend, meters are within the limit, and each version that the plan
 -- copies has a part that was read for it.
-use Rattle.std.specs.Prelude.{◌≡◌, ℕ, ◌-◌, ◌<◌, ◌≤◌, false, List, All, Contains, length, Some, None, Ok, slice_get}
+use Rattle.std.specs.Prelude.{◌≡◌, ℕ, ◌-◌, ◌<◌, ◌≤◌, false, List, All, Contains, length, Some, None, Ok, slice_get, ◌^◌}
 use Rattle.std.specs.List.{AllZip}
 use Rattle.graph_model.specs.declared.graph.CellRecord.{CellRecord}
 use Rattle.graph_model.specs.declared.graph.Version.{Version}
@@ -60,5 +60,5 @@ pub record AreFields (read : Fields) : Type 0 where
   pub meter : read.meter ≤ 16777216
   pub cells : AreCells (length read.cells.records) read.cells
   pub versions : AreVersions (length read.versions.records) read.versions
-  pub few_cells : length read.cells.records < 4294967296
-  pub few_versions : length read.versions.records < 4294967296
+  pub few_cells : length read.cells.records < 2 ^ 32
+  pub few_versions : length read.versions.records < 2 ^ 32

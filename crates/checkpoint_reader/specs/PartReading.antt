@@ -27,8 +27,8 @@ use Rattle.checkpoint_reader.specs.PartReads.{Read, pure, fail, place, ◌>>=◌
 
 -- ---- what is made of bytes that were read; a place is that of the field
 
-abbrev pub text_of : ℕ → List ℕ → Read (List ℕ)
-text_of at xs = if is_utf8 xs then pure xs else fail (BadText at)
+abbrev pub as_text : ℕ → List ℕ → Read (List ℕ)
+as_text at xs = if is_utf8 xs then pure xs else fail (BadText at)
 
 abbrev pub stands_after : Option (List ℕ) → List ℕ → Bool
 stands_after None name = true
@@ -94,7 +94,7 @@ module _ (bytes : List ℕ) where
     at ← place
     n ← four
     xs ← taken n
-    text_of at xs
+    as_text at xs
 
   -- a name, after those before it
   unfoldable pub name : List (List ℕ) → Read (List ℕ)

@@ -1,7 +1,7 @@
 ghost use Rattle.std.specs.Prelude.{◌≡◌, true, IfOk};
 ghost use Rattle.checkpoint_reader.specs.Reads.{tells};
 ghost use Rattle.checkpoint_reader.specs.Numbered.{AreFields, IsRestorable};
-ghost use Rattle.checkpoint_reader.specs.Judging.{IsJudged};
+ghost use Rattle.checkpoint_reader.specs.Judging.{IsCheckpointJudged};
 
 use crate::checkpoint::Checkpoint;
 use crate::fault::CheckpointFault;
@@ -13,7 +13,7 @@ use std::alloc::Global;
 /// What was read as a checkpoint, if its graph is one and its plan agrees with it and with the parts.
 pub(crate) fn judged(alloc: Global, read: Fields) -> Result<Checkpoint, CheckpointFault>
     requires { AreFields read }
-    ensures exact { tells result ≡ true → IsJudged read result }
+    ensures exact { tells result ≡ true → IsCheckpointJudged read result }
     ensures restorable { IfOk result IsRestorable }
 {
     let Fields {

@@ -66,15 +66,15 @@ module _ (s : State) (closed : IsClosed s) where
   share_linked j k h = shared (nth j) (nth k) h.0 ((found_is j h.0).0 h.1) h.2
 
   -- names with one label are linked
-  abbrev IsSound : (ℕ → ℕ) → Type 0
-  IsSound label = (j k : ℕ) → j < length Names → k < length Names → label j ≡ label k → Linked s (nth j) (nth k)
+  abbrev IsSoundLabel : (ℕ → ℕ) → Type 0
+  IsSoundLabel label = (j k : ℕ) → j < length Names → k < length Names → label j ≡ label k → Linked s (nth j) (nth k)
 
   -- what has one label keeps one
   abbrev Keeps : (ℕ → ℕ) → (ℕ → ℕ) → Type 0
   Keeps label more = (j k : ℕ) → label j ≡ label k → more j ≡ more k
 
   -- two linked names get one label
-  module _ (label : ℕ → ℕ) (sound : IsSound label) (a b : ℕ) (a_in : a < length Names) (b_in : b < length Names) (l : Linked s (nth a) (nth b)) where
+  module _ (label : ℕ → ℕ) (sound : IsSoundLabel label) (a b : ℕ) (a_in : a < length Names) (b_in : b < length Names) (l : Linked s (nth a) (nth b)) where
     abbrev more : ℕ → ℕ
     more k = swapped (label b) (label a) (label k)
 
@@ -88,7 +88,7 @@ module _ (s : State) (closed : IsClosed s) where
     across : (j k : ℕ) → j < length Names → k < length Names → label j ≡ label b → label k ≡ label a → Linked s (nth j) (nth k)
     across j k j_in k_in e f = on (nth j) (nth b) (nth k) (sound j b j_in b_in e) (on (nth b) (nth a) (nth k) (back (nth a) (nth b) l) (sound a k a_in k_in (sym f)))
 
-    still_sound : IsSound more
+    still_sound : IsSoundLabel more
     still_sound j k j_in k_in e =
         let from : ℕ = label b in
         let into : ℕ = label a in
@@ -104,8 +104,8 @@ module _ (s : State) (closed : IsClosed s) where
         ]
 
   -- a name and as many others as the count have one label, where they share
-  with_others : (label : ℕ → ℕ) → IsSound label → (a : ℕ) → a < length Names → (count : ℕ) → count ≤ length Names
-      → (more : ℕ → ℕ) × IsSound more × Keeps label more × ((b : ℕ) → b < count → Share a b → more a ≡ more b)
+  with_others : (label : ℕ → ℕ) → IsSoundLabel label → (a : ℕ) → a < length Names → (count : ℕ) → count ≤ length Names
+      → (more : ℕ → ℕ) × IsSoundLabel more × Keeps label more × ((b : ℕ) → b < count → Share a b → more a ≡ more b)
   with_others label sound a a_in zero l = (label, sound, (λ j k e. e), (λ b less. let none : ⊥ = omega (arith, less) in absurd none))
   with_others label sound a a_in (suc count) l =
       let w = with_others label sound a a_in count (omega (arith, l)) in
@@ -134,7 +134,7 @@ module _ (s : State) (closed : IsClosed s) where
       ]
 
   -- as many names as the count have one label with each that they share with
-  labelled_to : (count : ℕ) → count ≤ length Names → (label : ℕ → ℕ) × IsSound label × ((a b : ℕ) → a < count → b < length Names → Share a b → label a ≡ label b)
+  labelled_to : (count : ℕ) → count ≤ length Names → (label : ℕ → ℕ) × IsSoundLabel label × ((a b : ℕ) → a < count → b < length Names → Share a b → label a ≡ label b)
   labelled_to zero l = (
     (λ k. k),
     (λ j k j_in k_in e. subst (λ z. Linked s (nth j) (nth z)) e (itself (nth j) (these.valued j j_in))),
@@ -151,7 +151,7 @@ module _ (s : State) (closed : IsClosed s) where
         ]),
       )
 
-  labelled : (label : ℕ → ℕ) × IsSound label × ((a b : ℕ) → a < length Names → b < length Names → Share a b → label a ≡ label b)
+  labelled : (label : ℕ → ℕ) × IsSoundLabel label × ((a b : ℕ) → a < length Names → b < length Names → Share a b → label a ≡ label b)
   labelled = labelled_to (length Names) (omega arith)
 
   abbrev label : ℕ → ℕ

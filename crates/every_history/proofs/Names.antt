@@ -12,7 +12,7 @@ use Rattle.py_reader.specs.Verdict.{Judged, verdict}
 use Rattle.reader_laws.proofs.Variables.{in_cell}
 use Rattle.run_graph.specs.Histories.{Looks, Binds}
 use Rattle.run_graph.specs.Soundness.{HasNames, statements}
-use Rattle.run_graph.specs.RunLists.{Entry, entry, raised, state_after, run_of}
+use Rattle.run_graph.specs.RunLists.{ListedCell, entry, raised, state_after, run_of}
 use Rattle.run_graph.proofs.Runs.{is_run}
 use Rattle.every_history.specs.Reading.{tree_in, read}
 
@@ -28,8 +28,8 @@ first_holds : (a b : Bool) → IsTrue (a && b) → a ≡ true
 first_holds true b h = refl
 first_holds false b h = cc
 
-module _ (size : List Name → State → ℕ) (entries : List Entry) where
-  abbrev at : ℕ → Entry
+module _ (size : List Name → State → ℕ) (entries : List ListedCell) where
+  abbrev at : ℕ → ListedCell
   at c = entry entries c
 
   abbrev before : ℕ → State

@@ -17,7 +17,7 @@ use Rattle.reader_laws.specs.Texts.{IsItsText}
 use Rattle.reader_laws.specs.Valid.{IsValidState}
 use Rattle.reader_laws.proofs.Cells.{cell_allowed, body_allowed}
 use Rattle.run_graph.specs.Soundness.{statements}
-use Rattle.run_graph.specs.RunLists.{Entry, raised, entry_done}
+use Rattle.run_graph.specs.RunLists.{ListedCell, raised, entry_done}
 use Rattle.every_history.specs.Reading.{tree_in, read}
 
 pub empty_valid : IsValidState empty
@@ -28,7 +28,7 @@ empty_valid = record {
   meter = omega arith;
 }
 
-raised_valid : (e : Entry) (s : State) → IsValidState s → IsValidState (raised e s)
+raised_valid : (e : ListedCell) (s : State) → IsValidState s → IsValidState (raised e s)
 raised_valid e s v = record { closed = record { names = v.closed.names; objects = v.closed.objects }; names = v.names; objects = v.objects; meter = v.meter }
 
 -- a code without a tree has no statements
@@ -36,5 +36,5 @@ allowed_in : (code : List ℕ) → IsUtf8 code → (o : Judged) → verdict code
 allowed_in code u (Ok body) e = cell_allowed code body u e
 allowed_in code u (Err fault) e = All-nil (IsAllowed IsItsText)
 
-pub cell_valid : (e : Entry) (s : State) → IsUtf8 e.code → IsValidState s → IsValidState (entry_done read e s).1.state
+pub cell_valid : (e : ListedCell) (s : State) → IsUtf8 e.code → IsValidState s → IsValidState (entry_done read e s).1.state
 cell_valid e s u v = valid_after IsItsText body_allowed (statements (read e.code)) e.draws (raised e s) (allowed_in e.code u (verdict e.code) refl) (raised_valid e s v)

@@ -6,7 +6,7 @@ use Rattle.graph_model.specs.declared.graph.Graph.{Graph}
 use Rattle.graph_model.specs.Faults.{IsGraph}
 use Rattle.linked_parts.specs.Parts.{IsPart}
 use Rattle.run_graph.specs.Histories.{Run, IsHistory}
-use Rattle.run_graph.specs.Soundness.{Reader, IsSound}
+use Rattle.run_graph.specs.Soundness.{TreeReader, IsSound}
 use Rattle.run_graph.specs.Growing.{IsNext}
 
 -- the name is in a part of the state
@@ -22,7 +22,7 @@ abbrev pub HasHistory : Run → Type 0
 HasHistory r = (g : Graph) × IsHistory r g
 
 -- some graph is the history of the run and is sound, and with fewer than 2^32 cells and versions it has no fault
-pub record HasSoundHistory (read : Reader) (r : Run) : Type 0 where
+pub record HasSoundHistory (read : TreeReader) (r : Run) : Type 0 where
   pub graph : Graph
   pub history : IsHistory r graph
   pub sound : IsSound read r graph

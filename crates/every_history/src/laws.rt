@@ -5,8 +5,8 @@ ghost use Rattle.py_heap.specs.References.{IsClosed};
 ghost use Rattle.py_machine.specs.Runs.{Name};
 ghost use Rattle.linked_parts.specs.Parts.{HasValue};
 ghost use Rattle.run_graph.specs.Histories.{Run};
-ghost use Rattle.run_graph.specs.Soundness.{Reader, IsRun};
-ghost use Rattle.run_graph.specs.RunLists.{Entry, IsRunList, run_of};
+ghost use Rattle.run_graph.specs.Soundness.{TreeReader, IsRun};
+ghost use Rattle.run_graph.specs.RunLists.{ListedCell, IsRunList, run_of};
 ghost use Rattle.every_history.specs.Reading.{read};
 ghost use Rattle.every_history.specs.Existence.{IsInAPart, HasNext, HasHistory, HasSoundHistory};
 
@@ -25,11 +25,11 @@ pub fn each_cell_makes_a_graph()
 /// codes have, under all draws, and whatever is taken as the size of a part. The numbers in such a graph have no bound.
 pub fn every_run_has_a_history()
     ensures run { (r : Run) → IsRun r → HasHistory r }
-    ensures run_list { (trees : Reader) (size : List Name → State → ℕ) (entries : List Entry) → HasHistory (run_of trees size entries) }
+    ensures run_list { (trees : TreeReader) (size : List Name → State → ℕ) (entries : List ListedCell) → HasHistory (run_of trees size entries) }
 {}
 
 /// Every list of codes, read by the reader and run from the empty state, each under just its draws, has a history. It is sound,
 /// and with fewer than 2^32 cells and versions it has no fault.
 pub fn every_list_of_codes_has_a_sound_history()
-    ensures { (size : List Name → State → ℕ) (entries : List Entry) → IsRunList read entries → HasSoundHistory read (run_of read size entries) }
+    ensures { (size : List Name → State → ℕ) (entries : List ListedCell) → IsRunList read entries → HasSoundHistory read (run_of read size entries) }
 {}

@@ -5,17 +5,17 @@ ghost use Rattle.py_heap.specs.declared.state.State.{State};
 ghost use Rattle.py_machine.specs.Runs.{Name};
 ghost use Rattle.run_graph.specs.Histories.{IsHistory};
 ghost use Rattle.run_graph.specs.Soundness.{HasNames};
-ghost use Rattle.run_graph.specs.RunLists.{Entry, run_of};
+ghost use Rattle.run_graph.specs.RunLists.{ListedCell, run_of};
 ghost use Rattle.every_history.specs.Reading.{read};
 
 /// Each cell of a list of codes, run from the empty state, binds and deletes only names that a program may bind, and looks up
 /// only identifiers.
 pub fn cells_of_codes_have_names()
-    ensures { (size : List Name → State → ℕ) (entries : List Entry) → HasNames (run_of read size entries) }
+    ensures { (size : List Name → State → ℕ) (entries : List ListedCell) → HasNames (run_of read size entries) }
 {}
 
 /// The history of a list of codes has no fault.
 pub fn histories_of_codes_pass_the_check()
-    ensures { (size : List Name → State → ℕ) (entries : List Entry) (g : Graph) → IsHistory (run_of read size entries) g
+    ensures { (size : List Name → State → ℕ) (entries : List ListedCell) (g : Graph) → IsHistory (run_of read size entries) g
         → length entries < 2 ^ 32 → length g.versions < 2 ^ 32 → IsGraph g }
 {}

@@ -1,5 +1,5 @@
 -- What is wrong with a graph, walk by walk.
-use Rattle.std.specs.Prelude.{◌≡◌, ◌≢◌, ℕ, ◌-◌, ◌<◌, ◌≤◌, ◌⊎◌, false, true, List, [], ◌∷◌, Contains, length}
+use Rattle.std.specs.Prelude.{◌≡◌, ◌≢◌, ℕ, ◌-◌, ◌<◌, ◌≤◌, ◌⊎◌, false, true, List, [], ◌∷◌, Contains, length, ◌^◌}
 use Rattle.std.specs.Ordering.{nat_cmp}
 use Rattle.std.specs.Cmp.Lexicographic.{slice_cmp}
 use Rattle.std.specs.declared.cmp.Ordering.TheVariants.{Less}
@@ -117,8 +117,8 @@ IsFault g (BadRead c) = Never (HasBadNames g) × Never (HasBadWriter g) × Never
 
 -- a graph without a fault, with fewer than 2^32 cells and versions
 pub record IsGraph (g : Graph) : Type 0 where
-  pub cells : length g.cells < 4294967296
-  pub versions : length g.versions < 4294967296
+  pub cells : length g.cells < 2 ^ 32
+  pub versions : length g.versions < 2 ^ 32
   pub names : Never (HasBadNames g)
   pub writers : Never (HasBadWriter g)
   pub replacements : Never (IsTwoActive g)

@@ -32,7 +32,7 @@ use Rattle.history_graph.specs.Touched.{is_read_by, Reads, IsRecordOf}
 use Rattle.history_graph.specs.Written.{WasPart, Writes, Keeps}
 use Rattle.history_graph.specs.Left.{Heads, AreHeads, part_size, IsOfPart, IsOfGone, IsOfLeft, AreOfLeft}
 use Rattle.history_graph.specs.Grown.{IsGrown}
-use Rattle.history_graph.specs.Ends.{IsCell, StandsAfter}
+use Rattle.history_graph.specs.Ends.{IsCellOf, StandsAfter}
 use Rattle.history_graph.proofs.Bridge.{to_part, of_part, handle_held, part_renamed, handle_renamed}
 use Rattle.history_graph.proofs.Keys.{keys_ascend, in_keys}
 use Rattle.history_graph.proofs.Leaving.{zip_back, zip_forth, zip_ascends, least_is}
@@ -244,7 +244,7 @@ module _ (r : Run) (c : ℕ) (h : History) (k : Graph) (stands : StandsAfter r c
 -- ---- with what the call was told
 
 pub is_next : (r : Run) (c : ℕ) (h : History) (s : State) (code : List ℕ) (meter steps : ℕ) (marks : Marks) (k : Graph) → Ended h s code meter steps marks k
-    → IsCell r c s code meter steps marks → StandsAfter r c h → IsNext r c h.graph k
+    → IsCellOf r c s code meter steps marks → StandsAfter r c h → IsNext r c h.graph k
 is_next r c h s code meter steps marks k e is stands =
     let sized : Sized r c s = record { sizes = is.sizes; handles = is.handles; absent = is.absent } in
     next_by r c h k stands code meter steps is.code is.meter is.steps (subst (Sized r c) (sym is.state) sized)

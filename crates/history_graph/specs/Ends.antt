@@ -24,7 +24,7 @@ pub record HasCells (c : ℕ) (g : Graph) : Type 0 where
 
 -- this is what the run has of the cell after cell c: the state at its end, its code, the meter as it began, its steps and its
 -- marks; and its sizes are the lengths of the texts of parts, and 0 if there is a handle or no value
-pub record IsCell (r : Run) (c : ℕ) (s : State) (text : List ℕ) (units taken : ℕ) (noted : Marks) : Type 0 where
+pub record IsCellOf (r : Run) (c : ℕ) (s : State) (text : List ℕ) (units taken : ℕ) (noted : Marks) : Type 0 where
   pub state : r.state (suc c) ≡ s
   pub code : r.code (suc c) ≡ text
   pub meter : (r.state c).meter ≡ units
@@ -41,4 +41,4 @@ pub record StandsAfter (r : Run) (c : ℕ) (h : History) : Type 0 where
 
 -- for every run of which the call is told the truth, the later graph is what the cell makes of the earlier
 abbrev pub Makes : State → List ℕ → ℕ → ℕ → Marks → History → History → Type 0
-Makes s text units taken noted old now = (r : Run) (c : ℕ) → IsCell r c s text units taken noted → StandsAfter r c old → IsNext r c old.graph now.graph
+Makes s text units taken noted old now = (r : Run) (c : ℕ) → IsCellOf r c s text units taken noted → StandsAfter r c old → IsNext r c old.graph now.graph

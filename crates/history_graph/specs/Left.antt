@@ -1,5 +1,5 @@
 -- What a cell left: parts that it wrote, and names that it deleted.
-use Rattle.std.specs.Prelude.{◌≡◌, ℕ, ◌<◌, ◌⊎◌, true, false, cond, List, [], ◌∷◌, Contains, length, Option, Some, None, slice_get}
+use Rattle.std.specs.Prelude.{◌≡◌, ℕ, ◌<◌, ◌⊎◌, true, false, cond, List, [], ◌∷◌, Contains, length, Option, Some, None, slice_get, ◌^◌}
 use Rattle.std.specs.List.{AllZip}
 use Rattle.std.specs.FinMap as finite
 use Rattle.std.specs.FinMap.{FinMap}
@@ -61,7 +61,7 @@ pub record IsOfPart (s : State) (w : ℕ) (p : Part) (x : Version) : Type 0 wher
   pub absent : x.absent ≡ false
   pub handle : x.handle ≡ p.handle
   pub size : x.size ≡ part_size s p
-  pub fits : part_size s p < 4294967296
+  pub fits : part_size s p < 2 ^ 32
 
 -- the version of a name that it deleted
 pub record IsOfGone (w : ℕ) (name : Name) (x : Version) : Type 0 where

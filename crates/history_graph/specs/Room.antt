@@ -1,14 +1,14 @@
 -- The first of three numbers that reaches 2^32.
-use Rattle.std.specs.Prelude.{ℕ, ◌+◌, ◌<◌, ◌≤◌, Option, Some, None}
+use Rattle.std.specs.Prelude.{ℕ, ◌+◌, ◌<◌, ◌≤◌, Option, Some, None, ◌^◌}
 use Rattle.graph_model.specs.declared.plan.Tally.{Tally}
 use Rattle.graph_model.specs.declared.plan.Tally.TheVariants as tally
 
 -- of a cell more than these, versions with the new ones, and names
 abbrev pub IsFirstOf : ℕ → ℕ → ℕ → ℕ → Option Tally → Type 0
-IsFirstOf cells versions news names None = (cells + 1 < 4294967296) × (versions + news < 4294967296) × (names < 4294967296)
-IsFirstOf cells versions news names (Some tally.Cells) = 4294967296 ≤ cells + 1
-IsFirstOf cells versions news names (Some tally.Versions) = (cells + 1 < 4294967296) × (4294967296 ≤ versions + news)
-IsFirstOf cells versions news names (Some tally.Names) = (cells + 1 < 4294967296) × (versions + news < 4294967296) × (4294967296 ≤ names)
+IsFirstOf cells versions news names None = (cells + 1 < 2 ^ 32) × (versions + news < 2 ^ 32) × (names < 2 ^ 32)
+IsFirstOf cells versions news names (Some tally.Cells) = 2 ^ 32 ≤ cells + 1
+IsFirstOf cells versions news names (Some tally.Versions) = (cells + 1 < 2 ^ 32) × (2 ^ 32 ≤ versions + news)
+IsFirstOf cells versions news names (Some tally.Names) = (cells + 1 < 2 ^ 32) × (versions + news < 2 ^ 32) × (2 ^ 32 ≤ names)
 IsFirstOf cells versions news names (Some tally.Count) = ⊥
 IsFirstOf cells versions news names (Some tally.Texts) = ⊥
 IsFirstOf cells versions news names (Some tally.Bytes) = ⊥

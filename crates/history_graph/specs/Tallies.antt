@@ -1,5 +1,5 @@
 -- Which numbers of a session a cell may not bring to 2^32.
-use Rattle.std.specs.Prelude.{◌≡◌, ℕ, ◌+◌, ◌<◌, ◌≤◌, ◌⊎◌, ◌↔◌, false, List, Contains, length}
+use Rattle.std.specs.Prelude.{◌≡◌, ℕ, ◌+◌, ◌<◌, ◌≤◌, ◌⊎◌, ◌↔◌, false, List, Contains, length, ◌^◌}
 use Rattle.std.specs.FinMap as finite
 use Rattle.py_heap.specs.declared.state.State.{State}
 use Rattle.py_machine.specs.declared.marks.Marks.{Marks}
@@ -49,7 +49,7 @@ Numbers h s code marks tally.Bytes n = (p : Part) × IsPartOf s p × Writes h.pa
 
 -- the number reaches 2^32
 abbrev pub IsOver : History → State → List ℕ → Marks → Tally → Type 0
-IsOver h s code marks t = (n : ℕ) × Numbers h s code marks t n × (4294967296 ≤ n)
+IsOver h s code marks t = (n : ℕ) × Numbers h s code marks t n × (2 ^ 32 ≤ n)
 
 -- it is the first that does
 abbrev pub IsFirstOver : History → State → List ℕ → Marks → Tally → Type 0

@@ -1,5 +1,5 @@
 -- The texts of a session: of the codes of its cells, of the values of its names and of its objects.
-use Rattle.std.specs.Prelude.{◌≡◌, ℕ, ◌≤◌, ◌⊎◌, ◌↔◌, List, Contains, length, Some, slice_get}
+use Rattle.std.specs.Prelude.{◌≡◌, ℕ, ◌≤◌, ◌⊎◌, ◌↔◌, List, Contains, length, Some, slice_get, ◌^◌}
 use Rattle.std.specs.FinMap as finite
 use Rattle.py_value.specs.declared.key.Key.{Key}
 use Rattle.py_value.specs.declared.key.Key.TheVariants as key
@@ -50,7 +50,7 @@ IsNumberOfTexts g s code n = (texts : List (List ℕ)) × Ascends TextBelow text
 
 -- they number 2^32 or more
 abbrev pub HasManyTexts : Graph → State → List ℕ → Type 0
-HasManyTexts g s code = (n : ℕ) × IsNumberOfTexts g s code n × (4294967296 ≤ n)
+HasManyTexts g s code = (n : ℕ) × IsNumberOfTexts g s code n × (2 ^ 32 ≤ n)
 
 -- ---- what is said of some of them
 

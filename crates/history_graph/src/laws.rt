@@ -11,7 +11,7 @@ ghost use Rattle.run_graph.specs.Soundness.{IsRun};
 ghost use Rattle.run_graph.specs.Growing.{first_cells};
 ghost use Rattle.run_graph.specs.Fitting.{Fits, IsStep, TellsParts};
 ghost use Rattle.history_graph.specs.declared.history.History.{History};
-ghost use Rattle.history_graph.specs.Ends.{HasCells, IsCell, Makes};
+ghost use Rattle.history_graph.specs.Ends.{HasCells, IsCellOf, Makes};
 
 /// The history of the first cells of a run has those cells.
 pub fn histories_have_cells()
@@ -26,7 +26,7 @@ pub fn checked_graphs_have_cells()
 /// If a graph was the history of the first cells of a run, it is that of one cell more once that cell has ended.
 pub fn a_history_stays_one()
     ensures { (r : Run) (c : ℕ) (s : State) (code : List ℕ) (meter steps : ℕ) (marks : Marks) (old now : History)
-        → Makes s code meter steps marks old now → IsCell r c s code meter steps marks → ArePartsOf (r.state c) old.parts
+        → Makes s code meter steps marks old now → IsCellOf r c s code meter steps marks → ArePartsOf (r.state c) old.parts
         → IsRun r → IsHistory (first_cells r c) old.graph → IsHistory (first_cells r (c + 1)) now.graph }
 {}
 
@@ -35,10 +35,10 @@ pub fn a_history_stays_one()
 /// part's text.
 pub fn a_checked_graph_stays_one()
     ensures checks { (r : Run) (c : ℕ) (s : State) (code : List ℕ) (meter steps : ℕ) (marks : Marks) (old now : History)
-        → Makes s code meter steps marks old now → IsCell r c s code meter steps marks → ArePartsOf (r.state c) old.parts
+        → Makes s code meter steps marks old now → IsCellOf r c s code meter steps marks → ArePartsOf (r.state c) old.parts
         → IsGraph old.graph → length old.graph.cells ≡ c → Fits r c old.graph → IsStep r c
         → c + 1 < 2 ^ 32 → length now.graph.versions < 2 ^ 32 → IsGraph now.graph }
     ensures fits { (r : Run) (c : ℕ) (s : State) (code : List ℕ) (meter steps : ℕ) (marks : Marks) (old now : History)
-        → Makes s code meter steps marks old now → IsCell r c s code meter steps marks → ArePartsOf (r.state c) old.parts
+        → Makes s code meter steps marks old now → IsCellOf r c s code meter steps marks → ArePartsOf (r.state c) old.parts
         → IsGraph old.graph → length old.graph.cells ≡ c → Fits r c old.graph → IsStep r c → TellsParts r → Fits r (c + 1) now.graph }
 {}

@@ -25,7 +25,7 @@ use Rattle.node_intake.specs.Sessions.{taken_of}
 use Rattle.node_intake.specs.Taking.{IsTakenIn, EndsSo}
 use Rattle.node_run.specs.declared.end.RunEnd.{RunEnd}
 use Rattle.node_run.specs.declared.end.RunEnd.TheVariants.{Whole, Broken, SourceFailed, TooManyReads}
-use Rattle.node_run.specs.Journals.{Answers, AreHosted, Run, journal_of, journals_of, AreRuns, AreJournals}
+use Rattle.node_run.specs.Journals.{Answers, AreHosted, ServedSession, journal_of, journals_of, AreRuns, AreJournals}
 use Rattle.node_run.specs.Frames.{journal_frames, session_frames, run_frames, error_frames, AddsFront}
 use Rattle.node_run.specs.Ends.{status_of, node_at, EndsAt, end_after, errors_after}
 use Rattle.node_run.specs.Streams.{HasRun, Writes, StreamsTold}
@@ -137,7 +137,7 @@ node_agrees intake.End hosts bodies rest (Some p) sessions errors (inr some) agr
 node_agrees intake.Failed hosts bodies rest broken sessions errors is agrees = agrees
 node_agrees intake.TooMany hosts bodies rest broken sessions errors is agrees = agrees
 
-pub has_run : (meaning : Meaning) (hosts : ℕ) (gives : Answers) (bytes : List ℕ) (left : Option (List ℕ)) (t : TakenIn) (end : IntakeEnd) (run_end : RunEnd) (errors : List NodeError) (runs : List Run)
+pub has_run : (meaning : Meaning) (hosts : ℕ) (gives : Answers) (bytes : List ℕ) (left : Option (List ℕ)) (t : TakenIn) (end : IntakeEnd) (run_end : RunEnd) (errors : List NodeError) (runs : List ServedSession)
     → (taken : IsTakenIn hosts bytes t) → EndsSo end left taken.rest → run_end ≡ end_after end t.broken → errors ≡ errors_after end t.broken t.errors → AreRuns meaning hosts gives (map taken_of t.sessions) runs
     → HasRun meaning hosts gives run_end bytes left errors runs
 has_run meaning hosts gives bytes left t end run_end errors runs taken ends is are_errors are_runs =
@@ -182,13 +182,13 @@ if_ok_three (Err e) p q s f = tt
 
 -- ---- what is written of it
 
-are_journals : (meaning : Meaning) (hosts : ℕ) (gives : Answers) (ss : List Taken) (runs : List Run) → AreRuns meaning hosts gives ss runs → AreJournals meaning hosts gives ss (journals_of runs)
+are_journals : (meaning : Meaning) (hosts : ℕ) (gives : Answers) (ss : List Taken) (runs : List ServedSession) → AreRuns meaning hosts gives ss runs → AreJournals meaning hosts gives ss (journals_of runs)
 are_journals meaning hosts gives [] [] are = tt
 are_journals meaning hosts gives [] (r ∷ runs) are = absurd are
 are_journals meaning hosts gives (s ∷ ss) [] are = absurd are
 are_journals meaning hosts gives (s ∷ ss) (r ∷ runs) are = (are.0.1, are_journals meaning hosts gives ss runs are.1)
 
-same_frames : (meaning : Meaning) (hosts : ℕ) (gives : Answers) (ss : List Taken) (runs : List Run) → AreRuns meaning hosts gives ss runs → run_frames runs ≡ session_frames ss (journals_of runs)
+same_frames : (meaning : Meaning) (hosts : ℕ) (gives : Answers) (ss : List Taken) (runs : List ServedSession) → AreRuns meaning hosts gives ss runs → run_frames runs ≡ session_frames ss (journals_of runs)
 unfolding run_frames session_frames
 same_frames meaning hosts gives [] [] are = refl
 same_frames meaning hosts gives [] (r ∷ runs) are = absurd are
@@ -196,10 +196,10 @@ same_frames meaning hosts gives (s ∷ ss) [] are = absurd are
 same_frames meaning hosts gives (s ∷ ss) (r ∷ runs) are =
     ap (λ k. journal_frames k 1 (journal_of r) ++ run_frames runs) are.0.0 ∙ ap (λ z. journal_frames s.kernel 1 (journal_of r) ++ z) (same_frames meaning hosts gives ss runs are.1)
 
-pub same_written : (es fs : List NodeError) (rs ss : List Run) → es ≡ fs → rs ≡ ss → error_frames 1 es ++ run_frames rs ≡ error_frames 1 fs ++ run_frames ss
+pub same_written : (es fs : List NodeError) (rs ss : List ServedSession) → es ≡ fs → rs ≡ ss → error_frames 1 es ++ run_frames rs ≡ error_frames 1 fs ++ run_frames ss
 same_written es fs rs ss p q = ap (λ z. error_frames 1 z ++ run_frames rs) p ∙ ap (λ z. error_frames 1 fs ++ run_frames z) q
 
-writes_of : (meaning : Meaning) (hosts : ℕ) (gives : Answers) (end : RunEnd) (bytes : List ℕ) (left : Option (List ℕ)) (errors : List NodeError) (runs : List Run) (IsAdded : List ℕ → Type 0)
+writes_of : (meaning : Meaning) (hosts : ℕ) (gives : Answers) (end : RunEnd) (bytes : List ℕ) (left : Option (List ℕ)) (errors : List NodeError) (runs : List ServedSession) (IsAdded : List ℕ → Type 0)
     → HasRun meaning hosts gives end bytes left errors runs → IsAdded (error_frames 1 errors ++ run_frames runs) → Writes meaning hosts gives end bytes left IsAdded
 writes_of meaning hosts gives end bytes left errors runs IsAdded run adds = record {
   node = run.node;
@@ -258,7 +258,7 @@ told_nothing meaning hosts gives (Some had) new sink bytes (rest, parts, is) = (
 )
 
 -- all was written
-pub told_all : (meaning : Meaning) (hosts : ℕ) (gives : Answers) (status : ℕ) (end : RunEnd) (old new a b : Option (List ℕ)) (bytes : List ℕ) (errors : List NodeError) (runs : List Run) → status ≡ status_of end → Takes old new bytes
+pub told_all : (meaning : Meaning) (hosts : ℕ) (gives : Answers) (status : ℕ) (end : RunEnd) (old new a b : Option (List ℕ)) (bytes : List ℕ) (errors : List NodeError) (runs : List ServedSession) → status ≡ status_of end → Takes old new bytes
     → HasRun meaning hosts gives end bytes new errors runs → Adds a b (error_frames 1 errors ++ run_frames runs) → StreamsTold meaning hosts gives status old new a b
 told_all meaning hosts gives status end None new a b bytes errors runs same t run adds = t
 told_all meaning hosts gives status end (Some had) new a b bytes errors runs same (rest, parts, is) run adds =
@@ -275,7 +275,7 @@ told_all meaning hosts gives status end (Some had) new a b bytes errors runs sam
     )
 
 -- some of it was written, and the sink met a fault
-pub told_cut : (meaning : Meaning) (hosts : ℕ) (gives : Answers) (end : RunEnd) (old new a b : Option (List ℕ)) (bytes : List ℕ) (errors : List NodeError) (runs : List Run) → Takes old new bytes
+pub told_cut : (meaning : Meaning) (hosts : ℕ) (gives : Answers) (end : RunEnd) (old new a b : Option (List ℕ)) (bytes : List ℕ) (errors : List NodeError) (runs : List ServedSession) → Takes old new bytes
     → HasRun meaning hosts gives end bytes new errors runs → AddsFront a b (error_frames 1 errors ++ run_frames runs) → StreamsTold meaning hosts gives 4 old new a b
 told_cut meaning hosts gives end None new a b bytes errors runs t run adds = t
 told_cut meaning hosts gives end (Some had) new a b bytes errors runs (rest, parts, is) run adds =
@@ -292,7 +292,7 @@ told_cut meaning hosts gives end (Some had) new a b bytes errors runs (rest, par
     )
 
 -- some of it was written, and memory ran out
-pub told_short : (meaning : Meaning) (hosts : ℕ) (gives : Answers) (end : RunEnd) (old new a b : Option (List ℕ)) (bytes : List ℕ) (errors : List NodeError) (runs : List Run) → Takes old new bytes
+pub told_short : (meaning : Meaning) (hosts : ℕ) (gives : Answers) (end : RunEnd) (old new a b : Option (List ℕ)) (bytes : List ℕ) (errors : List NodeError) (runs : List ServedSession) → Takes old new bytes
     → HasRun meaning hosts gives end bytes new errors runs → AddsFront a b (error_frames 1 errors ++ run_frames runs) → StreamsTold meaning hosts gives 5 old new a b
 told_short meaning hosts gives end None new a b bytes errors runs t run adds = t
 told_short meaning hosts gives end (Some had) new a b bytes errors runs (rest, parts, is) run adds =

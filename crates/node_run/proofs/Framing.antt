@@ -5,7 +5,7 @@ use Rattle.session_core.specs.declared.entry.Entry.{Entry}
 use Rattle.reply_frames.specs.declared.node.NodeError.{NodeError}
 use Rattle.reply_frames.specs.Nodes.{frame_of}
 use Rattle.reply_frames.specs.Replies.{entry_frames, entry_length}
-use Rattle.node_run.specs.Journals.{Run, journal_of}
+use Rattle.node_run.specs.Journals.{ServedSession, journal_of}
 use Rattle.node_run.specs.Frames.{error_frames, journal_frames, run_frames}
 
 error_first : (first : ℕ) (e : NodeError) (errors : List NodeError) → error_frames first (e ∷ errors) ≡ frame_of first e ++ error_frames (first + 1) errors
@@ -42,7 +42,7 @@ entry_next kernel first next at e es within is then =
 pub entry_past : (kernel first at : ℕ) (es : List Entry) → length es ≤ at → journal_frames kernel first (drop at es) ≡ []
 entry_past kernel first at es past = ap (journal_frames kernel first) (drop_all at es past) ∙ entry_end kernel first
 
-run_first : (r : Run) (runs : List Run) → run_frames (r ∷ runs) ≡ journal_frames r.0 1 (journal_of r) ++ run_frames runs
+run_first : (r : ServedSession) (runs : List ServedSession) → run_frames (r ∷ runs) ≡ journal_frames r.0 1 (journal_of r) ++ run_frames runs
 unfolding run_frames
 run_first r runs = refl
 
@@ -50,8 +50,8 @@ run_end : run_frames [] ≡ []
 unfolding run_frames
 run_end = refl
 
-pub run_next : (at : ℕ) (r : Run) (runs : List Run) → at < length runs → r ≡ get_or runs at r → run_frames (drop at runs) ≡ journal_frames r.0 1 (journal_of r) ++ run_frames (drop (at + 1) runs)
+pub run_next : (at : ℕ) (r : ServedSession) (runs : List ServedSession) → at < length runs → r ≡ get_or runs at r → run_frames (drop at runs) ≡ journal_frames r.0 1 (journal_of r) ++ run_frames (drop (at + 1) runs)
 run_next at r runs within is = ap run_frames (drop_more runs at r within ∙ ap (λ z. z ∷ drop (at + 1) runs) (sym is)) ∙ run_first r (drop (at + 1) runs)
 
-pub run_past : (at : ℕ) (runs : List Run) → length runs ≤ at → run_frames (drop at runs) ≡ []
+pub run_past : (at : ℕ) (runs : List ServedSession) → length runs ≤ at → run_frames (drop at runs) ≡ []
 run_past at runs past = ap run_frames (drop_all at runs past) ∙ run_end

@@ -21,7 +21,7 @@ use Rattle.session_core.proofs.Feeding.{first_answers}
 use Rattle.node_intake.specs.Intake.{Taken}
 use Rattle.node_intake.specs.declared.session.Session.{Session}
 use Rattle.node_intake.specs.Sessions.{taken_of}
-use Rattle.node_run.specs.Journals.{Answers, IsJournalOf, AreHosted, Run, IsRunOf, AreRuns}
+use Rattle.node_run.specs.Journals.{Answers, IsJournalOf, AreHosted, ServedSession, IsRunOf, AreRuns}
 
 -- ---- two lists
 
@@ -82,7 +82,7 @@ is_journal meaning hosts h answers seen s opened mid es control main is_legal sa
 -- ---- sessions, one after the other
 
 -- the first of the sessions were served, and the rest is left
-pub record ServedSoFar (meaning : Meaning) (hosts : ℕ) (gives : Answers) (all rest : List Session) (runs : List Run) : Type 0 where
+pub record ServedSoFar (meaning : Meaning) (hosts : ℕ) (gives : Answers) (all rest : List Session) (runs : List ServedSession) : Type 0 where
   pub done : List Session
   pub parts : all ≡ done ++ rest
   pub are_runs : AreRuns meaning hosts gives (map taken_of done) runs
@@ -90,13 +90,13 @@ pub record ServedSoFar (meaning : Meaning) (hosts : ℕ) (gives : Answers) (all 
 pub none_served : (meaning : Meaning) (hosts : ℕ) (gives : Answers) (all : List Session) → ServedSoFar meaning hosts gives all all []
 none_served meaning hosts gives all = record { done = []; parts = refl; are_runs = tt }
 
-pub start_served : (meaning : Meaning) (hosts : ℕ) (gives : Answers) (all rest : List Session) (runs : List Run) → rest ≡ all → runs ≡ [] → ServedSoFar meaning hosts gives all rest runs
+pub start_served : (meaning : Meaning) (hosts : ℕ) (gives : Answers) (all rest : List Session) (runs : List ServedSession) → rest ≡ all → runs ≡ [] → ServedSoFar meaning hosts gives all rest runs
 start_served meaning hosts gives all rest runs same none = subst (λ zs. ServedSoFar meaning hosts gives all zs runs) (sym same) (subst (ServedSoFar meaning hosts gives all all) (sym none) (none_served meaning hosts gives all))
 
-pub as_next : (meaning : Meaning) (hosts : ℕ) (gives : Answers) (all left rest : List Session) (s : Session) (runs : List Run) → left ≡ s ∷ rest → ServedSoFar meaning hosts gives all left runs → ServedSoFar meaning hosts gives all (s ∷ rest) runs
+pub as_next : (meaning : Meaning) (hosts : ℕ) (gives : Answers) (all left rest : List Session) (s : Session) (runs : List ServedSession) → left ≡ s ∷ rest → ServedSoFar meaning hosts gives all left runs → ServedSoFar meaning hosts gives all (s ∷ rest) runs
 as_next meaning hosts gives all left rest s runs is so_far = subst (λ zs. ServedSoFar meaning hosts gives all zs runs) is so_far
 
-pub next_served : (meaning : Meaning) (hosts : ℕ) (gives : Answers) (kernel : ℕ) (all rest : List Session) (s : Session) (seen : Seen) (runs new : List Run) → ServedSoFar meaning hosts gives all (s ∷ rest) runs → kernel ≡ s.kernel
+pub next_served : (meaning : Meaning) (hosts : ℕ) (gives : Answers) (kernel : ℕ) (all rest : List Session) (s : Session) (seen : Seen) (runs new : List ServedSession) → ServedSoFar meaning hosts gives all (s ∷ rest) runs → kernel ≡ s.kernel
     → IsJournalOf meaning hosts (gives s.kernel) (taken_of s) seen.entries → new ≡ runs ++ (kernel, seen) ∷ [] → ServedSoFar meaning hosts gives all rest new
 next_served meaning hosts gives kernel all rest s seen runs new so_far own journal is = record {
   done = so_far.done ++ s ∷ [];
@@ -110,5 +110,5 @@ hosted_in : (hosts : ℕ) (done rest : List Session) (s : Session) → AreHosted
 hosted_in hosts [] rest s are = are.0
 hosted_in hosts (first ∷ done) rest s are = hosted_in hosts done rest s are.1
 
-pub next_hosted : (meaning : Meaning) (hosts : ℕ) (gives : Answers) (all rest : List Session) (s : Session) (runs : List Run) → ServedSoFar meaning hosts gives all (s ∷ rest) runs → AreHosted hosts (map taken_of all) → s.host < hosts
+pub next_hosted : (meaning : Meaning) (hosts : ℕ) (gives : Answers) (all rest : List Session) (s : Session) (runs : List ServedSession) → ServedSoFar meaning hosts gives all (s ∷ rest) runs → AreHosted hosts (map taken_of all) → s.host < hosts
 next_hosted meaning hosts gives all rest s runs so_far are = hosted_in hosts so_far.done rest s (subst (λ ss. AreHosted hosts (map taken_of ss)) so_far.parts are)

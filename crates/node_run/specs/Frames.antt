@@ -6,7 +6,7 @@ use Rattle.reply_frames.specs.declared.node.NodeError.{NodeError}
 use Rattle.reply_frames.specs.Nodes.{frame_of}
 use Rattle.reply_frames.specs.Replies.{entry_frames, entry_length}
 use Rattle.node_intake.specs.Intake.{Taken, Node}
-use Rattle.node_run.specs.Journals.{Run, journal_of}
+use Rattle.node_run.specs.Journals.{ServedSession, journal_of}
 
 -- of errors, with running numbers from the first on
 unfoldable pub error_frames : ℕ → List NodeError → List ℕ
@@ -29,7 +29,7 @@ abbrev pub written : Node → List (List Entry) → List ℕ
 written node journals = error_frames 1 node.errors ++ session_frames node.sessions journals
 
 -- of sessions that were served, numbered from 1
-unfoldable pub run_frames : List Run → List ℕ
+unfoldable pub run_frames : List ServedSession → List ℕ
 run_frames [] = []
 run_frames (run ∷ runs) = journal_frames run.0 1 (journal_of run) ++ run_frames runs
 

@@ -29,20 +29,20 @@ abbrev pub AreHosted : ℕ → List Taken → Type 0
 AreHosted hosts sessions = AllByRecursion (λ s. s.host < hosts) sessions
 
 -- a session that was served, by its kernel
-abbrev pub Run : Type 0
-Run = ℕ × Seen
+abbrev pub ServedSession : Type 0
+ServedSession = ℕ × Seen
 
-abbrev pub journal_of : Run → List Entry
+abbrev pub journal_of : ServedSession → List Entry
 journal_of run = run.1.entries
 
-abbrev pub journals_of : List Run → List (List Entry)
+abbrev pub journals_of : List ServedSession → List (List Entry)
 journals_of runs = map journal_of runs
 
-abbrev pub IsRunOf : Meaning → ℕ → Answers → Taken → Run → Type 0
+abbrev pub IsRunOf : Meaning → ℕ → Answers → Taken → ServedSession → Type 0
 IsRunOf meaning hosts gives s run = (run.0 ≡ s.kernel) × IsJournalOf meaning hosts (gives s.kernel) s (journal_of run)
 
 -- each session was served, in order
-abbrev pub AreRuns : Meaning → ℕ → Answers → List Taken → List Run → Type 0
+abbrev pub AreRuns : Meaning → ℕ → Answers → List Taken → List ServedSession → Type 0
 AreRuns meaning hosts gives sessions runs = AllZip (IsRunOf meaning hosts gives) sessions runs
 
 abbrev pub AreJournals : Meaning → ℕ → Answers → List Taken → List (List Entry) → Type 0

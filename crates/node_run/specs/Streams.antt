@@ -8,7 +8,7 @@ use Rattle.session_core.specs.Meanings.{Meaning}
 use Rattle.node_intake.specs.Intake.{Node}
 use Rattle.reply_frames.specs.declared.node.NodeError.{NodeError}
 use Rattle.node_run.specs.declared.end.RunEnd.{RunEnd}
-use Rattle.node_run.specs.Journals.{Answers, Run, AreRuns, AreJournals}
+use Rattle.node_run.specs.Journals.{Answers, ServedSession, AreRuns, AreJournals}
 use Rattle.node_run.specs.Frames.{written, AddsFront}
 use Rattle.node_run.specs.Ends.{status_of, node_at, EndsAt}
 
@@ -23,7 +23,7 @@ pub record IsNodeOf (hosts : ℕ) (end : RunEnd) (bytes : List ℕ) (left : Opti
   pub ends : EndsAt end left rest
 
 -- these errors, and these sessions that were served, are those of that node
-pub record HasRun (meaning : Meaning) (hosts : ℕ) (gives : Answers) (end : RunEnd) (bytes : List ℕ) (left : Option (List ℕ)) (errors : List NodeError) (runs : List Run) : Type 0 where
+pub record HasRun (meaning : Meaning) (hosts : ℕ) (gives : Answers) (end : RunEnd) (bytes : List ℕ) (left : Option (List ℕ)) (errors : List NodeError) (runs : List ServedSession) : Type 0 where
   pub node : Node
   pub is_node : IsNodeOf hosts end bytes left node
   pub errors_are : errors ≡ node.errors

@@ -8,7 +8,7 @@ use Rattle.py_meaning.specs.Cells.{outcome, end, error_in, result_in}
 use Rattle.py_reader.specs.declared.fault.SyntaxFault.{SyntaxFault}
 use Rattle.py_reader.specs.Verdict.{Judged, verdict}
 use Rattle.notebook_meaning.specs.Errors.{failure, refused}
-use Rattle.run_graph.specs.RunLists.{Entry, raised, entry_done}
+use Rattle.run_graph.specs.RunLists.{ListedCell, raised, entry_done}
 use Rattle.run_graph.specs.Soundness.{statements}
 use Rattle.every_history.specs.Reading.{tree_in, read}
 use Rattle.graph_model.specs.declared.graph.Graph.{Graph}
@@ -21,8 +21,8 @@ use Rattle.notebook_meaning.specs.Answers.{answer_from}
 use Rattle.notebook_meaning.proofs.Recorded.{reads_alike}
 use Rattle.notebook_engine.specs.Holding.{fault_in, reply_from}
 
-module _ (cells : List Entry) (g : Graph) (t : State) (stands : StandsFor read size_of cells g t) (code : List ℕ) (utf8 : IsUtf8 code) (draws : List Drawn) (counted : Bool) (silent : Bool) where
-  abbrev E : Entry
+module _ (cells : List ListedCell) (g : Graph) (t : State) (stands : StandsFor read size_of cells g t) (code : List ℕ) (utf8 : IsUtf8 code) (draws : List Drawn) (counted : Bool) (silent : Bool) where
+  abbrev E : ListedCell
   E = record { code = recorded code; draws = draws; counted = counted }
 
   abbrev U : State

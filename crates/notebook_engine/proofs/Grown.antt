@@ -16,14 +16,14 @@ use Rattle.graph_model.specs.declared.plan.Tally.{Tally}
 use Rattle.linked_parts.specs.Parts.{HasValue, IsPart, ArePartsOf}
 use Rattle.run_graph.specs.Parts.{HasHandle}
 use Rattle.run_graph.specs.Histories.{Run}
-use Rattle.run_graph.specs.RunLists.{Entry, raised, entry_done, run_of}
+use Rattle.run_graph.specs.RunLists.{ListedCell, raised, entry_done, run_of}
 use Rattle.run_graph.specs.Soundness.{statements}
 use Rattle.run_graph.proofs.Runs.{is_run}
 use Rattle.run_graph.proofs.Kept.{in_part_value}
 use Rattle.every_history.specs.Reading.{read}
 use Rattle.part_bytes.specs.Texts.{part_text}
 use Rattle.history_graph.specs.declared.history.History.{History}
-use Rattle.history_graph.specs.Ends.{IsCell, Makes}
+use Rattle.history_graph.specs.Ends.{IsCellOf, Makes}
 use Rattle.history_graph.proofs.Standing.{history_has_cells}
 use Rattle.replay_laws.specs.Sizing.{holds_handle, have_values, size_of}
 use Rattle.replay_laws.specs.Sessions.{StandsFor, IsCellFrom}
@@ -57,8 +57,8 @@ beside : State → State → ℕ → State
 beside t s zero = t
 beside t s (suc n) = s
 
-module _ (cells : List Entry) (t : State) (code : List ℕ) (utf8 : IsUtf8 code) (draws : List Drawn) (counted : Bool) where
-  abbrev E : Entry
+module _ (cells : List ListedCell) (t : State) (code : List ℕ) (utf8 : IsUtf8 code) (draws : List Drawn) (counted : Bool) where
+  abbrev E : ListedCell
   E = record { code = recorded code; draws = draws; counted = counted }
 
   abbrev Body : List Stmt
@@ -106,7 +106,7 @@ module _ (cells : List Entry) (t : State) (code : List ℕ) (utf8 : IsUtf8 code)
     may_run u fits = record { uses = same_uses u; fits = fits }
 
 -- with its cell recorded, the session stands for one cell more
-pub grown : (cells : List Entry) (t s : State) (code : List ℕ) (utf8 : IsUtf8 code) (draws : List Drawn) (counted : Bool) (old now : History) (meter steps : ℕ) (marks : Marks)
+pub grown : (cells : List ListedCell) (t s : State) (code : List ℕ) (utf8 : IsUtf8 code) (draws : List Drawn) (counted : Bool) (old now : History) (meter steps : ℕ) (marks : Marks)
     → StandsFor read size_of cells old.graph t → ArePartsOf t old.parts
     → UsesUp (statements (read code)) (raised (record { code = recorded code; draws = draws; counted = counted }) t) draws
     → s ≡ end_state (statements (read code)) (raised (record { code = recorded code; draws = draws; counted = counted }) t) draws
@@ -117,12 +117,12 @@ pub grown : (cells : List Entry) (t s : State) (code : List ℕ) (utf8 : IsUtf8 
     → StandsFor read size_of (cells ++ record { code = recorded code; draws = draws; counted = counted } ∷ []) now.graph s
 unfolding one_cell
 grown cells t s code utf8 draws counted old now meter steps marks stands parts uses state units taken noted closed makes =
-    let e : Entry = record { code = recorded code; draws = draws; counted = counted } in
+    let e : ListedCell = record { code = recorded code; draws = draws; counted = counted } in
     let r : Run = one_cell cells t code utf8 draws counted in
     let c : ℕ = length cells in
     let done = done_is cells t code utf8 draws counted t in
     let at_end : r.state (suc c) ≡ s = after cells t code utf8 draws counted ∙ (ap (λ o. o.1.state) done ∙ sym state) in
-    let is : IsCell r c s (recorded code) meter steps marks = record {
+    let is : IsCellOf r c s (recorded code) meter steps marks = record {
       state = at_end;
       code = refl;
       meter = ap (λ (z : State). z.meter) (before cells t code utf8 draws counted) ∙ sym units;

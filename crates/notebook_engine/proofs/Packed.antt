@@ -12,7 +12,7 @@ use Rattle.graph_model.specs.Graphs.{VersionAt, IsFirstStuck}
 use Rattle.graph_model.specs.Plans.{NamesOf, IsFeasible, AreAdmitted}
 use Rattle.history_graph.specs.declared.history.History.{History}
 use Rattle.linked_parts.specs.Parts.{ArePartsOf}
-use Rattle.run_graph.specs.RunLists.{Entry}
+use Rattle.run_graph.specs.RunLists.{ListedCell}
 use Rattle.run_graph.proofs.Runs.{is_run}
 use Rattle.every_history.specs.Reading.{read}
 use Rattle.replay_laws.specs.Sizing.{size_of}
@@ -36,7 +36,7 @@ use Rattle.notebook_engine.specs.Holding.{HoldsCells, StandsForAsks, IsImage}
 use Rattle.notebook_engine.specs.Packing.{IsStuckFault}
 use Rattle.notebook_engine.specs.Laws.{has_one_graph, is_graph}
 
-pub graph_of : (n : Notebook) (cells : List Entry) → HoldsCells n cells → IsGraphOf cells n.history.graph
+pub graph_of : (n : Notebook) (cells : List ListedCell) → HoldsCells n cells → IsGraphOf cells n.history.graph
 graph_of n cells h = record {
   history = h.session.history;
   few_cells = subst (λ (k : ℕ). k < 2 ^ 32) h.session.history.cells h.few_cells;
@@ -64,7 +64,7 @@ image_of bytes host r n k h is =
     (subst (λ (z : ℕ). IsRestoredOn bytes host (record { kernel = r.kernel; history = r.history; objects = z })) is.objects is))
 
 module _ (served : List Served) (plan : Plan) (bytes : List ℕ) (packed : IsPacked notebooks served plan bytes) where
-  abbrev Cells : List Entry
+  abbrev Cells : List ListedCell
   Cells = cells_of served
 
   abbrev U : State

@@ -30,7 +30,7 @@ use Rattle.linked_parts.proofs.Lists.{below_on, never_below_itself}
 use Rattle.run_graph.specs.Parts.{HasHandle}
 use Rattle.run_graph.specs.Histories.{Run}
 use Rattle.run_graph.specs.Growing.{IsNext}
-use Rattle.run_graph.specs.RunLists.{Entry, entry, blank, raised, entry_done, state_after, run_of}
+use Rattle.run_graph.specs.RunLists.{ListedCell, entry, blank, raised, entry_done, state_after, run_of}
 use Rattle.run_graph.specs.Soundness.{statements}
 use Rattle.run_graph.proofs.Growing.{in_of_get, get_of_in, old_or_new, to_new}
 use Rattle.run_graph.proofs.Only.{same_list, one_history}
@@ -71,17 +71,17 @@ module _ (a b : Tally) (d e : List Drawn) (same : ◌≡◌ {A = Result Done Run
 
 -- ---- the count
 
-one_longer : (cells : List Entry) (e : Entry) → length (cells ++ e ∷ []) ≡ suc (length cells)
+one_longer : (cells : List ListedCell) (e : ListedCell) → length (cells ++ e ∷ []) ≡ suc (length cells)
 one_longer cells e = let f = length-append cells (e ∷ []) in omega (arith, f)
 
-unmoved_last : (cells : List Entry) (e : Entry) → unmoved (cells ++ e ∷ []) ≡ (entry_done read e (unmoved cells)).1.state
+unmoved_last : (cells : List ListedCell) (e : ListedCell) → unmoved (cells ++ e ∷ []) ≡ (entry_done read e (unmoved cells)).1.state
 unmoved_last cells e = ap (state_after read (cells ++ e ∷ [])) (one_longer cells e) ∙ last_state read cells e
 
-pub count_after : (cells : List Entry) (e : Entry) → (unmoved (cells ++ e ∷ [])).count ≡ (unmoved cells).count + cond e.counted 1 0
+pub count_after : (cells : List ListedCell) (e : ListedCell) → (unmoved (cells ++ e ∷ [])).count ≡ (unmoved cells).count + cond e.counted 1 0
 count_after cells e = ap (λ (s : State). s.count) (unmoved_last cells e) ∙ cell_counts (statements (read e.code)) (raised e (unmoved cells)) e.draws
 
 -- the count doesn't pass
-count_stays : (n : Notebook) (e : Entry) (cells : List Entry) → HoldsCells n cells → n.kernel.state.count < 4294967296 → (e.counted ≡ true → n.kernel.state.count < 4294967295)
+count_stays : (n : Notebook) (e : ListedCell) (cells : List ListedCell) → HoldsCells n cells → n.kernel.state.count < 4294967296 → (e.counted ≡ true → n.kernel.state.count < 4294967295)
     → ¬ IsPassed (cells ++ e ∷ []) tally.Count
 count_stays n e cells h small room p =
     let all = count_after cells e in
@@ -94,7 +94,7 @@ count_stays n e cells h small room p =
     ]
 
 -- a number without room is the first that passes
-pub full_first : (n : Notebook) (e : Entry) (which : Tally) → IsFull n e.counted which → PassesWith n e which
+pub full_first : (n : Notebook) (e : ListedCell) (which : Tally) → IsFull n e.counted which → PassesWith n e which
 full_first n e tally.Count full cells h =
     let all = count_after cells e in
     let same = h.session.same.count in
@@ -130,13 +130,13 @@ same_keys s t same =
 
 -- ---- codes
 
-entry_in : (cells : List Entry) (i : ℕ) → i < length cells → Contains cells (entry cells i)
+entry_in : (cells : List ListedCell) (i : ℕ) → i < length cells → Contains cells (entry cells i)
 entry_in cells i l = in_of_get cells i (entry cells i) (slice_get-get_or cells i blank l)
 
-entry_is : (cells : List Entry) (e : Entry) → Contains cells e → (i : ℕ) × (i < length cells) × (entry cells i ≡ e)
+entry_is : (cells : List ListedCell) (e : ListedCell) → Contains cells e → (i : ℕ) × (i < length cells) × (entry cells i ≡ e)
 entry_is cells e c = let w = get_of_in cells e c in (w.0, slice_get_within cells w.0 e w.1, get_or_from_slice_get cells w.0 e blank w.1)
 
-module _ (cells : List Entry) (g : Graph) (h : IsHistoryOf cells g) where
+module _ (cells : List ListedCell) (g : Graph) (h : IsHistoryOf cells g) where
   code_is : (i : ℕ) (x : CellRecord) → slice_get g.cells i ≡ Some x → x.code ≡ (entry cells i).code
   code_is i x at =
       let here : suc i - 1 ≡ i = omega arith in
@@ -157,17 +157,17 @@ module _ (cells : List Entry) (g : Graph) (h : IsHistoryOf cells g) where
       let none : CellRecord = record { code = []; meter = 0; steps = 0; drew = false; reads = []; missing = [] } in
       let x : CellRecord = get_or g.cells i.0 none in
       let at : slice_get g.cells i.0 ≡ Some x = slice_get-get_or g.cells i.0 none (omega (arith, l, size)) in
-      (x, in_of_get g.cells i.0 x at, code_is i.0 x at ∙ (ap (λ (e : Entry). e.code) i.2 ∙ w.2))
+      (x, in_of_get g.cells i.0 x at, code_is i.0 x at ∙ (ap (λ (e : ListedCell). e.code) i.2 ∙ w.2))
 
 -- ---- the session with one cell more
 
-module _ (cells : List Entry) (t : State) (code : List ℕ) (utf8 : IsUtf8 code) (draws : List Drawn) (counted : Bool) (old : History)
+module _ (cells : List ListedCell) (t : State) (code : List ℕ) (utf8 : IsUtf8 code) (draws : List Drawn) (counted : Bool) (old : History)
     (stands : StandsFor read size_of cells old.graph t) (parts : ArePartsOf t old.parts)
     (uses : UsesUp (statements (read code)) (raised (record { code = recorded code; draws = draws; counted = counted }) t) draws) where
-  abbrev E : Entry
+  abbrev E : ListedCell
   E = record { code = recorded code; draws = draws; counted = counted }
 
-  abbrev Longer : List Entry
+  abbrev Longer : List ListedCell
   Longer = cells ++ E ∷ []
 
   abbrev N : ℕ
@@ -273,7 +273,7 @@ module _ (cells : List Entry) (t : State) (code : List ℕ) (utf8 : IsUtf8 code)
   code_from : (x : List ℕ) → IsCodeIn Longer x → IsCodeOf old.graph (recorded code) x
   code_from x (e, c, is) = elim (Contains-append_cases cells (E ∷ []) e c) [
     | inl k ↦ inr (to_record cells old.graph stands.history x (e, k, is))
-    | inr k ↦ inl (sym (ap (λ (z : Entry). z.code) (one_in E e k) ∙ is))
+    | inr k ↦ inl (sym (ap (λ (z : ListedCell). z.code) (one_in E e k) ∙ is))
   ]
 
   text_to : (x : List ℕ) → IsCodeOf old.graph (recorded code) x ⊎ IsTextIn S x → IsCodeIn Longer x ⊎ IsTextIn (unmoved Longer) x

@@ -17,7 +17,7 @@ use Rattle.graph_model.specs.Plans.{NamesOf, IsFeasible}
 use Rattle.plan_model.specs.declared.feasibility.Item.{Item}
 use Rattle.plan_model.specs.declared.feasibility.Item.TheVariants as item
 use Rattle.plan_model.specs.Failing.{FailsVersion, FailsCell, IsFirstFailing}
-use Rattle.run_graph.specs.RunLists.{Entry, state_after}
+use Rattle.run_graph.specs.RunLists.{ListedCell, state_after}
 use Rattle.every_history.specs.Reading.{read}
 use Rattle.checkpoint_bytes.specs.Texts.{checkpoint_text}
 use Rattle.checkpoint_reader.specs.declared.checkpoint.Checkpoint.{Checkpoint}
@@ -70,7 +70,7 @@ no_failing : (g : Graph) (p : Plan) (i : Item) → IsFeasible g p → IsFirstFai
 no_failing g p (item.Version v) h f = no_failing_version g p v h f.0
 no_failing g p (item.Cell c) h f = no_failing_cell g p c h f.1.0
 
-module _ (entries : List Entry) (g : Graph) (s : State) (p : Plan) (stands : StandsFor read size_of entries g s) (graph : IsGraph g) (plan : NamesOf g p)
+module _ (entries : List ListedCell) (g : Graph) (s : State) (p : Plan) (stands : StandsFor read size_of entries g s) (graph : IsGraph g) (plan : NamesOf g p)
     (feasible : IsFeasible g p) (has : HasText s g p) where
   abbrev Text : List ℕ
   Text = checkpoint_text s g p

@@ -10,7 +10,7 @@ use Rattle.nb_outside.specs.declared.feed.Drawn.{Drawn}
 use Rattle.py_heap.specs.States.{empty}
 use Rattle.graph_model.specs.declared.plan.Tally.{Tally}
 use Rattle.linked_parts.specs.Parts.{IsPartOf, ArePartsOf}
-use Rattle.run_graph.specs.RunLists.{Entry}
+use Rattle.run_graph.specs.RunLists.{ListedCell}
 use Rattle.every_history.specs.Reading.{read}
 use Rattle.replay_laws.specs.Sizing.{size_of}
 use Rattle.replay_laws.proofs.GoingOn.{begins_so}
@@ -53,7 +53,7 @@ opened_holds n s h =
     (subst (λ state. HoldsCells (record n { kernel = record n.kernel { state = state }; history = record { graph = record { cells = []; versions = [] }; parts = record { list = [] } } }) []) (sym s) base)
 
 -- a shutdown: a restart begins anew, and else all stays
-pub shut_holds : (n now : Notebook) (cells : List Entry) (restart : Bool) → HoldsCells n cells → (restart ≡ true → HoldsCells now []) → (restart ≡ false → now ≡ n) → HoldsCells now (with_ask cells (Shutdown restart) [])
+pub shut_holds : (n now : Notebook) (cells : List ListedCell) (restart : Bool) → HoldsCells n cells → (restart ≡ true → HoldsCells now []) → (restart ≡ false → now ≡ n) → HoldsCells now (with_ask cells (Shutdown restart) [])
 shut_holds n now cells true h anew stays = anew refl
 shut_holds n now cells false h anew stays = subst (λ (m : Notebook). HoldsCells m cells) (sym (stays refl)) h
 
@@ -65,7 +65,7 @@ served_stands n now served ask draws stands no_end may holds =
 -- ---- what is answered
 
 module _ (n : Notebook) (served : List Served) (stands : StandsForAsks n served) (no_end : HasNoEnd served) where
-  abbrev Cells : List Entry
+  abbrev Cells : List ListedCell
   Cells = cells_of served
 
   -- a cell

@@ -7,7 +7,7 @@ use Rattle.py_meaning.specs.declared.end.CellError.{CellError}
 use Rattle.py_reader.specs.declared.fault.SyntaxFault.{SyntaxFault}
 use Rattle.py_reader.specs.Verdict.{Judged, verdict}
 use Rattle.notebook_meaning.specs.Errors.{failure, refused}
-use Rattle.run_graph.specs.RunLists.{Entry, raised}
+use Rattle.run_graph.specs.RunLists.{ListedCell, raised}
 use Rattle.every_history.specs.Reading.{read}
 use Rattle.replay_laws.specs.Sizing.{size_of}
 use Rattle.replay_laws.specs.Sessions.{StandsFor}
@@ -23,7 +23,7 @@ use Rattle.restore_run.specs.Restoring.{IsRestoredOn}
 use Rattle.notebook_engine.specs.declared.notebook.Notebook.{Notebook}
 
 -- it is as one that ran these cells and never moved
-pub record HoldsCells (n : Notebook) (cells : List Entry) : Type 0 where
+pub record HoldsCells (n : Notebook) (cells : List ListedCell) : Type 0 where
   pub session : StandsFor read size_of cells n.history.graph n.kernel.state
   pub parts : ArePartsOf n.kernel.state n.history.parts
   pub few_cells : length n.history.graph.cells < 2 ^ 32
@@ -35,7 +35,7 @@ abbrev pub StandsForAsks : Notebook → List Served → Type 0
 StandsForAsks n served = IsRunOfAsks served × HoldsCells n (cells_of served)
 
 abbrev pub IsUsable : Notebook → Type 0
-IsUsable n = (cells : List Entry) × HoldsCells n cells
+IsUsable n = (cells : List ListedCell) × HoldsCells n cells
 
 -- it is what the bytes restore on the host
 abbrev pub IsImage : Notebook → List ℕ → ℕ → Type 0
@@ -44,7 +44,7 @@ IsImage n bytes host = IsRestoredOn bytes host (record { kernel = n.kernel; hist
 -- of the count and the cells this is the first that has no room for a cell more
 abbrev pub IsFull : Notebook → Bool → Tally → Type 0
 IsFull n counted tally.Count = (counted ≡ true) × (4294967295 ≤ n.kernel.state.count)
-IsFull n counted tally.Cells = (n.kernel.state.count < 4294967296) × (counted ≡ true → n.kernel.state.count < 4294967295) × (4294967295 ≤ length n.history.graph.cells)
+IsFull n counted tally.Cells = (n.kernel.state.count < 2 ^ 32) × (counted ≡ true → n.kernel.state.count < 4294967295) × (4294967295 ≤ length n.history.graph.cells)
 IsFull n counted tally.Versions = ⊥
 IsFull n counted tally.Names = ⊥
 IsFull n counted tally.Texts = ⊥
@@ -56,11 +56,11 @@ pub record HasRoom (n : Notebook) (counted : Bool) : Type 0 where
   pub cells : length n.history.graph.cells < 4294967295
 
 -- whatever cells it holds: with this cell, this is the first number that reaches 2^32
-abbrev pub PassesWith : Notebook → Entry → Tally → Type 0
-PassesWith n e which = (cells : List Entry) → HoldsCells n cells → IsPassedFirst (cells ++ e ∷ []) which
+abbrev pub PassesWith : Notebook → ListedCell → Tally → Type 0
+PassesWith n e which = (cells : List ListedCell) → HoldsCells n cells → IsPassedFirst (cells ++ e ∷ []) which
 
 -- after these cells, which the notebook held, it ran this one, and now it holds that one too; and this is the reply to it
-pub record HasRun (now : Notebook) (cells : List Entry) (silent : Bool) (code : List ℕ) (e : Entry) (reply : Reply) : Type 0 where
+pub record HasRun (now : Notebook) (cells : List ListedCell) (silent : Bool) (code : List ℕ) (e : ListedCell) (reply : Reply) : Type 0 where
   pub may : MayRun cells e
   pub holds : HoldsCells now (cells ++ e ∷ [])
   pub reply_is : reply ≡ answer_from (raised e (unmoved cells)) silent e.draws (verdict code)

@@ -4,7 +4,7 @@ use Rattle.nb_outside.specs.declared.feed.Drawn.{Drawn}
 use Rattle.graph_model.specs.declared.graph.Graph.{Graph}
 use Rattle.graph_model.specs.declared.plan.Tally.{Tally}
 use Rattle.graph_model.specs.Faults.{IsGraph}
-use Rattle.run_graph.specs.RunLists.{Entry, run_of}
+use Rattle.run_graph.specs.RunLists.{ListedCell, run_of}
 use Rattle.run_graph.proofs.Only.{one_history}
 use Rattle.run_graph.proofs.Checking.{checks}
 use Rattle.run_graph.proofs.Runs.{is_run}
@@ -19,13 +19,13 @@ use Rattle.notebook_meaning.specs.Lists.{MayServe, IsRunOfAsks}
 use Rattle.notebook_meaning.specs.Notebooks.{IsGraphOf, Passes}
 use Rattle.notebook_meaning.proofs.Lists.{last_may}
 
-pub has_one_graph : (cells : List Entry) (g h : Graph) → IsGraphOf cells g → IsGraphOf cells h → g ≡ h
+pub has_one_graph : (cells : List ListedCell) (g h : Graph) → IsGraphOf cells g → IsGraphOf cells h → g ≡ h
 has_one_graph cells g h a b = one_history (run_of read size_of cells) g h a.history b.history
 
-pub is_graph : (cells : List Entry) (g : Graph) → IsGraphOf cells g → IsGraph g
+pub is_graph : (cells : List ListedCell) (g : Graph) → IsGraphOf cells g → IsGraph g
 is_graph cells g a = checks (run_of read size_of cells) (is_run read cells size_of) g a.history (has_names size_of cells) a.few_cells a.few_versions
 
-may_not : (cells : List Entry) (ask : Ask) (draws : List Drawn) (which : Tally) → MayServe cells ask draws → Passes cells ask draws which → ⊥
+may_not : (cells : List ListedCell) (ask : Ask) (draws : List Drawn) (which : Tally) → MayServe cells ask draws → Passes cells ask draws which → ⊥
 may_not cells (Execute code silent store) draws which may p = may.1.fits which p.0
 may_not cells Info draws which may p = p
 may_not cells (Complete code) draws which may p = p

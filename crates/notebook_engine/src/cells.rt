@@ -5,7 +5,7 @@ ghost use Rattle.graph_model.specs.declared.plan.Tally.{Tally};
 ghost use Rattle.py_heap.specs.References.{IsClosed};
 ghost use Rattle.py_meaning.specs.Cells as spec;
 ghost use Rattle.py_reader.specs.Verdict.{verdict};
-ghost use Rattle.run_graph.specs.RunLists.{Entry};
+ghost use Rattle.run_graph.specs.RunLists.{ListedCell};
 ghost use Rattle.run_graph.specs.Soundness.{statements};
 ghost use Rattle.every_history.specs.Reading.{read};
 ghost use Rattle.session_core.specs.Engines.{HasDrawn};
@@ -103,7 +103,7 @@ impl Notebook {
     ) -> Result<Done, RunFault>
         requires closed { IsClosed self.old.kernel.state }
         requires room { HasRoom self.old counted }
-        ensures ran { IfOk result (λ done. (cells : List Entry) → HoldsCells self.old cells
+        ensures ran { IfOk result (λ done. (cells : List ListedCell) → HoldsCells self.old cells
             → HasRun self.new cells silent code.now (record { code = recorded code.now; draws = done.draws; counted = counted }) done.reply) }
         ensures passes { (which : Tally) (draws : List Drawn) → result ≡ Err (RunFault.TooMany which draws)
             → PassesWith self.old (record { code = recorded code.now; draws = draws; counted = counted }) which }
@@ -151,7 +151,7 @@ impl Notebook {
         feed: &mut F,
     ) -> Result<Done, RunFault>
         requires { IsClosed self.old.kernel.state }
-        ensures ran { IfOk result (λ done. (cells : List Entry) → HoldsCells self.old cells
+        ensures ran { IfOk result (λ done. (cells : List ListedCell) → HoldsCells self.old cells
             → HasRun self.new cells silent code.now (record { code = recorded code.now; draws = done.draws; counted = counted }) done.reply) }
         ensures passes { (which : Tally) (draws : List Drawn) → result ≡ Err (RunFault.TooMany which draws)
             → PassesWith self.old (record { code = recorded code.now; draws = draws; counted = counted }) which }

@@ -7,7 +7,7 @@ ghost use Rattle.graph_model.specs.declared.graph.Graph.{Graph};
 ghost use Rattle.graph_model.specs.declared.plan.Plan.{Plan};
 ghost use Rattle.graph_model.specs.Faults.{IsGraph};
 ghost use Rattle.graph_model.specs.Plans.{NamesOf, IsFeasible};
-ghost use Rattle.run_graph.specs.RunLists.{Entry, state_after};
+ghost use Rattle.run_graph.specs.RunLists.{ListedCell, state_after};
 ghost use Rattle.every_history.specs.Reading.{read};
 ghost use Rattle.checkpoint_bytes.specs.Texts.{checkpoint_text};
 ghost use Rattle.checkpoint_laws.specs.Spelled.{HasText};
@@ -22,12 +22,12 @@ ghost use Rattle.restore_run.specs.Restoring.{IsRestoredOn, IsRestoreFault};
 /// the same state, stands for the same cells, and has the same history; it has as many objects as names reach after these cells in a
 /// session that never moved; and the bytes have no fault. So `restore` of these bytes gives the session back, unless memory runs out.
 pub fn a_session_is_restored_from_its_bytes()
-    ensures restored { (entries : List Entry) (g : Graph) (s : State) (p : Plan) → StandsFor read size_of entries g s → IsGraph g → NamesOf g p → IsFeasible g p
+    ensures restored { (entries : List ListedCell) (g : Graph) (s : State) (p : Plan) → StandsFor read size_of entries g s → IsGraph g → NamesOf g p → IsFeasible g p
         → HasText s g p → (on : ℕ) (r : Restored) → IsRestoredOn (checkpoint_text s g p) on r
         → SameStates s r.kernel.state × StandsFor read size_of entries g r.kernel.state × (r.history.graph ≡ g) }
-    ensures objects { (entries : List Entry) (g : Graph) (s : State) (p : Plan) → StandsFor read size_of entries g s → IsGraph g → NamesOf g p → IsFeasible g p
+    ensures objects { (entries : List ListedCell) (g : Graph) (s : State) (p : Plan) → StandsFor read size_of entries g s → IsGraph g → NamesOf g p → IsFeasible g p
         → HasText s g p → (on : ℕ) (r : Restored) → IsRestoredOn (checkpoint_text s g p) on r
         → (order : List ℕ) → AreObjectsOf (state_after read entries (length entries)) order → r.objects ≡ length order }
-    ensures no_fault { (entries : List Entry) (g : Graph) (s : State) (p : Plan) → StandsFor read size_of entries g s → IsGraph g → NamesOf g p → IsFeasible g p
+    ensures no_fault { (entries : List ListedCell) (g : Graph) (s : State) (p : Plan) → StandsFor read size_of entries g s → IsGraph g → NamesOf g p → IsFeasible g p
         → HasText s g p → (f : RestoreFault) → IsRestoreFault (checkpoint_text s g p) f → ⊥ }
 {}

@@ -30,7 +30,7 @@ use Rattle.graph_model.specs.Faults.{TextBelow, Ascends}
 use Rattle.graph_model.specs.Plans.{NamesOf, IsFeasible}
 use Rattle.linked_parts.specs.Parts.{HasNone}
 use Rattle.run_graph.specs.Histories.{Run, IsHistory}
-use Rattle.run_graph.specs.RunLists.{Entry, entry, state_after, run_of}
+use Rattle.run_graph.specs.RunLists.{ListedCell, entry, state_after, run_of}
 use Rattle.run_graph.proofs.Runs.{is_run}
 use Rattle.run_graph.proofs.Kept.{in_part_value}
 use Rattle.run_graph.proofs.Reached.{reach_from_one, not_both}
@@ -42,10 +42,10 @@ use Rattle.replay_laws.proofs.PartsAlike.{one_part}
 use Rattle.checkpoint_bytes.specs.Texts.{lists, checkpoint_text}
 use Rattle.checkpoint_bytes.specs.Plain.{IsPlainCell, IsPlainVersion, IsPlainCheckpoint}
 use Rattle.checkpoint_laws.proofs.Alike.{one_checkpoint_text}
-use Rattle.checkpoint_laws.specs.SpelledParts.{IsPart as HasPartText}
+use Rattle.checkpoint_laws.specs.SpelledParts.{IsClosedPart as HasPartText}
 use Rattle.part_copies.specs.Written.{IsWritable, CanBeWritten}
 use Rattle.part_copies.proofs.Written.{part_is}
-use Rattle.checkpoint_laws.specs.Spelled.{IsCode, IsName, IsCell, IsVersion, EachCopied, HasText}
+use Rattle.checkpoint_laws.specs.Spelled.{IsCode, IsName, IsCellRecord, IsVersion, EachCopied, HasText}
 use Rattle.replay_laws.specs.Restored.{HasVersions}
 use Rattle.replay_laws.specs.Sizing.{holds_handle, have_values, size_of}
 use Rattle.replay_laws.specs.Sessions.{StandsFor}
@@ -60,7 +60,7 @@ use Rattle.notebook_meaning.proofs.Names.{by_places, of_contained, at_position, 
 
 -- ---- the text is that of each state that is the same
 
-module _ (cells : List Entry) (g : Graph) (t : State) (stands : StandsFor read size_of cells g t) where
+module _ (cells : List ListedCell) (g : Graph) (t : State) (stands : StandsFor read size_of cells g t) where
   abbrev U : State
   U = unmoved cells
 
@@ -94,7 +94,7 @@ writable_by ps (object.Function def) (Some (object.Handle name uses)) free h val
 
 -- ---- what a history has
 
-code_of_entry : (cells : List Entry) (n : ℕ) → HaveCodes cells → IsCode (entry cells n).code
+code_of_entry : (cells : List ListedCell) (n : ℕ) → HaveCodes cells → IsCode (entry cells n).code
 code_of_entry [] n h = (is_utf8-from_IsUtf8 [] IsUtf8-nil, omega arith)
 code_of_entry (e ∷ cells) zero h = h.0
 code_of_entry (e ∷ cells) (suc n) h = code_of_entry cells n h.1
@@ -110,7 +110,7 @@ no_size names s (inr none) = elim (cases_Bool (holds_handle names s)) [ inl h �
 pub one_has_none : (name : Name) (s : State) → HasNone s name → have_values (name ∷ []) s ≡ false
 one_has_none name s none = ap (λ o. is_some o && true) none
 
-module _ (cells : List Entry) (codes : HaveCodes cells) (g : Graph) (of : IsGraphOf cells g) where
+module _ (cells : List ListedCell) (codes : HaveCodes cells) (g : Graph) (of : IsGraphOf cells g) where
   abbrev R : Run
   R = run_of read size_of cells
 
@@ -169,7 +169,7 @@ module _ (cells : List Entry) (codes : HaveCodes cells) (g : Graph) (of : IsGrap
       let f = of.few_versions in
       omega (arith, at.0, l, f)
 
-  is_cell : (k : ℕ) (x : CellRecord) → slice_get g.cells k ≡ Some x → IsPlainCell x → IsCell x
+  is_cell : (k : ℕ) (x : CellRecord) → slice_get g.cells k ≡ Some x → IsPlainCell x → IsCellRecord x
   is_cell k x at plain =
       let r = H.records k x (cell_of_place k x at) in
       let last : suc k - 1 ≡ k = omega arith in
@@ -283,7 +283,7 @@ module _ (cells : List Entry) (codes : HaveCodes cells) (g : Graph) (of : IsGrap
       count = subst (λ (n : ℕ). n < 2 ^ 32) (sym stands.same.count) plain.count;
       meter = (valid_at cells (length cells) codes).meter;
       few_cells = subst (λ (n : ℕ). n < 2 ^ 32) (sym H.cells) of.few_cells;
-      cells = by_places IsCell g.cells (λ k x at. is_cell k x at (at_position IsPlainCell g.cells plain.cells k x at));
+      cells = by_places IsCellRecord g.cells (λ k x at. is_cell k x at (at_position IsPlainCell g.cells plain.cells k x at));
       few_versions = of.few_versions;
       versions = by_places IsVersion g.versions (λ k x at. is_version k x at (at_position IsPlainVersion g.versions plain.versions k x at));
       parts = parts;

@@ -8,7 +8,7 @@ use Rattle.py_reader.specs.Completeness.{completeness_of}
 use Rattle.py_reader.specs.declared.answer.Completeness.{Completeness}
 use Rattle.py_reader.specs.declared.answer.Completeness.TheVariants as completeness
 use Rattle.notebook_meaning.specs.Errors.{failure, refused}
-use Rattle.run_graph.specs.RunLists.{Entry, raised}
+use Rattle.run_graph.specs.RunLists.{ListedCell, raised}
 use Rattle.session_core.specs.declared.request.Ask.{Ask}
 use Rattle.session_core.specs.declared.request.Ask.TheVariants.{Execute, Info, Complete, Shutdown, Migrate}
 use Rattle.session_core.specs.declared.reply.Completion.{Completion}
@@ -30,7 +30,7 @@ completion_in (completeness.Incomplete indent) = completion.Incomplete indent
 completion_in completeness.Invalid = completion.Invalid
 
 -- the answer to an ask with its draws after these cells; a move is answered by the journal
-abbrev pub answer_after : List Entry → Ask → List Drawn → Reply
+abbrev pub answer_after : List ListedCell → Ask → List Drawn → Reply
 answer_after cells (Execute code silent store) draws = answer_from (raised (cell_of code silent store draws) (unmoved cells)) silent draws (verdict code)
 answer_after cells Info draws = reply.Info
 answer_after cells (Complete code) draws = reply.Complete (completion_in (completeness_of code (verdict code)))

@@ -4,7 +4,7 @@ use Rattle.nb_outside.specs.declared.feed.Drawn.{Drawn}
 use Rattle.graph_model.specs.declared.graph.Graph.{Graph}
 use Rattle.graph_model.specs.declared.plan.Plan.{Plan}
 use Rattle.graph_model.specs.declared.plan.Tally.{Tally}
-use Rattle.run_graph.specs.RunLists.{Entry}
+use Rattle.run_graph.specs.RunLists.{ListedCell}
 use Rattle.checkpoint_bytes.specs.Texts.{checkpoint_text}
 use Rattle.checkpoint_laws.specs.Spelled.{HasText}
 use Rattle.replay_laws.specs.Tidied.{AreObjectsOf}
@@ -17,24 +17,24 @@ use Rattle.notebook_meaning.specs.Lists.{IsRunOfAsks}
 use Rattle.notebook_meaning.specs.Answers.{answer_after}
 
 -- the history of these cells, with fewer than 2^32 cells and versions
-pub record IsGraphOf (cells : List Entry) (g : Graph) : Type 0 where
+pub record IsGraphOf (cells : List ListedCell) (g : Graph) : Type 0 where
   pub history : IsHistoryOf cells g
   pub few_cells : length cells < 2 ^ 32
   pub few_versions : length g.versions < 2 ^ 32
 
 -- n is how many objects the names of the last state reach
-abbrev pub HasObjectsOf : List Entry → ℕ → Type 0
+abbrev pub HasObjectsOf : List ListedCell → ℕ → Type 0
 HasObjectsOf cells n = (order : List ℕ) × AreObjectsOf (unmoved cells) order × (n ≡ length order)
 
 -- the checkpoint of the last state and the history under a plan
-pub record IsTextOf (cells : List Entry) (plan : Plan) (bytes : List ℕ) : Type 0 where
+pub record IsTextOf (cells : List ListedCell) (plan : Plan) (bytes : List ℕ) : Type 0 where
   pub graph : Graph
   pub is_graph : IsGraphOf cells graph
   pub has_text : HasText (unmoved cells) graph plan
   pub text : bytes ≡ checkpoint_text (unmoved cells) graph plan
 
 -- with this cell, this is the first number that reaches 2^32. No other ask passes a number
-abbrev pub Passes : List Entry → Ask → List Drawn → Tally → Type 0
+abbrev pub Passes : List ListedCell → Ask → List Drawn → Tally → Type 0
 Passes cells (Execute code silent store) draws which = IsPassedFirst (cells ++ cell_of code silent store draws ∷ []) which
 Passes cells Info draws which = ⊥
 Passes cells (Complete code) draws which = ⊥

@@ -6,7 +6,7 @@ ghost use Rattle.py_heap.specs.States.{empty};
 ghost use Rattle.graph_model.specs.declared.graph.Graph.{Graph};
 ghost use Rattle.graph_model.specs.declared.plan.Plan.{Plan};
 ghost use Rattle.graph_model.specs.Plans.{NamesOf, IsFeasible};
-ghost use Rattle.run_graph.specs.RunLists.{Entry, entry_done, state_after, steps_of, IsRunList};
+ghost use Rattle.run_graph.specs.RunLists.{ListedCell, entry_done, state_after, steps_of, IsRunList};
 ghost use Rattle.every_history.specs.Reading.{read};
 ghost use Rattle.checkpoint_bytes.specs.Texts.{checkpoint_text};
 ghost use Rattle.checkpoint_bytes.specs.Plain.{IsPlainCheckpoint};
@@ -45,15 +45,15 @@ pub fn a_list_of_asks_is_a_run_list()
 /// with such codes leave is valid. No cell takes more than 1,000,000 steps.
 pub fn states_of_codes_are_valid()
     ensures begins { IsValidState empty }
-    ensures cell { (e : Entry) (s : State) → IsUtf8 e.code → IsValidState s → IsValidState (entry_done read e s).1.state }
-    ensures states { (cells : List Entry) (n : ℕ) → HaveCodes cells → IsValidState (state_after read cells n) }
-    ensures steps { (cells : List Entry) (n : ℕ) → steps_of read cells n ≤ 1000000 }
+    ensures cell { (e : ListedCell) (s : State) → IsUtf8 e.code → IsValidState s → IsValidState (entry_done read e s).1.state }
+    ensures states { (cells : List ListedCell) (n : ℕ) → HaveCodes cells → IsValidState (state_after read cells n) }
+    ensures steps { (cells : List ListedCell) (n : ℕ) → steps_of read cells n ≤ 1000000 }
 {}
 
 /// A session that stands for cells has, under a feasible plan, the text that it would have if it had never moved. That text can
 /// be read, if counts and numbers have room in it.
 pub fn a_session_can_be_written()
-    ensures text { (cells : List Entry) (g : Graph) (t : State) (p : Plan) → StandsFor read size_of cells g t → checkpoint_text t g p ≡ checkpoint_text (unmoved cells) g p }
-    ensures has_text { (cells : List Entry) (g : Graph) (t : State) (p : Plan) → HaveCodes cells → StandsFor read size_of cells g t → IsGraphOf cells g
+    ensures text { (cells : List ListedCell) (g : Graph) (t : State) (p : Plan) → StandsFor read size_of cells g t → checkpoint_text t g p ≡ checkpoint_text (unmoved cells) g p }
+    ensures has_text { (cells : List ListedCell) (g : Graph) (t : State) (p : Plan) → HaveCodes cells → StandsFor read size_of cells g t → IsGraphOf cells g
         → NamesOf g p → IsFeasible g p → IsPlainCheckpoint t g p → HasText (unmoved cells) g p }
 {}

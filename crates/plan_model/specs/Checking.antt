@@ -13,8 +13,8 @@ use Rattle.plan_model.specs.Failing.{IsFirstFailing}
 
 -- the first that holds: the plan's failing item; the flow's fault; the plan's cost and the flow's value, if they differ;
 -- else the plan is a best one
-abbrev pub IsJudged : Graph → Weights → Plan → List ℕ → PlanCheck → Type 0
-IsJudged g w p flow (Infeasible failing) = IsFirstFailing g p failing
-IsJudged g w p flow (BadFlow fault) = IsFeasible g p × IsFirstFault (net_of g w) flow fault
-IsJudged g w p flow (Unequal sum carried) = IsFeasible g p × IsLegal (net_of g w) flow × (sum ≡ cost g w p) × (carried ≡ value (net_of g w) flow) × (sum ≢ carried)
-IsJudged g w p flow Best = IsFeasible g p × IsLegal (net_of g w) flow × (value (net_of g w) flow ≡ cost g w p)
+abbrev pub IsPlanJudged : Graph → Weights → Plan → List ℕ → PlanCheck → Type 0
+IsPlanJudged g w p flow (Infeasible failing) = IsFirstFailing g p failing
+IsPlanJudged g w p flow (BadFlow fault) = IsFeasible g p × IsFirstFault (net_of g w) flow fault
+IsPlanJudged g w p flow (Unequal sum carried) = IsFeasible g p × IsLegal (net_of g w) flow × (sum ≡ cost g w p) × (carried ≡ value (net_of g w) flow) × (sum ≢ carried)
+IsPlanJudged g w p flow Best = IsFeasible g p × IsLegal (net_of g w) flow × (value (net_of g w) flow ≡ cost g w p)

@@ -2,7 +2,7 @@ ghost use Rattle.std.specs.Prelude.{◌≡◌};
 ghost use Rattle.graph_model.specs.Faults.{IsGraph};
 ghost use Rattle.graph_model.specs.Plans.{NamesOf, AreAdmitted};
 ghost use Rattle.graph_model.specs.Networks.{net_of};
-ghost use Rattle.plan_model.specs.Checking.{IsJudged};
+ghost use Rattle.plan_model.specs.Checking.{IsPlanJudged};
 
 use crate::costs::cost;
 use crate::feasibility::{Item, feasible};
@@ -34,7 +34,7 @@ pub fn check_plan(
     requires weights { AreAdmitted graph.now weights.now }
     requires names { NamesOf graph.now plan.now }
     requires net { net.now ≡ net_of graph.now weights.now }
-    ensures { IsJudged graph.now weights.now plan.now flow.now.on result }
+    ensures { IsPlanJudged graph.now weights.now plan.now flow.now.on result }
 {
     if let Err(item) = feasible(graph, plan) {
         return PlanCheck::Infeasible(item);

@@ -9,12 +9,12 @@ use Rattle.py_value.specs.declared.value.Value.{Value}
 use Rattle.py_machine.specs.declared.error.Fault.{Fault}
 use Rattle.py_machine.specs.declared.frame.Flow.{Flow}
 use Rattle.py_machine.specs.declared.machine.Machine.{Machine}
-use Rattle.py_machine.specs.Runs.{Run, Runs, Grows, Feeding}
+use Rattle.py_machine.specs.Runs.{Computation, Runs, Grows, Feeding}
 use Rattle.py_meaning.specs.Acts.{run}
 use Rattle.py_meaning.specs.Meaning.{level}
 
 -- one runs so, from a machine and beside a feed
-abbrev pub RunsBeside : {A : Type 0} → Run A → Machine → Seen → Result A Fault → Machine → Seen → Type 0
+abbrev pub RunsBeside : {A : Type 0} → Computation A → Machine → Seen → Result A Fault → Machine → Seen → Type 0
 RunsBeside p old seen result new now = Runs p old result new × Grows old new × Feeding old.drawn seen new.drawn now
 
 pub record Evals {F : Type 0} (seen : F → Seen) (left : ℕ) (pre : Global → ℕ → MutBor Machine → MutBor F → Bor Expr → Type 0)

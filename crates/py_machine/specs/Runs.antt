@@ -38,8 +38,8 @@ abbrev pub Outcome : Type 0 → Type 0
 Outcome A = Result A Stop × Machine
 
 -- a run takes all the draws of its cell; those that it drew already are in the machine
-abbrev pub Run : Type 0 → Type 0
-Run A = List Drawn → Machine → Outcome A
+abbrev pub Computation : Type 0 → Type 0
+Computation A = List Drawn → Machine → Outcome A
 
 -- goes on if there is a value
 abbrev pub after : {A B : Type 0} → Result A Stop → Machine → (A → Machine → Outcome B) → Outcome B
@@ -173,7 +173,7 @@ taken (Some (answer.Word word)) m = (Ok word, drawn (answer.Word word) m)
 taken (Some answer.Failed) m = (Err draw_failed, drawn answer.Failed m)
 
 -- the first of the draws after those that were taken
-unfoldable pub draw : Run ℕ
+unfoldable pub draw : Computation ℕ
 draw draws m = taken (slice_get draws (length m.drawn)) m
 
 -- ---- the start
@@ -207,11 +207,11 @@ pub record Begins (drawn draws : List Drawn) : Type 0 where
   pub is : draws ≡ drawn ++ rest
 
 -- a run, under all draws that begin with those that were recorded
-abbrev pub Runs : {A : Type 0} → Run A → Machine → Result A Fault → Machine → Type 0
+abbrev pub Runs : {A : Type 0} → Computation A → Machine → Result A Fault → Machine → Type 0
 Runs run old result new = (draws : List Drawn) → Begins new.drawn draws → tells result ≡ true → run draws old ≡ (told result, new)
 
 -- a run that doesn't draw
-abbrev pub Still : {A : Type 0} → Run A → Machine → Result A Fault → Machine → Type 0
+abbrev pub Still : {A : Type 0} → Computation A → Machine → Result A Fault → Machine → Type 0
 Still run old result new = (draws : List Drawn) → tells result ≡ true → run draws old ≡ (told result, new)
 
 -- what was recorded stays recorded
@@ -223,5 +223,5 @@ abbrev pub Feeding : List Drawn → Seen → List Drawn → Seen → Type 0
 Feeding old seen new now = (start : Seen) → Fed start old seen → Fed start new now
 
 -- a loop's invariant: what is left to run from a later machine gives what all gives from the first
-abbrev pub LeadsTo : {A : Type 0} → Run A → Machine → Run A → Machine → Type 0
+abbrev pub LeadsTo : {A : Type 0} → Computation A → Machine → Computation A → Machine → Type 0
 LeadsTo all old left new = (draws : List Drawn) → Begins new.drawn draws → all draws old ≡ left draws new

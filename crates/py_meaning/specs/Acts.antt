@@ -13,7 +13,7 @@ use Rattle.py_machine.specs.declared.machine.Machine.{Machine}
 use Rattle.py_machine.specs.Marked.{Event}
 use Rattle.py_machine.specs.Marked as event
 use Rattle.py_machine.specs.Changes.{changed_in, list_in, object_kind, plain_kind}
-use Rattle.py_machine.specs.Runs.{Name, Run, Stop, after, slot}
+use Rattle.py_machine.specs.Runs.{Name, Computation, Stop, after, slot}
 use Rattle.py_machine.specs.Runs as runs
 
 pub data Act : Type 0 → Type 1 where
@@ -48,7 +48,7 @@ abbrev pub choose : {A : Type 0} → Bool → Act A → Act A → Act A
 choose true p q = p
 choose false p q = q
 
-abbrev pub run : {A : Type 0} → Act A → Run A
+abbrev pub run : {A : Type 0} → Act A → Computation A
 run (pure a) = λ draws. runs.give a
 run (fail e) = λ draws. runs.raise e
 run (chain p f) = λ draws m. after (run p draws m).0 (run p draws m).1 (λ a. run (f a) draws)

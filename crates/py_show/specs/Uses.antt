@@ -5,7 +5,7 @@ use Rattle.py_heap.specs.declared.state.State.{State}
 use Rattle.py_machine.specs.declared.error.Fault.{Fault}
 use Rattle.py_machine.specs.declared.error.Fault.TheVariants.{OutOfMemory, DrawFailed, Raised}
 use Rattle.py_machine.specs.declared.machine.Machine.{Machine}
-use Rattle.py_machine.specs.Runs.{Run, Outcome, Stop, raised, draw_failed, asks, tells, told}
+use Rattle.py_machine.specs.Runs.{Computation, Outcome, Stop, raised, draw_failed, asks, tells, told}
 use Rattle.py_machine.specs.Runs as runs
 use Rattle.py_show.specs.Limits.{Limit, limited}
 use Rattle.py_show.specs.OnState.{Ending, Puts}
@@ -35,18 +35,18 @@ limited_after before outcome = (limited_text before outcome.0, outcome.1)
 
 -- On every machine that has this state and these steps, the run gives what is put after the bytes that the text stands
 -- for, or the same end. Of the machine only the steps change.
-abbrev pub PutsRun : Run (List ℕ) → State → Limit → ℕ → Result (Unit {0}) Fault → Limit → ℕ → Type 0
+abbrev pub PutsRun : Computation (List ℕ) → State → Limit → ℕ → Result (Unit {0}) Fault → Limit → ℕ → Type 0
 PutsRun go state text steps result new now = (before : List ℕ) (draws : List Drawn) (m : Machine)
     → m.state ≡ state → m.steps ≡ steps → limited before ≡ text → tells result ≡ true
     → limited_after before (go draws m) ≡ (put_told result new, record m { steps = now })
 
 -- the same, on a machine
-abbrev pub PutsOn : Run (List ℕ) → Machine → Limit → Result (Unit {0}) Fault → Limit → Machine → Type 0
+abbrev pub PutsOn : Computation (List ℕ) → Machine → Limit → Result (Unit {0}) Fault → Limit → Machine → Type 0
 PutsOn go old text result new now = (before : List ℕ) (draws : List Drawn)
     → limited before ≡ text → tells result ≡ true → limited_after before (go draws old) ≡ (put_told result new, now)
 
 -- the run gives the text, as far as the limit
-abbrev pub GivesText : Run (List ℕ) → Machine → Result Limit Fault → Machine → Type 0
+abbrev pub GivesText : Computation (List ℕ) → Machine → Result Limit Fault → Machine → Type 0
 GivesText go old result new = (draws : List Drawn) → tells result ≡ true → limited_after [] (go draws old) ≡ (told result, new)
 
 -- whether something was done

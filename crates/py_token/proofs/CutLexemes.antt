@@ -16,7 +16,7 @@ use Rattle.py_token.specs.declared.pieces.Escape.{Escape}
 use Rattle.py_token.specs.declared.pieces.Piece.{Piece}
 use Rattle.py_token.specs.declared.pieces.Piece.TheVariants.{Quote, LineEnd, Bad, Plain, Escaped}
 use Rattle.py_token.specs.Spellings.{sign, operators, decimal, is_quote, hexadecimal, escape}
-use Rattle.py_token.specs.Lexemes.{next_is, keyword_of, named, name_at, belongs, digits_after, follows_no_number, number_width, number_at, ends_line, escaped, piece, after, spoil, follow, body, text_of, text_at, operator_lexeme, operator_at, lexeme_at}
+use Rattle.py_token.specs.Lexemes.{next_is, keyword_of, named, name_at, belongs, digits_after, follows_no_number, number_width, number_at, ends_line, escaped, piece, after, spoil, follow, body, text_lexeme, text_at, operator_lexeme, operator_at, lexeme_at}
 use Rattle.py_token.specs.Bodies.{IsWithin}
 use Rattle.py_token.proofs.Bounds.{same_bytes}
 use Rattle.py_token.proofs.Escapes.{escape_is}
@@ -224,7 +224,7 @@ body_cut quote zero (c ∷ xs) ys v w h fits = on (piece quote c (xs ++ ys)) ref
         there (Escaped x) (piece_cut quote c xs ys (Escaped x) e (λ f. cc f) (λ f. cc f) (λ y f. let is : x ≡ y = cc in subst (λ z. z.width ≤ length xs) is (fits_in (encode_utf8 x.character) x.width k)))
         (same inner (encode_utf8 x.character) x.width k)
 
-text_by : (at : ℕ) (bytes : List ℕ) (b : Body) (l : Lexeme) → text_of at bytes b ≡ Ok l
+text_by : (at : ℕ) (bytes : List ℕ) (b : Body) (l : Lexeme) → text_lexeme at bytes b ≡ Ok l
     → (v : List ℕ) × (w : ℕ) × (b ≡ Closed v w) × (next_is is_quote (drop (suc w) bytes) ≡ false) × (record { kind = Text v; width = suc w } ≡ l)
 text_by at bytes Unclosed l h = cc
 text_by at bytes (Spoiled n) l h = cc
@@ -235,9 +235,9 @@ text_by at bytes (Closed v w) l h = on (next_is is_quote (drop (suc w) bytes)) _
     on true f e k = cc
     on false f e k = (v, w, refl, e, ok_same _ l k)
 
-text_closed : (at : ℕ) (bytes : List ℕ) (b : Body) (v : List ℕ) (w : ℕ) (l : Lexeme) → b ≡ Closed v w → next_is is_quote (drop (suc w) bytes) ≡ false → record { kind = Text v; width = suc w } ≡ l → text_of at bytes b ≡ Ok l
+text_closed : (at : ℕ) (bytes : List ℕ) (b : Body) (v : List ℕ) (w : ℕ) (l : Lexeme) → b ≡ Closed v w → next_is is_quote (drop (suc w) bytes) ≡ false → record { kind = Text v; width = suc w } ≡ l → text_lexeme at bytes b ≡ Ok l
 text_closed at bytes b v w l e n is =
-    ap (text_of at bytes) e ∙ ap (λ t. cond t (Err (BadChar (at + suc w))) (Ok (record { kind = Text v; width = suc w }))) n ∙ ap Ok is
+    ap (text_lexeme at bytes) e ∙ ap (λ t. cond t (Err (BadChar (at + suc w))) (Ok (record { kind = Text v; width = suc w }))) n ∙ ap Ok is
 
 text_cut : (at to c : ℕ) (xs ys : List ℕ) (l : Lexeme) → text_at at c (xs ++ ys) ≡ Ok l → l.width ≤ suc (length xs) → text_at to c xs ≡ Ok l
 unfolding text_at

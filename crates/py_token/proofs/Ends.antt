@@ -17,7 +17,7 @@ use Rattle.py_token.specs.declared.lines.Turn.{Turn}
 use Rattle.py_token.specs.declared.pieces.Body.{Body}
 use Rattle.py_token.specs.declared.pieces.Body.TheVariants.{Closed, Unclosed, Spoiled}
 use Rattle.py_token.specs.Spellings.{is_quote}
-use Rattle.py_token.specs.Lexemes.{next_is, name_at, follows_no_number, number_width, number_at, body, text_of, text_at, operator_lexeme, operator_at, lexeme_at, ends_line}
+use Rattle.py_token.specs.Lexemes.{next_is, name_at, follows_no_number, number_width, number_at, body, text_lexeme, text_at, operator_lexeme, operator_at, lexeme_at, ends_line}
 use Rattle.py_token.specs.Lines.{token, ends_block, shallower, indented, begun, is_deeper, placed, passed, line_ended, with_tab, without_tab, turn, closing, last_newline, before, followed, read, start, tokens_of}
 use Rattle.py_token.specs.declared.faults.TokenError.{TokenError}
 use Rattle.py_token.specs.declared.faults.TokenError.TheVariants.{OutOfMemory, Fault}
@@ -101,7 +101,7 @@ number_fault at c rest f h =
     or_unless _ (next_is follows_no_number (drop (number_width (c ∷ rest)) (c ∷ rest))) (WideNumber at) f at _ _ _ h (omega arith)
     (λ e. let w = next_within follows_no_number (number_width (c ∷ rest)) (c ∷ rest) e in omega arith)
 
-text_fault_by : (at c : ℕ) (rest : List ℕ) (b : Body) (f : TokenFault) → IsWithin b (length rest) → text_of at (c ∷ rest) b ≡ Err f → place f < at + suc (length rest)
+text_fault_by : (at c : ℕ) (rest : List ℕ) (b : Body) (f : TokenFault) → IsWithin b (length rest) → text_lexeme at (c ∷ rest) b ≡ Err f → place f < at + suc (length rest)
 text_fault_by at c rest Unclosed f w h = by_place {A = Lexeme} (OpenText at) f _ h (omega arith)
 text_fault_by at c rest (Spoiled n) f w h = by_place {A = Lexeme} (BadChar (at + suc n)) f _ h (omega arith)
 text_fault_by at c rest (Closed value width) f w h =

@@ -12,7 +12,7 @@ use Rattle.py_token.specs.declared.lines.Lexeme.{Lexeme}
 use Rattle.py_token.specs.declared.pieces.Body.{Body}
 use Rattle.py_token.specs.declared.pieces.Body.TheVariants.{Closed, Unclosed, Spoiled}
 use Rattle.py_token.specs.Spellings.{sign, operators, decimal, is_quote}
-use Rattle.py_token.specs.Lexemes.{next_is, unless_next, keyword_of, named, name_at, number_width, number_at, body, text_of, text_at, operator_lexeme, operator_at, lexeme_at}
+use Rattle.py_token.specs.Lexemes.{next_is, unless_next, keyword_of, named, name_at, number_width, number_at, body, text_lexeme, text_at, operator_lexeme, operator_at, lexeme_at}
 
 ok_same : (d e : Lexeme) → ◌≡◌ {A = Result Lexeme TokenFault} (Ok d) (Ok e) → d ≡ e
 ok_same d e h = cc
@@ -44,7 +44,7 @@ number_ok at bytes l h =
     let t = tested (leb (2 ^ 127) (decimal (take (number_width bytes) bytes))) _ _ l h in
     (t.0, unless_ok _ at _ bytes _ l t.1)
 
-text_by : (at : ℕ) (bytes : List ℕ) (b : Body) (l : Lexeme) → text_of at bytes b ≡ Ok l
+text_by : (at : ℕ) (bytes : List ℕ) (b : Body) (l : Lexeme) → text_lexeme at bytes b ≡ Ok l
     → (value : List ℕ) × (width : ℕ) × (b ≡ Closed value width) × (record { kind = Text value; width = suc width } ≡ l)
 text_by at bytes Unclosed l h = cc
 text_by at bytes (Spoiled n) l h = cc

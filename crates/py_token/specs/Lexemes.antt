@@ -113,13 +113,13 @@ body quote skip [] = Unclosed
 body quote (suc n) (c ∷ rest) = after [] (body quote n rest)
 body quote zero (c ∷ rest) = follow (piece quote c rest) (λ n. body quote n rest)
 
-abbrev pub text_of : ℕ → List ℕ → Body → Result Lexeme TokenFault
-text_of at bytes Unclosed = Err (OpenText at)
-text_of at bytes (Spoiled n) = Err (BadChar (at + suc n))
-text_of at bytes (Closed value width) = unless_next is_quote at bytes (suc width) (Text value)
+abbrev pub text_lexeme : ℕ → List ℕ → Body → Result Lexeme TokenFault
+text_lexeme at bytes Unclosed = Err (OpenText at)
+text_lexeme at bytes (Spoiled n) = Err (BadChar (at + suc n))
+text_lexeme at bytes (Closed value width) = unless_next is_quote at bytes (suc width) (Text value)
 
 unfoldable pub text_at : ℕ → ℕ → List ℕ → Result Lexeme TokenFault
-text_at at quote rest = text_of at (quote ∷ rest) (body quote zero rest)
+text_at at quote rest = text_lexeme at (quote ∷ rest) (body quote zero rest)
 
 -- ---- operators
 

@@ -27,8 +27,8 @@ use Rattle.graph_model.specs.declared.graph.Version.{Version}
 use Rattle.graph_model.specs.Graphs.{CellAt, IsActive}
 use Rattle.replay_laws.proofs.Canonical.{tidied_equal}
 use Rattle.run_graph.specs.Histories.{Run, IsHistory}
-use Rattle.run_graph.specs.Soundness.{Reader, statements}
-use Rattle.run_graph.specs.RunLists.{Entry, entry, raised, entry_done, state_after, marks_of, steps_of, IsRunList, run_of}
+use Rattle.run_graph.specs.Soundness.{TreeReader, statements}
+use Rattle.run_graph.specs.RunLists.{ListedCell, entry, raised, entry_done, state_after, marks_of, steps_of, IsRunList, run_of}
 use Rattle.run_graph.specs.Growing.{first_cells, IsNext}
 use Rattle.run_graph.proofs.Growing.{grown, nothing_yet}
 use Rattle.run_graph.proofs.Reached.{reach_from_one, reach_by_one}
@@ -75,33 +75,33 @@ module _ (body : List Stmt) (draws : List Drawn) (s t : State) (same : SameState
       let w = (ended Every body draws s t same.meter (λ name l. tt) (HasPair same.names.by) same.names.same).alike.marks.changed_back at changed in
       (p.0, reach_by_one Here.1.state names z.0 p.0 z.1 p.2, subst (λ n. IsIn Here.1.marks.changed n) (ends.pairs.right w.0 p.0 at w.1 p.1) w.2)
 
-raised_same : (e : Entry) (s t : State) → SameStates s t → SameStates (raised e s) (raised e t)
+raised_same : (e : ListedCell) (s t : State) → SameStates s t → SameStates (raised e s) (raised e t)
 raised_same e s t h = record {
   names = record { by = h.names.by; same = record { pairs = h.names.same.pairs; names = h.names.same.names; objects = h.names.same.objects } };
   count = ap (λ (n : ℕ). n + cond e.counted 1 0) h.count;
   meter = h.meter;
 }
 
-pub entry_alike : (read : Reader) (e : Entry) (s t : State) → SameStates s t → Renamed (entry_done read e s) (entry_done read e t)
+pub entry_alike : (read : TreeReader) (e : ListedCell) (s t : State) → SameStates s t → Renamed (entry_done read e s) (entry_done read e t)
 entry_alike read e s t h = renamed (statements (read e.code)) e.draws (raised e s) (raised e t) (raised_same e s t h)
 
 -- ---- a list with one cell more
 
-entry_kept : (entries : List Entry) (e : Entry) (c : ℕ) → c < length entries → entry (entries ++ e ∷ []) c ≡ entry entries c
+entry_kept : (entries : List ListedCell) (e : ListedCell) (c : ℕ) → c < length entries → entry (entries ++ e ∷ []) c ≡ entry entries c
 entry_kept [] e c l = let none : ⊥ = omega (arith, l) in absurd none
 entry_kept (x ∷ entries) e zero l = refl
 entry_kept (x ∷ entries) e (suc c) l = entry_kept entries e c (omega (arith, l))
 
-entry_new : (entries : List Entry) (e : Entry) → entry (entries ++ e ∷ []) (length entries) ≡ e
+entry_new : (entries : List ListedCell) (e : ListedCell) → entry (entries ++ e ∷ []) (length entries) ≡ e
 entry_new [] e = refl
 entry_new (x ∷ entries) e = entry_new entries e
 
 -- a cell keeps a state closed
-closed_then : (read : Reader) (e : Entry) (t : State) → IsClosed t → IsClosed (entry_done read e t).1.state
+closed_then : (read : TreeReader) (e : ListedCell) (t : State) → IsClosed t → IsClosed (entry_done read e t).1.state
 closed_then read e t c = closed_after (statements (read e.code)) e.draws (raised e t) (raised_closed e t c)
 
-module _ (read : Reader) (entries : List Entry) (e : Entry) where
-  abbrev Longer : List Entry
+module _ (read : TreeReader) (entries : List ListedCell) (e : ListedCell) where
+  abbrev Longer : List ListedCell
   Longer = entries ++ e ∷ []
 
   longer_length : length Longer ≡ suc (length entries)
@@ -110,17 +110,17 @@ module _ (read : Reader) (entries : List Entry) (e : Entry) where
   pub state_kept : (c : ℕ) → c ≤ length entries → state_after read Longer c ≡ state_after read entries c
   state_kept zero l = refl
   state_kept (suc c) l =
-      ap (λ (x : Entry). (entry_done read x (state_after read Longer c)).1.state) (entry_kept entries e c (omega (arith, l)))
+      ap (λ (x : ListedCell). (entry_done read x (state_after read Longer c)).1.state) (entry_kept entries e c (omega (arith, l)))
       ∙ ap (λ (s : State). (entry_done read (entry entries c) s).1.state) (state_kept c (omega (arith, l)))
 
   marks_kept : (c : ℕ) → c < length entries → marks_of read Longer (suc c) ≡ marks_of read entries (suc c)
   marks_kept c l =
-      ap (λ (x : Entry). (entry_done read x (state_after read Longer c)).1.marks) (entry_kept entries e c l)
+      ap (λ (x : ListedCell). (entry_done read x (state_after read Longer c)).1.marks) (entry_kept entries e c l)
       ∙ ap (λ (s : State). (entry_done read (entry entries c) s).1.marks) (state_kept c (omega (arith, l)))
 
   steps_kept : (c : ℕ) → c < length entries → steps_of read Longer (suc c) ≡ steps_of read entries (suc c)
   steps_kept c l =
-      ap (λ (x : Entry). (entry_done read x (state_after read Longer c)).1.steps) (entry_kept entries e c l)
+      ap (λ (x : ListedCell). (entry_done read x (state_after read Longer c)).1.steps) (entry_kept entries e c l)
       ∙ ap (λ (s : State). (entry_done read (entry entries c) s).1.steps) (state_kept c (omega (arith, l)))
 
   -- the last cell
@@ -131,7 +131,7 @@ module _ (read : Reader) (entries : List Entry) (e : Entry) where
   Old = state_after read entries N
 
   last_done : entry_done read (entry Longer N) (state_after read Longer N) ≡ entry_done read e Old
-  last_done = ap (λ (x : Entry). entry_done read x (state_after read Longer N)) (entry_new entries e) ∙ ap (λ (s : State). entry_done read e s) (state_kept N (omega arith))
+  last_done = ap (λ (x : ListedCell). entry_done read x (state_after read Longer N)) (entry_new entries e) ∙ ap (λ (s : State). entry_done read e s) (state_kept N (omega arith))
 
   pub last_state : state_after read Longer (suc N) ≡ (entry_done read e Old).1.state
   last_state = ap (λ (o : Outcome (Option (List ℕ))). o.1.state) last_done
@@ -142,11 +142,11 @@ module _ (read : Reader) (entries : List Entry) (e : Entry) where
   longer_list list uses c l = elim (cases_eq c N) [
     | inl is ↦ subst (λ n. UsesUp (statements (read (entry Longer n).code)) (raised (entry Longer n) (state_after read Longer n)) (entry Longer n).draws) (sym is)
         (subst (λ (s : State). UsesUp (statements (read (entry Longer N).code)) (raised (entry Longer N) s) (entry Longer N).draws) (sym (state_kept N (omega arith)))
-        (subst (λ (x : Entry). UsesUp (statements (read x.code)) (raised x Old) x.draws) (sym (entry_new entries e)) uses))
+        (subst (λ (x : ListedCell). UsesUp (statements (read x.code)) (raised x Old) x.draws) (sym (entry_new entries e)) uses))
     | inr other ↦
         let less : c < N = omega (arith, l, longer_length, other) in
         subst (λ (s : State). UsesUp (statements (read (entry Longer c).code)) (raised (entry Longer c) s) (entry Longer c).draws) (sym (state_kept c (omega (arith, less))))
-        (subst (λ (x : Entry). UsesUp (statements (read x.code)) (raised x (state_after read entries c)) x.draws) (sym (entry_kept entries e c less)) (list c less))
+        (subst (λ (x : ListedCell). UsesUp (statements (read x.code)) (raised x (state_after read entries c)) x.draws) (sym (entry_kept entries e c less)) (list c less))
   ]
 
   module _ (size : List Name → State → ℕ) where
@@ -164,7 +164,7 @@ module _ (read : Reader) (entries : List Entry) (e : Entry) where
         let before : suc c - 1 ≡ c = omega arith in
         let near : suc c - 1 < N = omega (arith, l, before) in
         alike_equal Short (first_cells Long N) c (run.closed c) (run.closed (suc c)) (sym (state_kept c (omega (arith, l)))) (sym (state_kept (suc c) (omega (arith, l)))) (sym (marks_kept c l))
-        (ap (λ (x : Entry). x.code) (sym (entry_kept entries e (suc c - 1) near))) (sym (steps_kept c l))
+        (ap (λ (x : ListedCell). x.code) (sym (entry_kept entries e (suc c - 1) near))) (sym (steps_kept c l))
         (λ names. ap (size names) (sym (state_kept (suc c) (omega (arith, l)))))
 
     pub first_history : (g : Graph) → IsHistory Short g → IsHistory (first_cells Long N) g
@@ -214,7 +214,7 @@ module _ (read : Reader) (entries : List Entry) (e : Entry) where
             (back names (changed_equal (q.state (suc N)) u.1.state (q.marks (suc N)) u.1.marks names is.after is.marks w));
         code =
             let before : suc N - 1 ≡ N = omega arith in
-            ap (λ n. (entry Longer n).code) before ∙ (ap (λ (x : Entry). x.code) (entry_new entries e) ∙ sym is.code);
+            ap (λ n. (entry Longer n).code) before ∙ (ap (λ (x : ListedCell). x.code) (entry_new entries e) ∙ sym is.code);
         steps = ap (λ (x : Outcome (Option (List ℕ))). x.1.steps) last_done ∙ (both.steps ∙ sym is.steps);
         sizes = λ names. tells names (Long.state (suc N)) (q.state (suc N)) ((is_run read Longer size).closed (suc N))
             (subst IsClosed (sym is.after) (closed_then read e t closed)) (same_over (Long.state (suc N)) (q.state (suc N)) same_after names) ∙ sym (is.sizes names);
@@ -228,7 +228,7 @@ module _ (read : Reader) (entries : List Entry) (e : Entry) where
 
 -- ---- the session
 
-pub begins_so : (read : Reader) (size : List Name → State → ℕ) → StandsFor read size [] (record { cells = []; versions = [] }) empty
+pub begins_so : (read : TreeReader) (size : List Name → State → ℕ) → StandsFor read size [] (record { cells = []; versions = [] }) empty
 begins_so read size = record {
   list = λ c l. let none : ⊥ = omega (arith, l) in absurd none;
   history = nothing_yet (run_of read size []);
@@ -236,14 +236,14 @@ begins_so read size = record {
   same = states_themselves empty empty_closed;
 }
 
-module _ (read : Reader) (size : List Name → State → ℕ) (entries : List Entry) (g : Graph) (t : State) (stands : StandsFor read size entries g t) where
+module _ (read : TreeReader) (size : List Name → State → ℕ) (entries : List ListedCell) (g : Graph) (t : State) (stands : StandsFor read size entries g t) where
   -- it takes the same draws as in the list
-  same_uses : (e : Entry) → UsesUp (statements (read e.code)) (raised e t) e.draws → UsesUp (statements (read e.code)) (raised e (state_after read entries (length entries))) e.draws
+  same_uses : (e : ListedCell) → UsesUp (statements (read e.code)) (raised e t) e.draws → UsesUp (statements (read e.code)) (raised e (state_after read entries (length entries))) e.draws
   same_uses e uses =
       let both = entry_alike read e (state_after read entries (length entries)) t stands.same in
       record { ends = λ k. uses.ends (sym both.result ∙ k); takes = both.drawn ∙ uses.takes }
 
-  pub one_more : TellsAlike size → (e : Entry) → UsesUp (statements (read e.code)) (raised e t) e.draws → (q : Run) (k : Graph) → IsCellFrom read size e t (length entries) q → IsNext q (length entries) g k
+  pub one_more : TellsAlike size → (e : ListedCell) → UsesUp (statements (read e.code)) (raised e t) e.draws → (q : Run) (k : Graph) → IsCellFrom read size e t (length entries) q → IsNext q (length entries) g k
       → StandsFor read size (entries ++ e ∷ []) k (entry_done read e t).1.state
   one_more tells e uses q k is next = record {
     list = longer_list read entries e stands.list (same_uses e uses);

@@ -24,7 +24,7 @@ use Rattle.graph_model.specs.declared.graph.Version.{Version}
 use Rattle.graph_model.specs.declared.graph.Graph.{Graph}
 use Rattle.graph_model.specs.declared.plan.Plan.{Plan}
 use Rattle.graph_model.proofs.Lookups.{same_cell, same_version}
-use Rattle.run_graph.specs.Soundness.{Reader, statements}
+use Rattle.run_graph.specs.Soundness.{TreeReader, statements}
 use Rattle.run_graph.proofs.Lists.{has_name}
 use Rattle.replay_laws.specs.Walks.{with_meter, done_again, Passes, IsLoaded, GivesBack, GivesAllBack, Walked, begins, goes_on}
 
@@ -162,7 +162,7 @@ module _ (name : Name) (t u : State) (twins : Twins t u) where
 only_name : (a b : Name) (names : List Name) → names ≡ a ∷ [] → names ≡ b ∷ [] → b ≡ a
 only_name a b names e f = one_in b a (subst (λ ns. Contains ns a) (sym e ∙ f) (first_in a []))
 
-module _ (read : Reader) (copy : ℕ → State) (g : Graph) (p : Plan) where
+module _ (read : TreeReader) (copy : ℕ → State) (g : Graph) (p : Plan) where
   given_twins : (v : ℕ) (x : Version) (t u s w : State) → Twins t u → GivesBack copy v x t s → GivesBack copy v x u w → Twins s w
   given_twins v x t u s w twins (inl a) (inl b) = loaded_twins x.names (copy v) t u s w twins a.1 b.1
   given_twins v x t u s w twins (inl a) (inr b) = let e = a.0 in let f = b.0 in absurd (let none : ⊥ = cc (e, f) in none)

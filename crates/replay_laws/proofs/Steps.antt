@@ -19,7 +19,7 @@ use Rattle.graph_model.specs.Plans.{NamesOf, IsFeasible}
 use Rattle.graph_model.proofs.Lookups.{same_version}
 use Rattle.linked_parts.specs.Parts.{HasNone, Reaches}
 use Rattle.run_graph.specs.Histories.{Run, Binds, HoldsAfter, IsRecord, IsHistory}
-use Rattle.run_graph.specs.Soundness.{Reader, statements, done, StandsIn, IsRun, Follows, AreTheParts, HasItsReads, IsElsewhere, Repeats}
+use Rattle.run_graph.specs.Soundness.{TreeReader, statements, done, StandsIn, IsRun, Follows, AreTheParts, HasItsReads, IsElsewhere, Repeats}
 use Rattle.run_graph.proofs.Lists.{cons_cases}
 use Rattle.run_graph.proofs.Reached.{reach_from_one, reach_by_one}
 use Rattle.run_graph.proofs.Holding.{new_or_old, not_rewritten, the_parts}
@@ -32,7 +32,7 @@ use Rattle.replay_laws.proofs.Staying.{untouched_back, stands_still, stands_with
 use Rattle.replay_laws.proofs.Times.{bound_of, held_of, same_at}
 use Rattle.replay_laws.proofs.Loading.{unbinding_loads}
 
-module _ (read : Reader) (r : Run) (g : Graph) (p : Plan) (run : IsRun r) (follows : Follows read r) (h : IsHistory r g) (names : NamesOf g p) (feasible : IsFeasible g p) where
+module _ (read : TreeReader) (r : Run) (g : Graph) (p : Plan) (run : IsRun r) (follows : Follows read r) (h : IsHistory r g) (names : NamesOf g p) (feasible : IsFeasible g p) where
   abbrev pub Kept : ℕ → Version → Type 0
   Kept v x = IsGivenBack p v x
 

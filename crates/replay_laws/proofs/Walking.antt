@@ -20,7 +20,7 @@ use Rattle.graph_model.specs.Graphs.{CellAt, VersionAt}
 use Rattle.graph_model.specs.Plans.{NamesOf, IsFeasible}
 use Rattle.graph_model.proofs.Lookups.{cell_within}
 use Rattle.run_graph.specs.Histories.{Run, IsHistory}
-use Rattle.run_graph.specs.Soundness.{Reader, IsRun, Follows}
+use Rattle.run_graph.specs.Soundness.{TreeReader, IsRun, Follows}
 use Rattle.run_graph.proofs.Holding.{left_deleted}
 use Rattle.replay_laws.specs.Walks.{done_again, Passes, GivesBack, GivesAllBack, Walked, begins, goes_on}
 use Rattle.replay_laws.specs.Copies.{AreCopies, with_copy}
@@ -28,7 +28,7 @@ use Rattle.replay_laws.specs.Standing.{IsGivenBack, IsGood}
 use Rattle.replay_laws.proofs.Copying.{copy_loaded}
 use Rattle.replay_laws.proofs.Steps.{again, passed, after_loads, given_good}
 
-module _ (read : Reader) (copy : ℕ → State) (r : Run) (g : Graph) (p : Plan) (run : IsRun r) (follows : Follows read r) (h : IsHistory r g) (names : NamesOf g p) (feasible : IsFeasible g p)
+module _ (read : TreeReader) (copy : ℕ → State) (r : Run) (g : Graph) (p : Plan) (run : IsRun r) (follows : Follows read r) (h : IsHistory r g) (names : NamesOf g p) (feasible : IsFeasible g p)
     (copies : AreCopies g p (r.state r.cells) copy) where
   abbrev Good : ℕ → State → Type 0
   Good c t = IsGood r g c (IsGivenBack p) t

@@ -14,7 +14,7 @@ use Rattle.graph_model.specs.declared.graph.Version.{Version}
 use Rattle.graph_model.specs.declared.graph.Graph.{Graph}
 use Rattle.graph_model.specs.declared.plan.Plan.{Plan}
 use Rattle.graph_model.specs.Graphs.{CellAt, VersionAt}
-use Rattle.run_graph.specs.Soundness.{Reader, done_by}
+use Rattle.run_graph.specs.Soundness.{TreeReader, done_by}
 
 -- ---- a cell
 
@@ -22,11 +22,11 @@ abbrev pub with_meter : State → ℕ → State
 with_meter t meter = record t { meter = meter }
 
 -- what the recorded code of a cell does again: from the recorded meter and without draws. What it prints is dropped
-abbrev pub done_again : Reader → CellRecord → State → Outcome (Option (List ℕ))
+abbrev pub done_again : TreeReader → CellRecord → State → Outcome (Option (List ℕ))
 done_again read x t = done_by read x.code (with_meter t x.meter) []
 
 -- cell c is run again if the plan says so, without asking for a draw, and else it is passed over
-abbrev pub Passes : Reader → Graph → Plan → ℕ → State → State → Type 0
+abbrev pub Passes : TreeReader → Graph → Plan → ℕ → State → State → Type 0
 Passes read g p c t u =
     (Contains p.rerun c × (x : CellRecord) × CellAt g c x × (¬ Asks (done_again read x t)) × (u ≡ (done_again read x t).1.state))
     ⊎ ((¬ Contains p.rerun c) × (u ≡ t))
@@ -61,7 +61,7 @@ GivesAllBack copy g c (v ∷ vs) t u = (x : Version) × (m : State) × VersionAt
 -- ---- the walk
 
 -- over the first c cells, from the empty state to t; each version that is copied has a copy, a state of its own with its names
-pub data Walked (read : Reader) (copy : ℕ → State) (g : Graph) (p : Plan) : ℕ → State → Type 0 where
+pub data Walked (read : TreeReader) (copy : ℕ → State) (g : Graph) (p : Plan) : ℕ → State → Type 0 where
   begins : Walked read copy g p zero empty
   goes_on : (c : ℕ) (t m u : State) → Walked read copy g p c t → Passes read g p (suc c) t m → GivesAllBack copy g (suc c) p.copied m u
       → Walked read copy g p (suc c) u

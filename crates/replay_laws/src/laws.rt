@@ -15,8 +15,8 @@ ghost use Rattle.py_meaning.specs.Cells.{Asks, UsesUp};
 ghost use Rattle.py_laws.specs.Same.{HasPair, Same, SameStates, Every};
 ghost use Rattle.py_laws.specs.Framed.{Renamed};
 ghost use Rattle.run_graph.specs.Histories.{Run, IsHistory};
-ghost use Rattle.run_graph.specs.Soundness.{Reader, statements, IsRun, Follows};
-ghost use Rattle.run_graph.specs.RunLists.{Entry, raised, entry_done, state_after, IsRunList, run_of};
+ghost use Rattle.run_graph.specs.Soundness.{TreeReader, statements, IsRun, Follows};
+ghost use Rattle.run_graph.specs.RunLists.{ListedCell, raised, entry_done, state_after, IsRunList, run_of};
 ghost use Rattle.run_graph.specs.Growing.{IsNext};
 ghost use Rattle.run_graph.specs.Fitting.{TellsParts};
 ghost use Rattle.run_graph.specs.Parts.{HasHandle};
@@ -31,7 +31,7 @@ ghost use Rattle.replay_laws.specs.Tidied.{IsTidied, AreObjectsOf};
 /// After each cell of the walk of a feasible plan, every version that holds and that the plan gave back is the same as in the
 /// run, and apart from all other names; and a name that no cell bound so far has no value.
 pub fn a_walk_keeps_what_it_gave_back()
-    ensures { (read : Reader) (copy : ℕ → State) (r : Run) (g : Graph) (p : Plan) → IsRun r → Follows read r → IsHistory r g → NamesOf g p
+    ensures { (read : TreeReader) (copy : ℕ → State) (r : Run) (g : Graph) (p : Plan) → IsRun r → Follows read r → IsHistory r g → NamesOf g p
         → IsFeasible g p → AreCopies g p (r.state r.cells) copy → (c : ℕ) (t : State) → c ≤ r.cells → Walked read copy g p c t
         → IsGood r g c (IsGivenBack p) t }
 {}
@@ -41,12 +41,12 @@ pub fn a_walk_keeps_what_it_gave_back()
 /// count and meter once these are set; a name that has no value there has none; its parts are exactly the active versions
 /// with a value, with their handles.
 pub fn a_feasible_plan_restores_the_session()
-    ensures never_asks { (read : Reader) (copy : ℕ → State) (size : List Name → State → ℕ) (entries : List Entry) (g : Graph) (p : Plan)
+    ensures never_asks { (read : TreeReader) (copy : ℕ → State) (size : List Name → State → ℕ) (entries : List ListedCell) (g : Graph) (p : Plan)
         → IsRunList read entries → IsHistory (run_of read size entries) g → NamesOf g p → IsFeasible g p
         → AreCopies g p (state_after read entries (length entries)) copy
         → (c : ℕ) (t : State) (x : CellRecord) → Walked read copy g p c t → Contains p.rerun (c + 1) → CellAt g (c + 1) x
         → Asks (done_again read x t) → ⊥ }
-    ensures restores { (read : Reader) (copy : ℕ → State) (size : List Name → State → ℕ) (entries : List Entry) (g : Graph) (p : Plan)
+    ensures restores { (read : TreeReader) (copy : ℕ → State) (size : List Name → State → ℕ) (entries : List ListedCell) (g : Graph) (p : Plan)
         → IsRunList read entries → IsHistory (run_of read size entries) g → NamesOf g p → IsFeasible g p
         → AreCopies g p (state_after read entries (length entries)) copy
         → (t : State) → Walked read copy g p (length entries) t → IsRestored g (state_after read entries (length entries)) t }
@@ -54,7 +54,7 @@ pub fn a_feasible_plan_restores_the_session()
 
 /// Such a walk can be made, and it comes to its end.
 pub fn a_walk_can_be_made()
-    ensures { (read : Reader) (copy : ℕ → State) (size : List Name → State → ℕ) (entries : List Entry) (g : Graph) (p : Plan)
+    ensures { (read : TreeReader) (copy : ℕ → State) (size : List Name → State → ℕ) (entries : List ListedCell) (g : Graph) (p : Plan)
         → IsRunList read entries → IsHistory (run_of read size entries) g → NamesOf g p → IsFeasible g p
         → AreCopies g p (state_after read entries (length entries)) copy
         → (t : State) × Walked read copy g p (length entries) t }
@@ -63,9 +63,9 @@ pub fn a_walk_can_be_made()
 /// A walk is one, of whatever graph and plan: two walks over the first cells end in states that are the same, and a cell asks
 /// for a draw after both or after neither.
 pub fn two_walks_end_alike()
-    ensures same { (read : Reader) (copy : ℕ → State) (g : Graph) (p : Plan) (c : ℕ) (t u : State) → Walked read copy g p c t
+    ensures same { (read : TreeReader) (copy : ℕ → State) (g : Graph) (p : Plan) (c : ℕ) (t u : State) → Walked read copy g p c t
         → Walked read copy g p c u → SameStates t u }
-    ensures asks { (read : Reader) (copy : ℕ → State) (g : Graph) (p : Plan) (c : ℕ) (t u : State) (x : CellRecord) → Walked read copy g p c t
+    ensures asks { (read : TreeReader) (copy : ℕ → State) (g : Graph) (p : Plan) (c : ℕ) (t u : State) (x : CellRecord) → Walked read copy g p c t
         → Walked read copy g p c u → Asks (done_again read x t) → Asks (done_again read x u) }
 {}
 
@@ -85,7 +85,7 @@ pub fn sizes_are_told_alike()
 
 /// The parts of a restored state have texts as long as the graph says, if closed states that are the same tell one length.
 pub fn a_restored_state_has_the_sizes()
-    ensures { (read : Reader) (size : List Name → State → ℕ) (entries : List Entry) (g : Graph) → IsHistory (run_of read size entries) g → TellsAlike size
+    ensures { (read : TreeReader) (size : List Name → State → ℕ) (entries : List ListedCell) (g : Graph) → IsHistory (run_of read size entries) g → TellsAlike size
         → (t : State) → IsRestored g (state_after read entries (length entries)) t → (v : ℕ) (x : Version) → IsActive g v x
         → x.size ≡ size x.names t }
 {}
@@ -112,11 +112,11 @@ pub fn same_states_are_reached_in_one_order()
 /// one after the other and never moved. A new session stands for none. A further cell does the same in the session as it
 /// does after these cells, and with it the session stands for one cell more, if its graph becomes what the cell makes of it.
 pub fn a_session_goes_on()
-    ensures begins { (read : Reader) (size : List Name → State → ℕ) → StandsFor read size [] (record { cells = []; versions = [] }) empty }
-    ensures does_the_same { (read : Reader) (size : List Name → State → ℕ) (entries : List Entry) (g : Graph) (t : State) → StandsFor read size entries g t
-        → (e : Entry) → Renamed (entry_done read e (state_after read entries (length entries))) (entry_done read e t) }
-    ensures goes_on { (read : Reader) (size : List Name → State → ℕ) (entries : List Entry) (g : Graph) (t : State) → StandsFor read size entries g t
-        → TellsAlike size → (e : Entry) → UsesUp (statements (read e.code)) (raised e t) e.draws → (r : Run) (k : Graph)
+    ensures begins { (read : TreeReader) (size : List Name → State → ℕ) → StandsFor read size [] (record { cells = []; versions = [] }) empty }
+    ensures does_the_same { (read : TreeReader) (size : List Name → State → ℕ) (entries : List ListedCell) (g : Graph) (t : State) → StandsFor read size entries g t
+        → (e : ListedCell) → Renamed (entry_done read e (state_after read entries (length entries))) (entry_done read e t) }
+    ensures goes_on { (read : TreeReader) (size : List Name → State → ℕ) (entries : List ListedCell) (g : Graph) (t : State) → StandsFor read size entries g t
+        → TellsAlike size → (e : ListedCell) → UsesUp (statements (read e.code)) (raised e t) e.draws → (r : Run) (k : Graph)
         → IsCellFrom read size e t (length entries) r → IsNext r (length entries) g k
         → StandsFor read size (entries ++ e ∷ []) k (entry_done read e t).1.state }
 {}
@@ -125,25 +125,25 @@ pub fn a_session_goes_on()
 /// its own state, and with its count and meter set; also with its objects numbered anew. No cell that is run again asks for a
 /// draw. With their objects numbered anew the session before the move and the session after it are equal.
 pub fn a_move_keeps_the_session()
-    ensures never_asks { (read : Reader) (copy : ℕ → State) (size : List Name → State → ℕ) (entries : List Entry) (g : Graph) (t : State) (p : Plan)
+    ensures never_asks { (read : TreeReader) (copy : ℕ → State) (size : List Name → State → ℕ) (entries : List ListedCell) (g : Graph) (t : State) (p : Plan)
         → StandsFor read size entries g t → NamesOf g p → IsFeasible g p → AreCopies g p t copy
         → (c : ℕ) (u : State) (x : CellRecord) → Walked read copy g p c u → Contains p.rerun (c + 1) → CellAt g (c + 1) x
         → Asks (done_again read x u) → ⊥ }
-    ensures moves { (read : Reader) (copy : ℕ → State) (size : List Name → State → ℕ) (entries : List Entry) (g : Graph) (t : State) (p : Plan)
+    ensures moves { (read : TreeReader) (copy : ℕ → State) (size : List Name → State → ℕ) (entries : List ListedCell) (g : Graph) (t : State) (p : Plan)
         → StandsFor read size entries g t → NamesOf g p → IsFeasible g p → AreCopies g p t copy
         → (u : State) → Walked read copy g p (length entries) u → StandsFor read size entries g (with_tallies t u) }
-    ensures equal { (read : Reader) (copy : ℕ → State) (size : List Name → State → ℕ) (entries : List Entry) (g : Graph) (t : State) (p : Plan)
+    ensures equal { (read : TreeReader) (copy : ℕ → State) (size : List Name → State → ℕ) (entries : List ListedCell) (g : Graph) (t : State) (p : Plan)
         → StandsFor read size entries g t → NamesOf g p → IsFeasible g p → AreCopies g p t copy
         → (u v w : State) → Walked read copy g p (length entries) u → IsTidied t v → IsTidied (with_tallies t u) w → v ≡ w }
-    ensures tidies { (read : Reader) (size : List Name → State → ℕ) (entries : List Entry) (g : Graph) (t u : State)
+    ensures tidies { (read : TreeReader) (size : List Name → State → ℕ) (entries : List ListedCell) (g : Graph) (t u : State)
         → StandsFor read size entries g t → IsTidied t u → StandsFor read size entries g u }
 {}
 
 /// The active versions of a session are the parts of its state, with their handles, and with the lengths of their texts if
 /// closed states that are the same tell one length.
 pub fn a_session_has_its_versions()
-    ensures parts { (read : Reader) (size : List Name → State → ℕ) (entries : List Entry) (g : Graph) (t : State)
+    ensures parts { (read : TreeReader) (size : List Name → State → ℕ) (entries : List ListedCell) (g : Graph) (t : State)
         → StandsFor read size entries g t → HasVersions g t }
-    ensures sizes { (read : Reader) (size : List Name → State → ℕ) (entries : List Entry) (g : Graph) (t : State)
+    ensures sizes { (read : TreeReader) (size : List Name → State → ℕ) (entries : List ListedCell) (g : Graph) (t : State)
         → StandsFor read size entries g t → TellsAlike size → (v : ℕ) (x : Version) → IsActive g v x → x.size ≡ size x.names t }
 {}

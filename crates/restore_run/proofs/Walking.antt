@@ -28,7 +28,7 @@ use Rattle.every_history.specs.Reading.{read}
 use Rattle.replay_laws.specs.Walks.{IsLoaded, Passes, GivesBack, GivesAllBack, goes_on}
 use Rattle.part_loader.specs.Loading.{state_of, loaded}
 use Rattle.part_loader.proofs.Loads.{AreDistinct, never_descending_distinct, part_loaded}
-use Rattle.restore_run.specs.Restoring.{IsSound, IsWalked, no_part, part_for, copies}
+use Rattle.restore_run.specs.Restoring.{IsSoundCheckpoint, IsWalked, no_part, part_for, copies}
 use Rattle.restore_run.specs.Walking.{CopiedAt, OnCopiedAt, IsBetween, AreLeft}
 use Rattle.restore_run.proofs.Referring.{read_of_itself}
 
@@ -128,7 +128,7 @@ pub taken : (k : Checkpoint) (n : ℕ) (p : PartValue) (parts now : List PartVal
     → ((i : ℕ) → n < i → slice_get now i ≡ slice_get parts i) → (slice_get k.parts n ≡ Some p) × AreLeft k (n + 1) now
 taken k n p parts now left at others = (sym (left n (omega arith)) ∙ at, λ i l. others i (omega (arith, l)) ∙ left i (omega (arith, l)))
 
-module _ (k : Checkpoint) (sound : IsSound k) where
+module _ (k : Checkpoint) (sound : IsSoundCheckpoint k) where
   abbrev g : Graph
   g = k.graph
 

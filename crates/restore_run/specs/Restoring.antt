@@ -19,14 +19,14 @@ use Rattle.checkpoint_reader.specs.Numbered.{IsRestorable}
 use Rattle.replay_laws.specs.Walks.{done_again, Walked}
 use Rattle.replay_laws.specs.Tidied.{IsTidied}
 use Rattle.state_judge.specs.declared.judging.Disagreement.TheVariants as judge
-use Rattle.state_judge.specs.Agreeing.{IsUnlike, IsLoose, IsJudged}
+use Rattle.state_judge.specs.Agreeing.{IsUnlike, IsLoose, IsStateJudged}
 use Rattle.restore_run.specs.declared.restored.Restored.{Restored}
 use Rattle.restore_run.specs.declared.fault.RestoreFault.{RestoreFault}
 use Rattle.restore_run.specs.declared.fault.RestoreFault.TheVariants as fault
 use Rattle.part_loader.specs.Loading.{state_of}
 
 -- a checkpoint that was read: its graph has no fault, its plan is feasible, and it can be restored
-pub record IsSound (k : Checkpoint) : Type 0 where
+pub record IsSoundCheckpoint (k : Checkpoint) : Type 0 where
   pub graph : IsGraph k.graph
   pub names : NamesOf k.graph k.plan
   pub feasible : IsFeasible k.graph k.plan
@@ -72,8 +72,8 @@ abbrev pub IsEndFault : Graph → State → RestoreFault → Type 0
 IsEndFault g s fault.OutOfMemory = Unit {0}
 IsEndFault g s (fault.Checkpoint f) = ⊥
 IsEndFault g s (fault.DrewAgain c) = ⊥
-IsEndFault g s (fault.Unlike v) = IsJudged g s (judge.Unlike v)
-IsEndFault g s (fault.Loose name) = IsJudged g s (judge.Loose name)
+IsEndFault g s (fault.Unlike v) = IsStateJudged g s (judge.Unlike v)
+IsEndFault g s (fault.Loose name) = IsStateJudged g s (judge.Loose name)
 
 -- a session on this host with this state and this graph, which agree
 pub record IsFinished (s : State) (on : ℕ) (g : Graph) (r : Restored) : Type 0 where
@@ -112,5 +112,5 @@ abbrev pub IsRestoreFault : List ℕ → RestoreFault → Type 0
 IsRestoreFault bytes fault.OutOfMemory = ⊥
 IsRestoreFault bytes (fault.Checkpoint f) = (f ≢ checkpoint.OutOfMemory) × IsAnswer (fields bytes 0) (Err f)
 IsRestoreFault bytes (fault.DrewAgain c) = (k : Checkpoint) × AreCheckpoint bytes k × DrawsAgain k c
-IsRestoreFault bytes (fault.Unlike v) = AreOf bytes (λ k s. IsJudged k.graph s (judge.Unlike v))
-IsRestoreFault bytes (fault.Loose name) = AreOf bytes (λ k s. IsJudged k.graph s (judge.Loose name))
+IsRestoreFault bytes (fault.Unlike v) = AreOf bytes (λ k s. IsStateJudged k.graph s (judge.Unlike v))
+IsRestoreFault bytes (fault.Loose name) = AreOf bytes (λ k s. IsStateJudged k.graph s (judge.Loose name))

@@ -1,4 +1,4 @@
-ghost use Rattle.std.specs.Prelude.{◌≡◌, ◌≢◌, ◌≤◌, ◌<◌, IfOk, IfErr, length};
+ghost use Rattle.std.specs.Prelude.{◌≡◌, ◌≢◌, ◌≤◌, ◌<◌, IfOk, IfErr, length, ◌^◌};
 ghost use Rattle.py_heap.specs.References.{IsClosed};
 ghost use Rattle.replay_laws.specs.Tidied.{IsTidied};
 ghost use Rattle.restore_run.specs.Restoring.{IsRestoredOn, IsRestoreFault, IsFinished, IsEndFault};
@@ -31,7 +31,7 @@ fn finished(alloc: Global, mut last: State, count: u32, meter: u32) -> Result<St
 /// The session with this state and this graph, if they agree.
 fn restored(alloc: Global, state: State, host: u32, graph: Graph) -> Result<Restored, RestoreFault>
     requires closed { IsClosed state }
-    requires few { length graph.versions < 4294967296 }
+    requires few { length graph.versions < 2 ^ 32 }
     ensures ok { IfOk result (IsFinished state host graph) }
     ensures fault { IfErr result (IsEndFault graph state) }
 {

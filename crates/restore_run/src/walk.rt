@@ -8,7 +8,7 @@ ghost use Rattle.graph_model.specs.Faults.{Ascends};
 ghost use Rattle.every_history.specs.Reading as reading;
 ghost use Rattle.replay_laws.specs.Walks.{done_again, Passes, GivesBack, GivesAllBack};
 ghost use Rattle.part_loader.specs.Loading.{loaded};
-ghost use Rattle.restore_run.specs.Restoring.{IsSound, copies, IsWalked, DrawsAgain};
+ghost use Rattle.restore_run.specs.Restoring.{IsSoundCheckpoint, copies, IsWalked, DrawsAgain};
 ghost use Rattle.restore_run.specs.Walking.{IsBetween, OnCopiedAt, AreLeft};
 ghost use Rattle.checkpoint_reader.specs.declared.checkpoint.Checkpoint.{Checkpoint};
 
@@ -41,7 +41,7 @@ fn pass(
     cell: &CellRecord,
 ) -> Result<(), RestoreFault>
     ghost k: { Checkpoint }
-    requires sound { IsSound k }
+    requires sound { IsSoundCheckpoint k }
     requires plan { plan.now ≡ k.plan }
     requires at { CellAt k.graph number cell.now }
     requires closed { IsClosed kernel.old.state }
@@ -105,7 +105,7 @@ fn give_next(
     next: usize,
 ) -> Result<bool, AllocError>
     ghost k: { Checkpoint }
-    requires sound { IsSound k }
+    requires sound { IsSoundCheckpoint k }
     requires graph { graph.now ≡ k.graph }
     requires plan { plan.now ≡ k.plan }
     requires left { AreLeft k next parts.old }
@@ -139,7 +139,7 @@ fn give_back(
     from: usize,
 ) -> Result<usize, AllocError>
     ghost k: { Checkpoint }
-    requires sound { IsSound k }
+    requires sound { IsSoundCheckpoint k }
     requires graph { graph.now ≡ k.graph }
     requires plan { plan.now ≡ k.plan }
     requires left { AreLeft k from parts.old }
@@ -172,7 +172,7 @@ pub(crate) fn walk(
     host: u32,
 ) -> Result<Kernel, RestoreFault>
     ghost k: { Checkpoint }
-    requires sound { IsSound k }
+    requires sound { IsSoundCheckpoint k }
     requires graph { graph.now ≡ k.graph }
     requires plan { plan.now ≡ k.plan }
     requires parts { parts ≡ k.parts }

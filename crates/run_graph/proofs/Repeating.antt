@@ -32,7 +32,7 @@ use Rattle.graph_model.proofs.Lookups.{same_version}
 use Rattle.linked_parts.specs.Parts.{HasValue, HasNone, Reaches, Linked, itself, shared, back, on, IsPart, Apart}
 use Rattle.linked_parts.proofs.Names.{none_reaches}
 use Rattle.run_graph.specs.Histories.{Run, Looks, Binds, Changes, IsKept, IsWritten, HoldsAfter, IsRecord, IsHistory}
-use Rattle.run_graph.specs.Soundness.{IsRun, Reader, statements, done_by, begun, done, Follows, AreTheParts, StandsIn, HasItsReads, IsElsewhere, Repeats, RepeatsFromItsReads}
+use Rattle.run_graph.specs.Soundness.{IsRun, TreeReader, statements, done_by, begun, done, Follows, AreTheParts, StandsIn, HasItsReads, IsElsewhere, Repeats, RepeatsFromItsReads}
 use Rattle.run_graph.proofs.Lists.{alone, cons_cases, in_flat, from_flat, has_name, is_bound}
 use Rattle.run_graph.proofs.Reached.{reach_from_one, reach_by_one, has_value, not_both}
 use Rattle.run_graph.proofs.Kept.{in_part_value, part_apart, kept_not_written}
@@ -184,7 +184,7 @@ module _ (r : Run) (g : Graph) (run : IsRun r) (h : IsHistory r g) (c : ℕ) (l 
         | inr m ↦ none_reaches S w.0 (none w.0 m) at w.2
       ]
 
-  module _ (read : Reader) (follows : Follows read r) where
+  module _ (read : TreeReader) (follows : Follows read r) where
     -- ---- the cell in the run
 
     abbrev Begun : State
@@ -478,7 +478,7 @@ module _ (r : Run) (g : Graph) (run : IsRun r) (h : IsHistory r g) (c : ℕ) (l 
         ];
       }
 
-pub repeats_from_its_reads : (read : Reader) (r : Run) (g : Graph) → IsRun r → Follows read r → IsHistory r g → (c : ℕ) → c < r.cells → RepeatsFromItsReads read r g c
+pub repeats_from_its_reads : (read : TreeReader) (r : Run) (g : Graph) → IsRun r → Follows read r → IsHistory r g → (c : ℕ) → c < r.cells → RepeatsFromItsReads read r g c
 repeats_from_its_reads read r g run follows h c l = λ x t at quiet need.
     let i = h.records c x at in
     subst (λ code. Repeats r g c x t (done read r c) (done_by read code t [])) (sym i.code) (repeats r g run h c l x i read follows t need quiet)

@@ -11,17 +11,17 @@ use Rattle.py_meaning.specs.Cells.{UsesUp}
 use Rattle.py_meaning.specs.Meaning.{cell}
 use Rattle.py_laws.proofs.Sparing.{Spared, spared}
 use Rattle.py_laws.proofs.Closing.{closed_after}
-use Rattle.run_graph.specs.Soundness.{IsRun, Reader, statements, done_by, Follows}
-use Rattle.run_graph.specs.RunLists.{Entry, entry, raised, entry_done, state_after, marks_of, steps_of, IsRunList, run_of}
+use Rattle.run_graph.specs.Soundness.{IsRun, TreeReader, statements, done_by, Follows}
+use Rattle.run_graph.specs.RunLists.{ListedCell, entry, raised, entry_done, state_after, marks_of, steps_of, IsRunList, run_of}
 
-pub raised_closed : (e : Entry) (s : State) → IsClosed s → IsClosed (raised e s)
+pub raised_closed : (e : ListedCell) (s : State) → IsClosed s → IsClosed (raised e s)
 raised_closed e s c = record { names = c.names; objects = c.objects }
 
-module _ (read : Reader) (entries : List Entry) where
+module _ (read : TreeReader) (entries : List ListedCell) where
   all_closed : (c : ℕ) → IsClosed (state_after read entries c)
   all_closed zero = empty_closed
   all_closed (suc c) =
-      let e : Entry = entry entries c in
+      let e : ListedCell = entry entries c in
       let s : State = state_after read entries c in
       closed_after (statements (read e.code)) e.draws (raised e s) (raised_closed e s (all_closed c))
 

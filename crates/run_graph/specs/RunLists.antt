@@ -8,47 +8,47 @@ use Rattle.py_machine.specs.Marked.{no_marks}
 use Rattle.py_machine.specs.Runs.{Name, Outcome}
 use Rattle.py_meaning.specs.Cells.{UsesUp}
 use Rattle.run_graph.specs.Histories.{Run}
-use Rattle.run_graph.specs.Soundness.{Reader, statements, done_by}
+use Rattle.run_graph.specs.Soundness.{TreeReader, statements, done_by}
 
 -- a cell of a run list: its code as it is recorded, the draws that it takes, and whether it raises the session's count
-pub record Entry : Type 0 where
+pub record ListedCell : Type 0 where
   pub code : List ℕ
   pub draws : List Drawn
   pub counted : Bool
 
 -- the entry after the last one
-abbrev pub blank : Entry
+abbrev pub blank : ListedCell
 blank = record { code = []; draws = []; counted = false }
 
 -- the entry after the first c
-abbrev pub entry : List Entry → ℕ → Entry
+abbrev pub entry : List ListedCell → ℕ → ListedCell
 entry entries c = get_or entries c blank
 
-abbrev pub raised : Entry → State → State
+abbrev pub raised : ListedCell → State → State
 raised e s = record s { count = s.count + cond e.counted 1 0 }
 
 -- what a cell does in a state of the session
-abbrev pub entry_done : Reader → Entry → State → Outcome (Option (List ℕ))
+abbrev pub entry_done : TreeReader → ListedCell → State → Outcome (Option (List ℕ))
 entry_done read e s = done_by read e.code (raised e s) e.draws
 
 -- the state after the first c
-abbrev pub state_after : Reader → List Entry → ℕ → State
+abbrev pub state_after : TreeReader → List ListedCell → ℕ → State
 state_after read entries zero = empty
 state_after read entries (suc c) = (entry_done read (entry entries c) (state_after read entries c)).1.state
 
-abbrev pub marks_of : Reader → List Entry → ℕ → Marks
+abbrev pub marks_of : TreeReader → List ListedCell → ℕ → Marks
 marks_of read entries zero = no_marks
 marks_of read entries (suc c) = (entry_done read (entry entries c) (state_after read entries c)).1.marks
 
-abbrev pub steps_of : Reader → List Entry → ℕ → ℕ
+abbrev pub steps_of : TreeReader → List ListedCell → ℕ → ℕ
 steps_of read entries zero = 0
 steps_of read entries (suc c) = (entry_done read (entry entries c) (state_after read entries c)).1.steps
 
 -- each cell takes just its draws, and asks for no more
-abbrev pub IsRunList : Reader → List Entry → Type 0
+abbrev pub IsRunList : TreeReader → List ListedCell → Type 0
 IsRunList read entries = (c : ℕ) → c < length entries → UsesUp (statements (read (entry entries c).code)) (raised (entry entries c) (state_after read entries c)) (entry entries c).draws
 
-abbrev pub run_of : Reader → (List Name → State → ℕ) → List Entry → Run
+abbrev pub run_of : TreeReader → (List Name → State → ℕ) → List ListedCell → Run
 run_of read size entries = record {
   cells = length entries;
   state = state_after read entries;

@@ -40,8 +40,8 @@ pub record HasNames (r : Run) : Type 0 where
 -- ---- the cells of a run are what the meaning says
 
 -- which tree a code has, if it has one
-abbrev pub Reader : Type 0
-Reader = List ℕ → Option (List Stmt)
+abbrev pub TreeReader : Type 0
+TreeReader = List ℕ → Option (List Stmt)
 
 -- the statements that run: a code without a tree is refused for what it is, and runs none
 abbrev pub statements : Option (List Stmt) → List Stmt
@@ -49,7 +49,7 @@ statements None = []
 statements (Some body) = body
 
 -- what a code does
-abbrev pub done_by : Reader → List ℕ → State → List Drawn → Outcome (Option (List ℕ))
+abbrev pub done_by : TreeReader → List ℕ → State → List Drawn → Outcome (Option (List ℕ))
 done_by read code s draws = outcome (statements (read code)) s draws
 
 -- the state in which the cell after cell c began: that after cell c, but for the session's count
@@ -57,11 +57,11 @@ abbrev pub begun : Run → ℕ → State
 begun r c = record (r.state c) { count = r.counts (suc c) }
 
 -- what the cell after cell c did
-abbrev pub done : Reader → Run → ℕ → Outcome (Option (List ℕ))
+abbrev pub done : TreeReader → Run → ℕ → Outcome (Option (List ℕ))
 done read r c = done_by read (r.code (suc c)) (begun r c) (r.draws (suc c))
 
 -- the cells of the run do what their codes say, each under just its draws
-pub record Follows (read : Reader) (r : Run) : Type 0 where
+pub record Follows (read : TreeReader) (r : Run) : Type 0 where
   pub state : (c : ℕ) → r.state (suc c) ≡ (done read r c).1.state
   pub marks : (c : ℕ) → r.marks (suc c) ≡ (done read r c).1.marks
   pub steps : (c : ℕ) → r.steps (suc c) ≡ (done read r c).1.steps
@@ -116,13 +116,13 @@ pub record Repeats (r : Run) (g : Graph) (c : ℕ) (x : CellRecord) (t : State) 
   pub objects_stay : (name : Name) → IsElsewhere g c x name → (at : ℕ) → Reaches t name at → slice_get u.1.state.heap at ≡ slice_get t.heap at
 
 -- a cell that didn't draw: its recorded code, run from t without draws
-abbrev pub RepeatsFromItsReads : Reader → Run → Graph → ℕ → Type 0
+abbrev pub RepeatsFromItsReads : TreeReader → Run → Graph → ℕ → Type 0
 RepeatsFromItsReads read r g c = (x : CellRecord) (t : State) → CellAt g (suc c) x → x.drew ≡ false → HasItsReads r g c x t
     → Repeats r g c x t (done read r c) (done_by read x.code t [])
 
 -- ---- sound: all three
 
-pub record IsSound (read : Reader) (r : Run) (g : Graph) : Type 0 where
+pub record IsSound (read : TreeReader) (r : Run) (g : Graph) : Type 0 where
   pub parts : (c : ℕ) → c ≤ r.cells → AreTheParts r g c
   pub stands : (c : ℕ) → c ≤ r.cells → StandsAsWritten r g c
   pub repeats : (c : ℕ) → c < r.cells → RepeatsFromItsReads read r g c

@@ -13,11 +13,11 @@ ghost use Rattle.py_laws.specs.Same.{Same};
 ghost use Rattle.linked_parts.specs.After.{IsAfter};
 ghost use Rattle.run_graph.specs.Parts.{HasHandle};
 ghost use Rattle.run_graph.specs.Histories.{Run, IsHistory};
-ghost use Rattle.run_graph.specs.Soundness.{Reader, done_by, IsRun, HasNames, Follows, AreTheParts, StandsAsWritten, RepeatsFromItsReads, HasItsReads, IsSound};
+ghost use Rattle.run_graph.specs.Soundness.{TreeReader, done_by, IsRun, HasNames, Follows, AreTheParts, StandsAsWritten, RepeatsFromItsReads, HasItsReads, IsSound};
 ghost use Rattle.run_graph.specs.Fitting.{Fits, IsStep, TellsParts};
 ghost use Rattle.run_graph.specs.Growing.{first_cells, IsNext};
 ghost use Rattle.run_graph.specs.Examples.{joined_run, joined_graph, deleted_run, deleted_graph};
-ghost use Rattle.run_graph.specs.RunLists.{Entry, IsRunList, run_of};
+ghost use Rattle.run_graph.specs.RunLists.{ListedCell, IsRunList, run_of};
 
 /// After each cell the versions that hold have no name in common. Those with a value are exactly the parts of the state; the
 /// others are exactly the names that were bound once and have no value.
@@ -35,7 +35,7 @@ pub fn versions_stand_as_written()
 /// doesn't ask for any. It gives the same text, result or error, and steps. Every version that it wrote, and every one that it
 /// read and that holds after it, is then the same as in the run, and apart. Nothing else is changed.
 pub fn a_cell_repeats_from_its_reads()
-    ensures { (read : Reader) (r : Run) (g : Graph) → IsRun r → Follows read r → IsHistory r g → (c : ℕ) → c < r.cells
+    ensures { (read : TreeReader) (r : Run) (g : Graph) → IsRun r → Follows read r → IsHistory r g → (c : ℕ) → c < r.cells
         → RepeatsFromItsReads read r g c }
 {}
 
@@ -48,20 +48,20 @@ pub fn a_cell_has_its_reads()
 /// The history of every run list is sound: after each cell what holds is the parts, what holds is as it was written, and each
 /// cell that didn't draw repeats from what it read. This is so whatever trees the codes have.
 pub fn histories_are_sound()
-    ensures { (read : Reader) (size : List Name → State → ℕ) (entries : List Entry) (g : Graph) → IsRunList read entries
+    ensures { (read : TreeReader) (size : List Name → State → ℕ) (entries : List ListedCell) (g : Graph) → IsRunList read entries
         → IsHistory (run_of read size entries) g → IsSound read (run_of read size entries) g }
 {}
 
 /// A code without a tree is a cell that changes nothing: no name, no object and no meter, in no steps, and it takes no draw.
 pub fn a_code_without_a_tree_does_nothing()
-    ensures { (read : Reader) (code : List ℕ) (s : State) (draws : List Drawn) → read code ≡ None → (done_by read code s draws).1 ≡ start s }
+    ensures { (read : TreeReader) (code : List ℕ) (s : State) (draws : List Drawn) → read code ≡ None → (done_by read code s draws).1 ≡ start s }
 {}
 
 /// A list of cells, each run in the state that the one before it left, is a run; and if each takes just its draws, they do
 /// what their codes say.
 pub fn a_run_list_is_a_run()
-    ensures run { (read : Reader) (size : List Name → State → ℕ) (entries : List Entry) → IsRun (run_of read size entries) }
-    ensures follows { (read : Reader) (size : List Name → State → ℕ) (entries : List Entry) → IsRunList read entries
+    ensures run { (read : TreeReader) (size : List Name → State → ℕ) (entries : List ListedCell) → IsRun (run_of read size entries) }
+    ensures follows { (read : TreeReader) (size : List Name → State → ℕ) (entries : List ListedCell) → IsRunList read entries
         → Follows read (run_of read size entries) }
 {}
 
@@ -70,7 +70,7 @@ pub fn a_run_list_is_a_run()
 pub fn a_history_passes_the_check()
     ensures run { (r : Run) (g : Graph) → IsRun r → HasNames r → IsHistory r g → r.cells < 2 ^ 32 → length g.versions < 2 ^ 32
         → IsGraph g }
-    ensures run_list { (read : Reader) (size : List Name → State → ℕ) (entries : List Entry) (g : Graph)
+    ensures run_list { (read : TreeReader) (size : List Name → State → ℕ) (entries : List ListedCell) (g : Graph)
         → HasNames (run_of read size entries) → IsHistory (run_of read size entries) g → length entries < 2 ^ 32
         → length g.versions < 2 ^ 32 → IsGraph g }
 {}

@@ -12,7 +12,7 @@ use Rattle.notebook_meaning.specs.Notebooks.{notebooks}
 use Rattle.node_run.specs.declared.end.RunEnd.{RunEnd}
 use Rattle.node_run.specs.declared.end.RunEnd.TheVariants.{Whole, Broken, SourceFailed, TooManyReads}
 use Rattle.node_run.specs.Ends.{status_of}
-use Rattle.node_run.specs.Journals.{Answers, Run, journals_of, AreRuns, AreJournals}
+use Rattle.node_run.specs.Journals.{Answers, ServedSession, journals_of, AreRuns, AreJournals}
 use Rattle.node_run.specs.Streams.{HasRun}
 use Rattle.save_command.specs.Saved.{Took, Saves, SavesTold, WritesFirst}
 
@@ -65,13 +65,13 @@ Adds-none : (old : Option (List ℕ)) → Adds old old []
 Adds-none None = refl
 Adds-none (Some had) = ap Some (sym (append-nil had))
 
-are_journals : (meaning : Meaning) (hosts : ℕ) (gives : Answers) (ss : List Taken) (runs : List Run) → AreRuns meaning hosts gives ss runs → AreJournals meaning hosts gives ss (journals_of runs)
+are_journals : (meaning : Meaning) (hosts : ℕ) (gives : Answers) (ss : List Taken) (runs : List ServedSession) → AreRuns meaning hosts gives ss runs → AreJournals meaning hosts gives ss (journals_of runs)
 are_journals meaning hosts gives [] [] are = tt
 are_journals meaning hosts gives [] (r ∷ runs) are = absurd are
 are_journals meaning hosts gives (s ∷ ss) [] are = absurd are
 are_journals meaning hosts gives (s ∷ ss) (r ∷ runs) are = (are.0.1, are_journals meaning hosts gives ss runs are.1)
 
-took : (gives : Answers) (end : RunEnd) (bytes rest : List ℕ) (errors : List NodeError) (runs : List Run) (Holds : List (List Entry) → Type 0) → HasRun notebooks 1 gives end bytes (Some rest) errors runs → Holds (journals_of runs)
+took : (gives : Answers) (end : RunEnd) (bytes rest : List ℕ) (errors : List NodeError) (runs : List ServedSession) (Holds : List (List Entry) → Type 0) → HasRun notebooks 1 gives end bytes (Some rest) errors runs → Holds (journals_of runs)
     → Took gives end bytes rest Holds
 took gives end bytes rest errors runs Holds run holds = record {
   node = run.node;
@@ -82,7 +82,7 @@ took gives end bytes rest errors runs Holds run holds = record {
 }
 
 -- the input wasn't read to its end, or isn't frames alone
-pub told_ended : (gives : Answers) (w : Weights) (status : ℕ) (end : RunEnd) (old new a : Option (List ℕ)) (bytes : List ℕ) (errors : List NodeError) (runs : List Run) → status ≡ status_of end → end ≢ Whole → Takes old new bytes
+pub told_ended : (gives : Answers) (w : Weights) (status : ℕ) (end : RunEnd) (old new a : Option (List ℕ)) (bytes : List ℕ) (errors : List NodeError) (runs : List ServedSession) → status ≡ status_of end → end ≢ Whole → Takes old new bytes
     → HasRun notebooks 1 gives end bytes new errors runs → SavesTold gives w status old new a a
 told_ended gives w status end None new a bytes errors runs same isnt t run = t
 told_ended gives w status end (Some had) new a bytes errors runs same isnt (rest, parts, is) run =
@@ -102,7 +102,7 @@ told_ended gives w status end (Some had) new a bytes errors runs same isnt (rest
 
 -- ---- what was written of the first session
 
-saves_whole : (gives : Answers) (w : Weights) (status : ℕ) (bytes rest : List ℕ) (a b : Option (List ℕ)) (errors : List NodeError) (runs : List Run) → HasRun notebooks 1 gives Whole bytes (Some rest) errors runs
+saves_whole : (gives : Answers) (w : Weights) (status : ℕ) (bytes rest : List ℕ) (a b : Option (List ℕ)) (errors : List NodeError) (runs : List ServedSession) → HasRun notebooks 1 gives Whole bytes (Some rest) errors runs
     → WritesFirst w (journals_of runs) status a b → Saves gives w status bytes rest a b
 saves_whole gives w status bytes rest a b errors runs told (inl (is, text, saves, adds)) = record {
   said = λ h. took gives Whole bytes rest errors runs _ told (text, saves, adds);
@@ -124,7 +124,7 @@ saves_whole gives w status bytes rest a b errors runs told (inr (inr (is, adds))
 }
 
 -- the input was read to its end, and this was written of the first session
-pub told_whole : (gives : Answers) (w : Weights) (status : ℕ) (old new a b : Option (List ℕ)) (bytes : List ℕ) (errors : List NodeError) (runs : List Run) → Takes old new bytes → HasRun notebooks 1 gives Whole bytes new errors runs
+pub told_whole : (gives : Answers) (w : Weights) (status : ℕ) (old new a b : Option (List ℕ)) (bytes : List ℕ) (errors : List NodeError) (runs : List ServedSession) → Takes old new bytes → HasRun notebooks 1 gives Whole bytes new errors runs
     → WritesFirst w (journals_of runs) status a b → SavesTold gives w status old new a b
 told_whole gives w status None new a b bytes errors runs t run writes = t
 told_whole gives w status (Some had) new a b bytes errors runs (rest, parts, is) run writes =

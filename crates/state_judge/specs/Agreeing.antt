@@ -36,7 +36,7 @@ abbrev pub IsFirstLoose : Graph → State → Name → Type 0
 IsFirstLoose g s name = IsLoose g s name × ((other : Name) → IsLoose g s other → ¬ TextBelow other name)
 
 -- want of memory; or the first version that isn't as it says; or, if there is none, the least loose name
-abbrev pub IsJudged : Graph → State → Disagreement → Type 0
-IsJudged g s OutOfMemory = Unit {0}
-IsJudged g s (Unlike v) = IsFirst (IsUnlike g s) v
-IsJudged g s (Loose name) = Never (IsUnlike g s) × IsFirstLoose g s name
+abbrev pub IsStateJudged : Graph → State → Disagreement → Type 0
+IsStateJudged g s OutOfMemory = Unit {0}
+IsStateJudged g s (Unlike v) = IsFirst (IsUnlike g s) v
+IsStateJudged g s (Loose name) = Never (IsUnlike g s) × IsFirstLoose g s name

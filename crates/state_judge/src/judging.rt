@@ -9,7 +9,7 @@ ghost use Rattle.linked_parts.specs.Parts.{HasValue, IsPartOf, ArePartsOf};
 ghost use Rattle.history_graph.specs.Written.{WasPart, IsByLeast};
 ghost use Rattle.history_graph.specs.Sets.{Has};
 ghost use Rattle.replay_laws.specs.Sizing.{size_of};
-ghost use Rattle.state_judge.specs.Agreeing.{IsAsSaid, Disagrees, IsUnlike, IsLoose, IsFirstLoose, IsJudged};
+ghost use Rattle.state_judge.specs.Agreeing.{IsAsSaid, Disagrees, IsUnlike, IsLoose, IsFirstLoose, IsStateJudged};
 
 use graph_model::{Graph, Version};
 use history_graph::{add_names, by_least, is_in};
@@ -163,7 +163,7 @@ fn first_unlike(
 ) -> Result<Option<u32>, AllocError>
     requires closed { IsClosed state.now }
     requires parts { ArePartsOf state.now parts.now }
-    requires few { length graph.now.versions < 4294967296 }
+    requires few { length graph.now.versions < 2 ^ 32 }
     ensures { IfOk result (λ found. MatchOption found (Never (IsUnlike graph.now state.now)) (IsFirst (IsUnlike graph.now state.now))) }
 {
     let index = by_least(alloc, parts)?;
@@ -208,10 +208,10 @@ fn first_loose(alloc: Global, graph: &Graph, state: &State) -> Result<Option<Tex
 pub fn judge(alloc: Global, graph: &Graph, state: &State, parts: &Parts) -> Result<(), Disagreement>
     requires closed { IsClosed state.now }
     requires parts { ArePartsOf state.now parts.now }
-    requires few { length graph.now.versions < 4294967296 }
+    requires few { length graph.now.versions < 2 ^ 32 }
     ensures agrees { OnOk result (Never (IsUnlike graph.now state.now)) }
     ensures none_loose { OnOk result ((name : List ℕ) → ¬ IsLoose graph.now state.now name) }
-    ensures fault { IfErr result (λ f. IsJudged graph.now state.now f) }
+    ensures fault { IfErr result (λ f. IsStateJudged graph.now state.now f) }
 {
     if let Some(v) = first_unlike(alloc, graph, state, parts)? {
         return Err(Disagreement::Unlike(v));

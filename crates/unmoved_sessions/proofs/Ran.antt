@@ -14,7 +14,7 @@ use Rattle.session_core.specs.declared.entry.Entry.TheVariants.{Opened, Ran, Die
 use Rattle.session_core.specs.Asks.{IsMove, is_end, is_main, is_control}
 use Rattle.session_core.specs.Meanings.{Served, Meaning, more}
 use Rattle.session_core.specs.Legal.{settled, Progress, MayTry, IsReason, MayGo, AllMayCome, IsLegal, asked_after, asked, main_asked, control_asked}
-use Rattle.unmoved_sessions.specs.Cells.{IsCell, DiesAt, StaysDead}
+use Rattle.unmoved_sessions.specs.Cells.{AsksCell, DiesAt, StaysDead}
 use Rattle.unmoved_sessions.proofs.Asked.{no_move, same_list}
 
 -- with its owner, after what was served
@@ -39,22 +39,22 @@ died_is host h r count known cause same is = cc
 dead_is : (host h : ℕ) (r : Request) (count known : ℕ) → h ≡ host → count ≡ known → Dead h r count ≡ Dead host r known
 dead_is host h r count known same is = cc
 
-stays_alive : (dead : Bool) (r : Request) → dead ≡ false → IsCell r → dead || is_end r.ask ≡ false
+stays_alive : (dead : Bool) (r : Request) → dead ≡ false → AsksCell r → dead || is_end r.ask ≡ false
 stays_alive dead r alive (code, is) = ap (λ b. b || is_end r.ask) alive ∙ ap is_end is
 
 module _ (meaning : Meaning) (hosts : ℕ) where
   -- a cell is none of these
-  not_sealed : (p : Progress) (r : Request) (to : ℕ) → IsCell r → IsMove (λ asked weights. (to ≡ asked) × MayGo meaning hosts p asked weights) r.ask → ⊥
+  not_sealed : (p : Progress) (r : Request) (to : ℕ) → AsksCell r → IsMove (λ asked weights. (to ≡ asked) × MayGo meaning hosts p asked weights) r.ask → ⊥
   not_sealed p r to cell moves = no_move (λ asked weights. (to ≡ asked) × MayGo meaning hosts p asked weights) r cell moves
 
-  not_refused : (p : Progress) (r : Request) (reason : MoveRefusal) → IsCell r → IsMove (λ to weights. IsReason meaning hosts p to weights reason) r.ask → ⊥
+  not_refused : (p : Progress) (r : Request) (reason : MoveRefusal) → AsksCell r → IsMove (λ to weights. IsReason meaning hosts p to weights reason) r.ask → ⊥
   not_refused p r reason cell moves = no_move (λ to weights. IsReason meaning hosts p to weights reason) r cell moves
 
-  not_resumed : (p : Progress) (r : Request) → IsCell r → IsMove (MayTry meaning hosts p) r.ask → ⊥
+  not_resumed : (p : Progress) (r : Request) → AsksCell r → IsMove (MayTry meaning hosts p) r.ask → ⊥
   not_resumed p r cell moves = no_move (MayTry meaning hosts p) r cell moves
 
   all_dead : (host : ℕ) (served : List Served) (dead : Bool) (es : List Entry) → dead ≡ true → AllMayCome meaning hosts (at host served dead) es
-      → AllByRecursion IsCell (asked_after (at host served dead) es) → StaysDead host (meaning.count served) (asked_after (at host served dead) es) es
+      → AllByRecursion AsksCell (asked_after (at host served dead) es) → StaysDead host (meaning.count served) (asked_after (at host served dead) es) es
   all_dead host served dead [] died may cells = tt
   all_dead host served dead (Opened h request channel ∷ es) died may cells = absurd may.0
   all_dead host served dead (Ran h request draws reply ∷ es) died ((phase, alive, same, work, is, run), may) cells = let no : ⊥ = cc in absurd no
@@ -68,7 +68,7 @@ module _ (meaning : Meaning) (hosts : ℕ) where
   all_dead host served dead (Resumed h request ∷ es) died ((same, moves), may) cells = absurd (not_resumed (at host served dead) request cells.0 moves)
 
   all_ran : (host : ℕ) (served : List Served) (dead : Bool) (es : List Entry) → dead ≡ false → AllMayCome meaning hosts (at host served dead) es
-      → AllByRecursion IsCell (asked_after (at host served dead) es) → AllRan meaning host served (asked_after (at host served dead) es) es
+      → AllByRecursion AsksCell (asked_after (at host served dead) es) → AllRan meaning host served (asked_after (at host served dead) es) es
   all_ran host served dead [] alive may cells = tt
   all_ran host served dead (Opened h request channel ∷ es) alive may cells = absurd may.0
   all_ran host served dead (Ran h request draws reply ∷ es) alive ((phase, was_alive, same, work, is, run), may) cells =
@@ -89,13 +89,13 @@ module _ (meaning : Meaning) (hosts : ℕ) where
 
   -- a journal that begins so and answers these requests
   after_opening : (host : ℕ) (header : Header) (channel : Channel) (requests : List Request) (entries : List Entry) → IsLegal meaning hosts (Opened host header channel ∷ entries)
-      → asked (Opened host header channel ∷ entries) ≡ requests → AllByRecursion IsCell requests → AllRan meaning host [] requests entries
+      → asked (Opened host header channel ∷ entries) ≡ requests → AllByRecursion AsksCell requests → AllRan meaning host [] requests entries
   after_opening host header channel requests entries legal is cells =
-      subst (λ (rs : List Request). AllRan meaning host [] rs entries) is (all_ran host [] false entries refl legal.1 (subst (AllByRecursion IsCell) (sym is) cells))
+      subst (λ (rs : List Request). AllRan meaning host [] rs entries) is (all_ran host [] false entries refl legal.1 (subst (AllByRecursion AsksCell) (sym is) cells))
 
   pub journal_ran : (host : ℕ) (header : Header) (channel : Channel) (requests : List Request) (es entries : List Entry) → IsLegal meaning hosts es
       → es ≡ Opened host header channel ∷ entries → main_asked es ≡ filter is_main requests → control_asked es ≡ filter is_control requests
-      → AllByRecursion IsCell requests → AllRan meaning host [] requests entries
+      → AllByRecursion AsksCell requests → AllRan meaning host [] requests entries
   journal_ran host header channel requests es entries legal begins main control cells =
       after_opening host header channel requests entries (subst (IsLegal meaning hosts) begins legal)
       (ap asked (sym begins) ∙ same_list (asked es) requests cells main control) cells

@@ -22,7 +22,7 @@ use Rattle.node_run.specs.Frames.{error_frames, journal_frames, session_frames, 
 use Rattle.node_run.specs.Ends.{node_at, EndsAt}
 use Rattle.node_run.specs.Streams.{IsNodeOf, Writes, Streams}
 use Rattle.notebook_meaning.specs.Notebooks.{notebooks}
-use Rattle.unmoved_sessions.specs.Cells.{IsCell}
+use Rattle.unmoved_sessions.specs.Cells.{AsksCell}
 use Rattle.unmoved_sessions.specs.Streams.{Opens, Asks, AreBodiesOf, errors_of, WritesAsUnmoved, StreamsAsUnmoved}
 use Rattle.unmoved_sessions.proofs.Unmoved.{session_answered}
 
@@ -112,7 +112,7 @@ unfolding session_frames
 written_is s errors es = ap (λ z. error_frames 1 errors ++ z) (append-nil (journal_frames s.kernel 1 es))
 
 module _ (hosts : ℕ) (gives : Answers) (bytes left : List ℕ) (cut : Cutting bytes) (s : Taken) (are : AreBodiesOf s cut.bodies) (hosted : s.host < hosts)
-    (few : length s.requests ≤ most_requests) (cells : AllByRecursion IsCell s.requests) where
+    (few : length s.requests ≤ most_requests) (cells : AllByRecursion AsksCell s.requests) where
   stream_written : (IsAdded : List ℕ → Type 0) (end : RunEnd) → Writes notebooks hosts gives end bytes (Some left) IsAdded → WritesAsUnmoved gives s bytes cut end left IsAdded
   stream_written IsAdded end writes =
       let errors = errors_of end cut.bodies in

@@ -14,11 +14,11 @@ use Rattle.node_run.specs.Journals.{IsJournalOf}
 use Rattle.notebook_meaning.specs.Cells.{cells_of, unmoved}
 use Rattle.notebook_meaning.specs.Notebooks.{notebooks}
 use Rattle.notebook_meaning.proofs.Lists.{cells_of_more, last_may}
-use Rattle.unmoved_sessions.specs.Cells.{IsCell, IsNoDeath, DiesAt}
+use Rattle.unmoved_sessions.specs.Cells.{AsksCell, IsNoDeath, DiesAt}
 use Rattle.unmoved_sessions.specs.Answered.{AreAnswered, AreAnsweredUntilDeath}
 use Rattle.unmoved_sessions.proofs.Ran.{AllRan, journal_ran}
 
-pub until_death : (host : ℕ) (served : List Served) (rs : List Request) (es : List Entry) → AllByRecursion IsCell rs → AllRan notebooks host served rs es
+pub until_death : (host : ℕ) (served : List Served) (rs : List Request) (es : List Entry) → AllByRecursion AsksCell rs → AllRan notebooks host served rs es
     → AreAnsweredUntilDeath host (cells_of served) rs es
 until_death host served [] [] cells ran = tt
 until_death host served [] (e ∷ es) cells ran = ran
@@ -42,7 +42,7 @@ until_death host served (r ∷ rs) (e ∷ es) cells (inr dies) = inr dies
 no_death : (host count : ℕ) (r : Request) (e : Entry) → DiesAt host count r e → IsNoDeath e → ⊥
 no_death host count r e (cause, is) none = subst IsNoDeath is none
 
-pub without_death : (host : ℕ) (cells : List runs.Entry) (rs : List Request) (es : List Entry) → AreAnsweredUntilDeath host cells rs es → AllByRecursion IsNoDeath es
+pub without_death : (host : ℕ) (cells : List runs.ListedCell) (rs : List Request) (es : List Entry) → AreAnsweredUntilDeath host cells rs es → AllByRecursion IsNoDeath es
     → AreAnswered host cells rs es
 without_death host cells [] [] answered none = tt
 without_death host cells [] (e ∷ es) answered none = answered
@@ -55,7 +55,7 @@ none_later host header channel es entries is none = (subst (AllByRecursion IsNoD
 
 -- ---- a session
 
-pub session_answered : (hosts : ℕ) (answers : Option (List Drawn)) (s : Taken) (es : List Entry) → IsJournalOf notebooks hosts answers s es → AllByRecursion IsCell s.requests
+pub session_answered : (hosts : ℕ) (answers : Option (List Drawn)) (s : Taken) (es : List Entry) → IsJournalOf notebooks hosts answers s es → AllByRecursion AsksCell s.requests
     → (entries : List Entry) × (es ≡ Opened s.host s.request s.channel ∷ entries) × AreAnsweredUntilDeath s.host [] s.requests entries
 session_answered hosts answers s es is cells =
     let begins = is.begins in (

@@ -13,7 +13,7 @@ use Rattle.unmoved_sessions.specs.Cells.{DiesAt, StaysDead}
 
 -- After these cells the entry answers the request on this host as a session that never moves does, under just the draws that the
 -- cell takes; and these are the cells then.
-pub record IsAnswered (host : ℕ) (cells : List runs.Entry) (r : Request) (e : Entry) (next : List runs.Entry) : Type 0 where
+pub record IsAnswered (host : ℕ) (cells : List runs.ListedCell) (r : Request) (e : Entry) (next : List runs.ListedCell) : Type 0 where
   pub code : List ℕ
   pub draws : List Drawn
   pub asks : r.ask ≡ Execute code false true
@@ -22,16 +22,16 @@ pub record IsAnswered (host : ℕ) (cells : List runs.Entry) (r : Request) (e : 
   pub leaves : next ≡ with_ask cells r.ask draws
 
 -- one entry answers each request, in order, each after the cells before it
-abbrev pub AreAnswered : ℕ → List runs.Entry → List Request → List Entry → Type 0
+abbrev pub AreAnswered : ℕ → List runs.ListedCell → List Request → List Entry → Type 0
 AreAnswered host cells [] [] = Unit {0}
 AreAnswered host cells [] (e ∷ es) = ⊥
 AreAnswered host cells (r ∷ rs) [] = ⊥
-AreAnswered host cells (r ∷ rs) (e ∷ es) = (next : List runs.Entry) × IsAnswered host cells r e next × AreAnswered host next rs es
+AreAnswered host cells (r ∷ rs) (e ∷ es) = (next : List runs.ListedCell) × IsAnswered host cells r e next × AreAnswered host next rs es
 
 -- the same, until it dies at one of the requests and is dead at the later ones, with the count that it had
-abbrev pub AreAnsweredUntilDeath : ℕ → List runs.Entry → List Request → List Entry → Type 0
+abbrev pub AreAnsweredUntilDeath : ℕ → List runs.ListedCell → List Request → List Entry → Type 0
 AreAnsweredUntilDeath host cells [] [] = Unit {0}
 AreAnsweredUntilDeath host cells [] (e ∷ es) = ⊥
 AreAnsweredUntilDeath host cells (r ∷ rs) [] = ⊥
-AreAnsweredUntilDeath host cells (r ∷ rs) (e ∷ es) = ((next : List runs.Entry) × IsAnswered host cells r e next × AreAnsweredUntilDeath host next rs es)
+AreAnsweredUntilDeath host cells (r ∷ rs) (e ∷ es) = ((next : List runs.ListedCell) × IsAnswered host cells r e next × AreAnsweredUntilDeath host next rs es)
     ⊎ (DiesAt host (unmoved cells).count r e × StaysDead host (unmoved cells).count rs es)

@@ -8,8 +8,8 @@ use Rattle.session_core.specs.declared.entry.Entry.{Entry}
 use Rattle.session_core.specs.declared.entry.Entry.TheVariants.{Opened, Ran, Died, Dead, Sealed, Moved, Adopted, Refused, Resumed}
 
 -- it asks for a cell, which is stored and not silent
-abbrev pub IsCell : Request → Type 0
-IsCell r = (code : List ℕ) × (r.ask ≡ Execute code false true)
+abbrev pub AsksCell : Request → Type 0
+AsksCell r = (code : List ℕ) × (r.ask ≡ Execute code false true)
 
 -- anything but a death
 abbrev pub IsNoDeath : Entry → Type 0

@@ -6,19 +6,19 @@ ghost use Rattle.session_core.specs.declared.entry.Entry.TheVariants.{Opened};
 ghost use Rattle.node_intake.specs.Intake.{Taken};
 ghost use Rattle.node_run.specs.Journals.{IsJournalOf};
 ghost use Rattle.notebook_meaning.specs.Notebooks.{notebooks};
-ghost use Rattle.unmoved_sessions.specs.Cells.{IsCell, IsNoDeath};
+ghost use Rattle.unmoved_sessions.specs.Cells.{AsksCell, IsNoDeath};
 ghost use Rattle.unmoved_sessions.specs.Answered.{AreAnswered, AreAnsweredUntilDeath};
 
 /// If nothing but cells is asked of a session, and it doesn't die, its journal is its opening and then, for each cell in turn,
 /// the reply of a session that never moves.
 pub fn a_session_of_cells_is_one_that_never_moves()
-    ensures { (hosts : ℕ) (answers : Option (List Drawn)) (s : Taken) (es : List Entry) → IsJournalOf notebooks hosts answers s es → AllByRecursion IsCell s.requests → AllByRecursion IsNoDeath es
+    ensures { (hosts : ℕ) (answers : Option (List Drawn)) (s : Taken) (es : List Entry) → IsJournalOf notebooks hosts answers s es → AllByRecursion AsksCell s.requests → AllByRecursion IsNoDeath es
         → (entries : List Entry) × (es ≡ Opened s.host s.request s.channel ∷ entries) × AreAnswered s.host [] s.requests entries }
 {}
 
 /// If nothing but cells is asked of a session, its journal is its opening and then, for each cell in turn, the reply of a session
 /// that never moves, until it dies.
 pub fn a_session_of_cells_never_moves_until_it_dies()
-    ensures { (hosts : ℕ) (answers : Option (List Drawn)) (s : Taken) (es : List Entry) → IsJournalOf notebooks hosts answers s es → AllByRecursion IsCell s.requests
+    ensures { (hosts : ℕ) (answers : Option (List Drawn)) (s : Taken) (es : List Entry) → IsJournalOf notebooks hosts answers s es → AllByRecursion AsksCell s.requests
         → (entries : List Entry) × (es ≡ Opened s.host s.request s.channel ∷ entries) × AreAnsweredUntilDeath s.host [] s.requests entries }
 {}

@@ -5,7 +5,7 @@ ghost use Rattle.node_intake.specs.Intake.{Taken, most_requests};
 ghost use Rattle.node_run.specs.Journals.{Answers};
 ghost use Rattle.node_run.specs.Streams.{Streams};
 ghost use Rattle.notebook_meaning.specs.Notebooks.{notebooks};
-ghost use Rattle.unmoved_sessions.specs.Cells.{IsCell};
+ghost use Rattle.unmoved_sessions.specs.Cells.{AsksCell};
 ghost use Rattle.unmoved_sessions.specs.Streams.{AreBodiesOf, StreamsAsUnmoved};
 
 /// If the frames of a stream open one session and ask nothing but cells of it, what a run writes are the frames of the opening and
@@ -13,6 +13,6 @@ ghost use Rattle.unmoved_sessions.specs.Streams.{AreBodiesOf, StreamsAsUnmoved};
 /// breaks off, the frame of that error comes first.
 pub fn a_stream_of_cells_is_answered_as_by_a_session_that_never_moves()
     ensures { (hosts status : ℕ) (gives : Answers) (bytes left : List ℕ) (sink_old sink_new : Option (List ℕ)) (cut : Cutting bytes) (s : Taken)
-        → AreBodiesOf s cut.bodies → s.host < hosts → length s.requests ≤ most_requests → AllByRecursion IsCell s.requests
+        → AreBodiesOf s cut.bodies → s.host < hosts → length s.requests ≤ most_requests → AllByRecursion AsksCell s.requests
         → Streams notebooks hosts gives status bytes left sink_old sink_new → StreamsAsUnmoved gives status s bytes cut left sink_old sink_new }
 {}

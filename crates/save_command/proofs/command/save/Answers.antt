@@ -1,6 +1,6 @@
 use Rattle.std.proofs.Common.{List, subst}
 use Rattle.node_run.specs.declared.end.RunEnd.{RunEnd}
-use Rattle.node_run.specs.Journals.{Run, journals_of}
+use Rattle.node_run.specs.Journals.{ServedSession, journals_of}
 use Rattle.node_run.specs.Streams.{HasRun}
 use Rattle.notebook_meaning.specs.Notebooks.{notebooks}
 use Rattle.save_command.specs.Saved.{WritesFirst}
@@ -15,7 +15,7 @@ returns-in-Whole-clause-saved g c =
     let b = g.K.Sink.written c.save_first.new.sink in
     told_whole (g.D.Feeds.gives c.args.feeds.now) c.args.weights.now c.save_first.result (g.S.Source.left c.args.source.now) left a b told.0 c.in-Ok.ran.errors c.in-Ok.ran.runs.items told.1
     (subst (λ (end : RunEnd). HasRun notebooks 1 (g.D.Feeds.gives c.args.feeds.now) end told.0 left c.in-Ok.ran.errors c.in-Ok.ran.runs.items) c.in-Whole.is told.2)
-    (subst (λ (runs : List Run). WritesFirst c.args.weights.now (journals_of runs) c.save_first.result a b) c.as_slice.ensures.value c.save_first.ensures.written)
+    (subst (λ (runs : List ServedSession). WritesFirst c.args.weights.now (journals_of runs) c.save_first.result a b) c.as_slice.ensures.value c.save_first.ensures.written)
 
 pub returns-clause-saved : goal.returns-clause-saved
 returns-clause-saved g c =

@@ -7,7 +7,7 @@ use Rattle.py_meaning.specs.declared.end.CellEnd.{CellEnd}
 use Rattle.py_meaning.specs.Cells.{UsesUp, outcome, end, end_state}
 use Rattle.py_laws.proofs.Closing.{closed_after}
 use Rattle.notebook_engine.proofs.Counted.{cell_counts}
-use Rattle.run_graph.specs.RunLists.{Entry, raised}
+use Rattle.run_graph.specs.RunLists.{ListedCell, raised}
 use Rattle.run_graph.specs.Soundness.{statements}
 use Rattle.every_history.specs.Reading.{read}
 use Rattle.graph_model.specs.declared.plan.Tally.{Tally}
@@ -39,7 +39,7 @@ returns-in-Ok-reply_of-clause-ran g c = λ cells h.
     let body = statements (read code) in
     let draws = c.in-Ok.ran.0.draws in
     let t : State = c.args.self.now.kernel.state in
-    let e : Entry = record { code = recorded code; draws = draws; counted = c.args.counted } in
+    let e : ListedCell = record { code = recorded code; draws = draws; counted = c.args.counted } in
     let s : State = c.run_code.new.kernel.state in
     let ran = c.in-Ok.ensures in
     let uses : UsesUp body (raised e t) draws = subst (λ (z : State). UsesUp body z draws) c.raise.ensures ran.uses in
@@ -76,7 +76,7 @@ returns-in-Err-TooMany-clause-passes g c = λ which draws same cells h.
     let body = statements (read code) in
     let drew : List Drawn = c.in-Ok.ran.0.draws in
     let t : State = c.args.self.now.kernel.state in
-    let e : Entry = record { code = recorded code; draws = drew; counted = c.args.counted } in
+    let e : ListedCell = record { code = recorded code; draws = drew; counted = c.args.counted } in
     let s : State = c.run_code.new.kernel.state in
     let marks : Marks = c.in-Ok.ran.0.marks in
     let ran = c.in-Ok.ensures in
