@@ -4,7 +4,7 @@ ghost use Rattle.checkpoint_commands.specs.Told.{IsToldOf};
 
 use crate::Said;
 use crate::restore_lines::{restore_line, state_lines};
-use nb_outside::status;
+use command_words::status;
 use restore_run::{RestoreFault, restore};
 use std::alloc::{AllocError, Global};
 

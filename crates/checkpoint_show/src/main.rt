@@ -12,7 +12,7 @@
 use anyhow::{Result, bail};
 use checkpoint_commands::fault_line;
 use checkpoint_reader::{Checkpoint, CheckpointFault, read_checkpoint};
-use nb_outside::status;
+use command_words::status;
 use plain_data::Text;
 use std::alloc::Global;
 use std::io::Read;

@@ -1,8 +1,9 @@
-//! The words of the command line: which command they say, if they say one.
+//! The words of the command line: which command they say, if they say one; and the exit statuses of the commands.
 #![tactic(auto)]
 
 mod numbers;
 mod settings;
+pub mod status;
 mod words;
 
 pub use words::{Command, command_of};

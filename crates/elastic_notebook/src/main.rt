@@ -19,7 +19,8 @@ mod streams;
 #[cfg(test)]
 mod test_streams;
 
-use nb_outside::{RandomFeeds, StdSink, StdSource, status};
+use command_words::status;
+use nb_outside::{RandomFeeds, StdSink, StdSource};
 use run::top;
 use std::alloc::{AllocError, Global};
 use std::env::Env;

@@ -12,8 +12,8 @@ ghost use Rattle.elastic_notebook.specs.Saying.{SaysTold};
 ghost use Rattle.elastic_notebook.specs.Statuses.{IsStatusOf};
 
 use crate::say::{Question, say};
-use command_words::{Command, command_of};
-use nb_outside::{Feeds, Sink, Source, status};
+use command_words::{Command, command_of, status};
+use nb_outside::{Feeds, Sink, Source};
 use node_run::run_stream;
 use notebook_engine::Notebook;
 use save_command::save;

@@ -4,8 +4,9 @@ ghost use Rattle.elastic_notebook.specs.Saying.{IsAsked, IsAnswered, Says, SaysT
 
 use crate::streams::{ReadingEnd, read_all};
 use checkpoint_commands::{Said, planned, restored};
+use command_words::status;
 use graph_model::Weights;
-use nb_outside::{Sink, Source, status};
+use nb_outside::{Sink, Source};
 use node_run::write_all;
 use std::alloc::{AllocError, Global};
 

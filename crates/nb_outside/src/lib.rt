@@ -17,7 +17,6 @@ mod random;
 mod real;
 mod sink;
 mod source;
-pub mod status;
 
 pub use feed::{Drawn, Feed, Feeds};
 pub use laws::draws_add_up;

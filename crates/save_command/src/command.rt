@@ -4,8 +4,9 @@ ghost use Rattle.node_run.specs.Journals.{journals_of};
 ghost use Rattle.save_command.specs.Saved.{WritesFirst, SavesTold, IsSaveStatus};
 
 use crate::pack::{SaveFault, first_packed};
+use command_words::status;
 use graph_model::Weights;
-use nb_outside::{Feeds, Sink, Source, status};
+use nb_outside::{Feeds, Sink, Source};
 use node_run::{RunEnd, run_sessions, status_of, write_all};
 use notebook_engine::Notebook;
 use session_core::Alone;
