@@ -6,6 +6,8 @@ use Rattle.graph_model.specs.declared.graph.GraphFault.{GraphFault}
 use Rattle.graph_model.specs.declared.graph.GraphFault.TheVariants.{BadWriter, BadRead, TwoActive, BadNames}
 use Rattle.graph_model.specs.declared.plan.Weights.{Weights}
 use Rattle.graph_model.specs.declared.plan.Certified.{Certified}
+use Rattle.graph_model.specs.Graphs.{IsFirstStuck}
+use Rattle.graph_model.specs.Plans.{AreAdmitted}
 use Rattle.graph_model.specs.Networks.{IsCertified}
 use Rattle.plan_model.specs.declared.feasibility.Item.{Item}
 use Rattle.plan_model.specs.declared.feasibility.Item.TheVariants as item
@@ -52,10 +54,15 @@ fault_line (fault.BadField at) = at_byte at
 abbrev pub too_much_line : ℕ → List ℕ
 too_much_line sum = codes "too much " ++ decimal sum ++ new_line
 
--- 0 with the lines of a certified plan; 6 if the finite weights sum to 2^63 or more
+abbrev pub stuck_line : ℕ → ℕ → List ℕ
+stuck_line v c = codes "stuck v" ++ decimal v ++ codes " c" ++ decimal c ++ new_line
+
+-- 0 with the lines of a certified plan, if the weights are admitted, so that no plan costs less; 6 if they sum to 2^63 or more, or
+-- else if a pair is stuck
 abbrev pub IsPlanned : Graph → Weights → ℕ → List ℕ → Type 0
-IsPlanned g w status text = ((status ≡ 0) × (c : Certified) × IsCertified g w c × (text ≡ plan_lines g c))
+IsPlanned g w status text = ((status ≡ 0) × AreAdmitted g w × (c : Certified) × IsCertified g w c × (text ≡ plan_lines g c))
     ⊎ ((status ≡ 6) × (sum : ℕ) × IsWeightFault g w (TooMuch sum) × (text ≡ too_much_line sum))
+    ⊎ ((status ≡ 6) × AreAdmitted g w × (v : ℕ) × (cell : ℕ) × IsFirstStuck g v cell × (text ≡ stuck_line v cell))
 
 -- what is said of the graph of a checkpoint; or 7, if the bytes are none
 abbrev pub IsSaid : List ℕ → Weights → ℕ → List ℕ → Type 0

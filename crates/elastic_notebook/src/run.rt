@@ -4,6 +4,7 @@ ghost use Rattle.graph_model.specs.declared.plan.Weights.{Weights as Four};
 ghost use Rattle.command_words.specs.declared.words.Command.{Command as Asked};
 ghost use Rattle.command_words.specs.declared.words.Command.TheVariants as command;
 ghost use Rattle.command_words.specs.Grammar.{IsCommand};
+ghost use Rattle.node_run.specs.Ends.{IsCaused};
 ghost use Rattle.node_run.specs.Streams.{StreamsTold};
 ghost use Rattle.notebook_meaning.specs.Notebooks.{notebooks};
 ghost use Rattle.save_command.specs.Saved.{SavesTold};
@@ -70,7 +71,7 @@ pub fn top<R: AllocGlobal, S: Source, K: Sink, D: Feeds>(
     // What `run` takes in, does and writes: journals that are legal histories of what was asked, with draws that the feeds gave, and
     // the frames that tell them.
     ensures streams { (hosts workers : ℕ) → IsCommand (map string_bytes words.now) (command.Run hosts workers)
-        → StreamsTold notebooks hosts (D.gives feeds.old) result (S.left source.old) (S.left source.new) (K.written sink.old) (K.written sink.new) }
+        → StreamsTold notebooks hosts (D.gives feeds.old) (IsCaused (S.faults source.old) (S.faults source.new) (S.reads source.old) (S.reads source.new)) result (S.left source.old) (S.left source.new) (K.written sink.old) (K.written sink.new) }
 
     // What `save` writes: the checkpoint of the session opened first, under a plan that no plan undercuts.
     ensures saved { (w : Four) → IsCommand (map string_bytes words.now) (command.Save w)

@@ -15,8 +15,12 @@ Gives old (Bad (BadLength place n)) new = IsBad old.bytes n × (place ≡ old.pl
 Gives old (Bad (Cut place)) new = ⊥
 Gives old OutOfMemory new = new ≡ old
 
--- a stream ends within a frame exactly if bytes are held
+-- bytes are held, and they begin a frame that isn't whole
+abbrev pub HasBegun : Held → Type 0
+HasBegun held = (held.bytes ≢ []) × IsBegun held.bytes
+
+-- a stream ends within a frame exactly if bytes of a begun frame are held
 abbrev pub IsCut : Held → Result (Unit {0}) FrameFault → Type 0
-IsCut held (Ok u) = held.bytes ≡ []
-IsCut held (Err (Cut place)) = (held.bytes ≢ []) × (place ≡ held.place)
+IsCut held (Ok u) = ¬ HasBegun held
+IsCut held (Err (Cut place)) = HasBegun held × (place ≡ held.place)
 IsCut held (Err (BadLength place n)) = ⊥

@@ -1,5 +1,5 @@
-ghost use Rattle.std.specs.Prelude.{◌≡◌, ◌+◌, ◌≤◌, ◌<◌, [], ◌++◌, length, take, drop, IfOk, OnOk, OnErr, MatchResult};
-ghost use Rattle.jupyter_frames.specs.Framing.{frame, length_of};
+ghost use Rattle.std.specs.Prelude.{◌≡◌, ◌≢◌, ◌+◌, ◌≤◌, ◌<◌, ◌↔◌, [], ◌++◌, length, take, drop, IsTrue, IfOk, OnOk, OnErr, MatchOption, MatchResult};
+ghost use Rattle.jupyter_frames.specs.Framing.{frame, length_of, IsBegun};
 ghost use Rattle.jupyter_frames.specs.Answers.{Gives, IsCut};
 
 use byteorder::{BigEndian, ByteOrder};
@@ -85,6 +85,17 @@ fn body_of(alloc: Global, bytes: &[u8], n: u32) -> Result<Items<u8>, AllocError>
 /// The most bytes of a frame's body.
 const MOST: u32 = 1_048_576;
 
+/// Whether bytes are less than a whole frame: not even a length, or fewer bytes than it says.
+fn is_begun(bytes: &[u8]) -> bool
+    ensures { IsTrue result ↔ IsBegun bytes.now }
+{
+    if bytes.len() < 4 {
+        return true;
+    }
+    let length = length_said(bytes);
+    0 < length && length <= MOST && bytes.len() - 4 < length as usize
+}
+
 impl Framer {
     /// A stream of which nothing has come. Takes no memory.
     pub fn new(alloc: Global) -> Framer
@@ -140,14 +151,25 @@ impl Framer {
         }
     }
 
-    /// Whether the stream may end here: `Cut` if bytes are held that weren't given.
+    /// The place of the first byte that is held, if one is: it was fed, and is in no frame that was given.
+    pub fn held_at(&self) -> Option<u64>
+        ensures { MatchOption result (self.now.bytes ≡ []) (λ place. (self.now.bytes ≢ []) × (place ≡ self.now.place)) }
+    {
+        if self.at < self.bytes.len() {
+            Some(self.place)
+        } else {
+            None
+        }
+    }
+
+    /// Whether the stream may end here: `Cut` exactly if bytes of a begun frame are held. Whole frames that weren't given yet, and a
+    /// bad length, are no such bytes.
     pub fn end(&self) -> Result<(), FrameFault>
         ensures { IsCut self.now result }
     {
-        if self.at < self.bytes.len() {
-            Err(FrameFault::Cut(self.place))
-        } else {
-            Ok(())
+        match self.held_at() {
+            Some(place) if is_begun(&self.bytes[self.at..]) => Err(FrameFault::Cut(place)),
+            _ => Ok(()),
         }
     }
 }

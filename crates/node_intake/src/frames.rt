@@ -5,7 +5,7 @@ ghost use Rattle.node_intake.specs.Taking.{TookSoFar, Stands, IsPlaceOf, node_in
 
 use crate::node::Intake;
 use crate::session::TakenIn;
-use jupyter_frames::{FrameFault, Framer, Next};
+use jupyter_frames::{Framer, Next};
 use plain_data::Items;
 use std::alloc::{AllocError, Global};
 
@@ -33,10 +33,7 @@ pub fn take_frames(
 fn broken_at(framer: &Framer) -> Option<u64>
     ensures { IsPlaceOf framer.now result }
 {
-    match framer.end() {
-        Ok(()) => None,
-        Err(FrameFault::Cut(place)) | Err(FrameFault::BadLength(place, _)) => Some(place),
-    }
+    framer.held_at()
 }
 
 /// What was taken in, when no more comes.

@@ -27,7 +27,8 @@ use Rattle.node_run.specs.declared.end.RunEnd.{RunEnd}
 use Rattle.node_run.specs.declared.end.RunEnd.TheVariants.{Whole, Broken, SourceFailed, TooManyReads}
 use Rattle.node_run.specs.Journals.{Answers, AreHosted, ServedSession, journal_of, journals_of, AreRuns, AreJournals}
 use Rattle.node_run.specs.Frames.{journal_frames, session_frames, run_frames, error_frames, AddsFront}
-use Rattle.node_run.specs.Ends.{status_of, node_at, EndsAt, end_after, errors_after}
+use Rattle.nb_outside.specs.Counts.{HasRisen, HasRisenBy}
+use Rattle.node_run.specs.Ends.{status_of, node_at, EndsAt, IsCaused, end_after, errors_after}
 use Rattle.node_run.specs.Streams.{HasRun, Writes, StreamsTold}
 
 -- ---- each session that is opened is on a host that is there
@@ -236,6 +237,13 @@ not_five Broken e = omega (arith, e)
 not_five SourceFailed e = omega (arith, e)
 not_five TooManyReads e = omega (arith, e)
 
+pub caused_by : (faults_old faults_new reads_old reads_new : ℕ) (end : RunEnd) → (end ≡ SourceFailed → HasRisen faults_old faults_new) → (end ≡ TooManyReads → HasRisenBy 4294967295 reads_old reads_new)
+    → IsCaused faults_old faults_new reads_old reads_new end
+caused_by faults_old faults_new reads_old reads_new Whole failed many = tt
+caused_by faults_old faults_new reads_old reads_new Broken failed many = tt
+caused_by faults_old faults_new reads_old reads_new SourceFailed failed many = failed refl
+caused_by faults_old faults_new reads_old reads_new TooManyReads failed many = many refl
+
 -- ---- a run over a source that tells
 
 Adds-none : (old : Option (List ℕ)) → Adds old old []
@@ -243,9 +251,9 @@ Adds-none None = refl
 Adds-none (Some had) = ap Some (sym (append-nil had))
 
 -- nothing was written
-pub told_nothing : (meaning : Meaning) (hosts : ℕ) (gives : Answers) (old new sink : Option (List ℕ)) (bytes : List ℕ) → Takes old new bytes → StreamsTold meaning hosts gives 5 old new sink sink
-told_nothing meaning hosts gives None new sink bytes t = t
-told_nothing meaning hosts gives (Some had) new sink bytes (rest, parts, is) = (
+pub told_nothing : (meaning : Meaning) (hosts : ℕ) (gives : Answers) (caused : RunEnd → Type 0) (old new sink : Option (List ℕ)) (bytes : List ℕ) → Takes old new bytes → StreamsTold meaning hosts gives caused 5 old new sink sink
+told_nothing meaning hosts gives caused None new sink bytes t = t
+told_nothing meaning hosts gives caused (Some had) new sink bytes (rest, parts, is) = (
   bytes,
   rest,
   parts,
@@ -258,27 +266,27 @@ told_nothing meaning hosts gives (Some had) new sink bytes (rest, parts, is) = (
 )
 
 -- all was written
-pub told_all : (meaning : Meaning) (hosts : ℕ) (gives : Answers) (status : ℕ) (end : RunEnd) (old new a b : Option (List ℕ)) (bytes : List ℕ) (errors : List NodeError) (runs : List ServedSession) → status ≡ status_of end → Takes old new bytes
-    → HasRun meaning hosts gives end bytes new errors runs → Adds a b (error_frames 1 errors ++ run_frames runs) → StreamsTold meaning hosts gives status old new a b
-told_all meaning hosts gives status end None new a b bytes errors runs same t run adds = t
-told_all meaning hosts gives status end (Some had) new a b bytes errors runs same (rest, parts, is) run adds =
+pub told_all : (meaning : Meaning) (hosts : ℕ) (gives : Answers) (caused : RunEnd → Type 0) (status : ℕ) (end : RunEnd) (old new a b : Option (List ℕ)) (bytes : List ℕ) (errors : List NodeError) (runs : List ServedSession) → status ≡ status_of end → Takes old new bytes
+    → HasRun meaning hosts gives end bytes new errors runs → Adds a b (error_frames 1 errors ++ run_frames runs) → caused end → StreamsTold meaning hosts gives caused status old new a b
+told_all meaning hosts gives caused status end None new a b bytes errors runs same t run adds why = t
+told_all meaning hosts gives caused status end (Some had) new a b bytes errors runs same (rest, parts, is) run adds why =
     let told = subst (λ l. HasRun meaning hosts gives end bytes l errors runs) is run in (
       bytes,
       rest,
       parts,
       is,
       record {
-        whole = λ other e. subst (λ (n : RunEnd). Writes meaning hosts gives n bytes (Some rest) (Adds a b)) (same_end end other (sym same ∙ e)) (writes_of meaning hosts gives end bytes (Some rest) errors runs (Adds a b) told adds);
+        whole = λ other e. subst (λ (n : RunEnd). caused n × Writes meaning hosts gives n bytes (Some rest) (Adds a b)) (same_end end other (sym same ∙ e)) (why, writes_of meaning hosts gives end bytes (Some rest) errors runs (Adds a b) told adds);
         cut = λ e. absurd (not_four end (sym same ∙ e));
         short = λ e. absurd (not_five end (sym same ∙ e));
       },
     )
 
 -- some of it was written, and the sink met a fault
-pub told_cut : (meaning : Meaning) (hosts : ℕ) (gives : Answers) (end : RunEnd) (old new a b : Option (List ℕ)) (bytes : List ℕ) (errors : List NodeError) (runs : List ServedSession) → Takes old new bytes
-    → HasRun meaning hosts gives end bytes new errors runs → AddsFront a b (error_frames 1 errors ++ run_frames runs) → StreamsTold meaning hosts gives 4 old new a b
-told_cut meaning hosts gives end None new a b bytes errors runs t run adds = t
-told_cut meaning hosts gives end (Some had) new a b bytes errors runs (rest, parts, is) run adds =
+pub told_cut : (meaning : Meaning) (hosts : ℕ) (gives : Answers) (caused : RunEnd → Type 0) (end : RunEnd) (old new a b : Option (List ℕ)) (bytes : List ℕ) (errors : List NodeError) (runs : List ServedSession) → Takes old new bytes
+    → HasRun meaning hosts gives end bytes new errors runs → AddsFront a b (error_frames 1 errors ++ run_frames runs) → caused end → StreamsTold meaning hosts gives caused 4 old new a b
+told_cut meaning hosts gives caused end None new a b bytes errors runs t run adds why = t
+told_cut meaning hosts gives caused end (Some had) new a b bytes errors runs (rest, parts, is) run adds why =
     let told = subst (λ l. HasRun meaning hosts gives end bytes l errors runs) is run in (
       bytes,
       rest,
@@ -286,16 +294,16 @@ told_cut meaning hosts gives end (Some had) new a b bytes errors runs (rest, par
       is,
       record {
         whole = λ other e. absurd (not_four other (sym e));
-        cut = λ e. (end, writes_of meaning hosts gives end bytes (Some rest) errors runs (AddsFront a b) told adds);
+        cut = λ e. (end, why, writes_of meaning hosts gives end bytes (Some rest) errors runs (AddsFront a b) told adds);
         short = λ e. absurd (omega (arith, e));
       },
     )
 
 -- some of it was written, and memory ran out
-pub told_short : (meaning : Meaning) (hosts : ℕ) (gives : Answers) (end : RunEnd) (old new a b : Option (List ℕ)) (bytes : List ℕ) (errors : List NodeError) (runs : List ServedSession) → Takes old new bytes
-    → HasRun meaning hosts gives end bytes new errors runs → AddsFront a b (error_frames 1 errors ++ run_frames runs) → StreamsTold meaning hosts gives 5 old new a b
-told_short meaning hosts gives end None new a b bytes errors runs t run adds = t
-told_short meaning hosts gives end (Some had) new a b bytes errors runs (rest, parts, is) run adds =
+pub told_short : (meaning : Meaning) (hosts : ℕ) (gives : Answers) (caused : RunEnd → Type 0) (end : RunEnd) (old new a b : Option (List ℕ)) (bytes : List ℕ) (errors : List NodeError) (runs : List ServedSession) → Takes old new bytes
+    → HasRun meaning hosts gives end bytes new errors runs → AddsFront a b (error_frames 1 errors ++ run_frames runs) → caused end → StreamsTold meaning hosts gives caused 5 old new a b
+told_short meaning hosts gives caused end None new a b bytes errors runs t run adds why = t
+told_short meaning hosts gives caused end (Some had) new a b bytes errors runs (rest, parts, is) run adds why =
     let told = subst (λ l. HasRun meaning hosts gives end bytes l errors runs) is run in (
       bytes,
       rest,
@@ -304,6 +312,6 @@ told_short meaning hosts gives end (Some had) new a b bytes errors runs (rest, p
       record {
         whole = λ other e. absurd (not_five other (sym e));
         cut = λ e. absurd (omega (arith, e));
-        short = λ e. inr (end, writes_of meaning hosts gives end bytes (Some rest) errors runs (AddsFront a b) told adds);
+        short = λ e. inr (end, why, writes_of meaning hosts gives end bytes (Some rest) errors runs (AddsFront a b) told adds);
       },
     )

@@ -1,5 +1,6 @@
 -- How a run on a stream ends, and which errors it has then.
 use Rattle.std.specs.Prelude.{◌≡◌, ◌≢◌, ℕ, ◌⊎◌, List, [], ◌∷◌, ◌++◌, Option, Some, None}
+use Rattle.nb_outside.specs.Counts.{HasRisen, HasRisenBy}
 use Rattle.nb_outside.specs.Streams.{IsAtEnd}
 use Rattle.jupyter_frames.specs.Framing.{IsBegun, IsBad}
 use Rattle.reply_frames.specs.declared.node.NodeError.{NodeError}
@@ -32,6 +33,14 @@ EndsAt Whole left rest = IsAtEnd left × (rest ≡ [])
 EndsAt Broken left rest = (rest ≢ []) × ((IsAtEnd left × IsBegun rest) ⊎ ((n : ℕ) × IsBad rest n))
 EndsAt SourceFailed left rest = IsBegun rest
 EndsAt TooManyReads left rest = IsBegun rest
+
+-- why reading ended where it did, by the source's faults and reads before and after: a source that failed met a fault, and one that
+-- was read too often gave a byte at each of 4,294,967,295 reads
+abbrev pub IsCaused : ℕ → ℕ → ℕ → ℕ → RunEnd → Type 0
+IsCaused faults_old faults_new reads_old reads_new Whole = Unit {0}
+IsCaused faults_old faults_new reads_old reads_new Broken = Unit {0}
+IsCaused faults_old faults_new reads_old reads_new SourceFailed = HasRisen faults_old faults_new
+IsCaused faults_old faults_new reads_old reads_new TooManyReads = HasRisenBy 4294967295 reads_old reads_new
 
 -- ---- from how taking in ended
 

@@ -37,20 +37,21 @@ pub record Writes (meaning : Meaning) (hosts : ℕ) (gives : Answers) (end : Run
   pub are_journals : AreJournals meaning hosts gives node.sessions journals
   pub added : IsAdded (written node journals)
 
--- What a run did that took these bytes of a source and left the rest in it, with feeds made with these answers.
-pub record Streams (meaning : Meaning) (hosts : ℕ) (gives : Answers) (status : ℕ) (taken left : List ℕ) (sink_old sink_new : Option (List ℕ)) : Type 0 where
+-- What a run did that took these bytes of a source and left the rest in it, with feeds made with these answers. At each status the
+-- reading ended where it did for a cause, and so no error of the node is left out.
+pub record Streams (meaning : Meaning) (hosts : ℕ) (gives : Answers) (caused : RunEnd → Type 0) (status : ℕ) (taken left : List ℕ) (sink_old sink_new : Option (List ℕ)) : Type 0 where
   -- at 0, 2, 3 and 10 all was written
-  pub whole : (end : RunEnd) → status ≡ status_of end → Writes meaning hosts gives end taken (Some left) (Adds sink_old sink_new)
+  pub whole : (end : RunEnd) → status ≡ status_of end → caused end × Writes meaning hosts gives end taken (Some left) (Adds sink_old sink_new)
   -- at 4 the first bytes of it
-  pub cut : status ≡ 4 → (end : RunEnd) × Writes meaning hosts gives end taken (Some left) (AddsFront sink_old sink_new)
+  pub cut : status ≡ 4 → (end : RunEnd) × caused end × Writes meaning hosts gives end taken (Some left) (AddsFront sink_old sink_new)
   -- at 5 the same, or nothing if memory ran out before all was served
-  pub short : status ≡ 5 → Adds sink_old sink_new [] ⊎ ((end : RunEnd) × Writes meaning hosts gives end taken (Some left) (AddsFront sink_old sink_new))
+  pub short : status ≡ 5 → Adds sink_old sink_new [] ⊎ ((end : RunEnd) × caused end × Writes meaning hosts gives end taken (Some left) (AddsFront sink_old sink_new))
 
 -- over a source that tells what it had and has left
-abbrev pub StreamsTold : Meaning → ℕ → Answers → ℕ → Option (List ℕ) → Option (List ℕ) → Option (List ℕ) → Option (List ℕ) → Type 0
-StreamsTold meaning hosts gives status None source_new sink_old sink_new = source_new ≡ None
-StreamsTold meaning hosts gives status (Some had) source_new sink_old sink_new =
-    (taken : List ℕ) × (left : List ℕ) × (had ≡ taken ++ left) × (source_new ≡ Some left) × Streams meaning hosts gives status taken left sink_old sink_new
+abbrev pub StreamsTold : Meaning → ℕ → Answers → (RunEnd → Type 0) → ℕ → Option (List ℕ) → Option (List ℕ) → Option (List ℕ) → Option (List ℕ) → Type 0
+StreamsTold meaning hosts gives caused status None source_new sink_old sink_new = source_new ≡ None
+StreamsTold meaning hosts gives caused status (Some had) source_new sink_old sink_new =
+    (taken : List ℕ) × (left : List ℕ) × (had ≡ taken ++ left) × (source_new ≡ Some left) × Streams meaning hosts gives caused status taken left sink_old sink_new
 
 -- the statuses of a run
 abbrev pub IsStatus : ℕ → Type 0

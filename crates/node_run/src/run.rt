@@ -134,7 +134,7 @@ pub fn run_stream<E: Engine + Drop, S: Source, K: Sink, Q: Feeds>(
     sink: &mut K,
     feeds: &mut Q,
 ) -> u8
-    ensures streams { StreamsTold E.meaning hosts (Q.gives feeds.old) result (S.left source.old) (S.left source.new) (K.written sink.old) (K.written sink.new) }
+    ensures streams { StreamsTold E.meaning hosts (Q.gives feeds.old) (spec.IsCaused (S.faults source.old) (S.faults source.new) (S.reads source.old) (S.reads source.new)) result (S.left source.old) (S.left source.new) (K.written sink.old) (K.written sink.new) }
     ensures source_fault { result ≡ 3 → HasRisen (S.faults source.old) (S.faults source.new) }
     ensures sink_fault { result ≡ 4 → HasRisen (K.faults sink.old) (K.faults sink.new) }
     ensures reads { result ≡ 10 → HasRisenBy 4294967295 (S.reads source.old) (S.reads source.new) }

@@ -1,4 +1,4 @@
-//! The kernel: cells run as the meaning in py_meaning says. Its tests read code, and are in `py_answer`.
+//! The kernel: cells run as the meaning in py_meaning says. Cells of codes go through it in the tables of cases.
 //!
 //! An error ends a cell, and what it did before stays. (Python language reference, in the subset of `docs/LANGUAGE.md`.)
 #![tactic(auto)]

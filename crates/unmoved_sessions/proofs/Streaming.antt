@@ -128,12 +128,12 @@ module _ (hosts : ℕ) (gives : Answers) (bytes left : List ℕ) (cut : Cutting 
         added = subst IsAdded (frames ∙ ap (λ z. error_frames 1 errors ++ journal_frames s.kernel 1 z) begins) writes.added;
       }
 
-  pub stream_answered : (status : ℕ) (sink_old sink_new : Option (List ℕ)) → Streams notebooks hosts gives status bytes left sink_old sink_new → StreamsAsUnmoved gives status s bytes cut left sink_old sink_new
-  stream_answered status sink_old sink_new streams = record {
-    whole = λ end is. stream_written (Adds sink_old sink_new) end (streams.whole end is);
-    cut_off = λ is. let (end, writes) = streams.cut is in (end, stream_written (AddsFront sink_old sink_new) end writes);
+  pub stream_answered : (caused : RunEnd → Type 0) (status : ℕ) (sink_old sink_new : Option (List ℕ)) → Streams notebooks hosts gives caused status bytes left sink_old sink_new → StreamsAsUnmoved gives caused status s bytes cut left sink_old sink_new
+  stream_answered caused status sink_old sink_new streams = record {
+    whole = λ end is. let (why, writes) = streams.whole end is in (why, stream_written (Adds sink_old sink_new) end writes);
+    cut_off = λ is. let (end, why, writes) = streams.cut is in (end, why, stream_written (AddsFront sink_old sink_new) end writes);
     short = λ is. elim (streams.short is) [
       | inl none ↦ inl none
-      | inr some ↦ inr (some.0, stream_written (AddsFront sink_old sink_new) some.0 some.1)
+      | inr some ↦ inr (some.0, some.1, stream_written (AddsFront sink_old sink_new) some.0 some.2)
     ];
   }

@@ -58,10 +58,10 @@ pub record WritesAsUnmoved (gives : Answers) (s : Taken) (bytes : List ℕ) (cut
   pub added : IsAdded (error_frames 1 (errors_of end cut.bodies) ++ journal_frames s.kernel 1 (opened_with s entries))
 
 -- What a run with this status did that took in these bytes, said of each status as `Streams` of node_run says it.
-pub record StreamsAsUnmoved (gives : Answers) (status : ℕ) (s : Taken) (bytes : List ℕ) (cut : Cutting bytes) (left : List ℕ) (sink_old sink_new : Option (List ℕ)) : Type 0 where
+pub record StreamsAsUnmoved (gives : Answers) (caused : RunEnd → Type 0) (status : ℕ) (s : Taken) (bytes : List ℕ) (cut : Cutting bytes) (left : List ℕ) (sink_old sink_new : Option (List ℕ)) : Type 0 where
   -- at 0, 2, 3 and 10 all was written
-  pub whole : (end : RunEnd) → status ≡ status_of end → WritesAsUnmoved gives s bytes cut end left (Adds sink_old sink_new)
+  pub whole : (end : RunEnd) → status ≡ status_of end → caused end × WritesAsUnmoved gives s bytes cut end left (Adds sink_old sink_new)
   -- at 4 the first bytes of it
-  pub cut_off : status ≡ 4 → (end : RunEnd) × WritesAsUnmoved gives s bytes cut end left (AddsFront sink_old sink_new)
+  pub cut_off : status ≡ 4 → (end : RunEnd) × caused end × WritesAsUnmoved gives s bytes cut end left (AddsFront sink_old sink_new)
   -- at 5 the same, or nothing if memory ran out before all was served
-  pub short : status ≡ 5 → Adds sink_old sink_new [] ⊎ ((end : RunEnd) × WritesAsUnmoved gives s bytes cut end left (AddsFront sink_old sink_new))
+  pub short : status ≡ 5 → Adds sink_old sink_new [] ⊎ ((end : RunEnd) × caused end × WritesAsUnmoved gives s bytes cut end left (AddsFront sink_old sink_new))

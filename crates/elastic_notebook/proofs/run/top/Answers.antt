@@ -4,6 +4,7 @@ use Rattle.command_words.specs.Grammar.{IsCommand}
 use Rattle.command_words.specs.declared.words.Command.{Command}
 use Rattle.command_words.specs.declared.words.Command.TheVariants as command
 use Rattle.command_words.proofs.OneCommand.{one_command}
+use Rattle.node_run.specs.Ends.{IsCaused}
 use Rattle.node_run.specs.Streams.{StreamsTold}
 use Rattle.notebook_meaning.specs.Notebooks.{notebooks}
 use Rattle.save_command.specs.Saved.{SavesTold}
@@ -15,7 +16,7 @@ use Rattle.elastic_notebook.proofs.run.top.Goals as goal
 
 pub returns-in-Some-Run-clause-streams : goal.returns-in-Some-Run-clause-streams
 returns-in-Some-Run-clause-streams g c = λ hosts workers is.
-    subst (λ (n : ℕ). StreamsTold notebooks n (g.D.Feeds.gives c.args.feeds.now) c.run_stream.result (g.S.Source.left c.args.source.now) (g.S.Source.left c.run_stream.new.source) (g.K.Sink.written c.args.sink.now) (g.K.Sink.written c.run_stream.new.sink))
+    subst (λ (n : ℕ). StreamsTold notebooks n (g.D.Feeds.gives c.args.feeds.now) (IsCaused (g.S.Source.faults c.args.source.now) (g.S.Source.faults c.run_stream.new.source) (g.S.Source.reads c.args.source.now) (g.S.Source.reads c.run_stream.new.source)) c.run_stream.result (g.S.Source.left c.args.source.now) (g.S.Source.left c.run_stream.new.source) (g.K.Sink.written c.args.sink.now) (g.K.Sink.written c.run_stream.new.sink))
     (one_count (map string_bytes c.args.words.now) c.in-Some-Run.hosts c.in-Some-Run.field-0-1 hosts workers (subst (IsCommand (map string_bytes c.args.words.now)) c.in-Some-Run.field-0-is c.in-Some-Run.ensures) is) c.run_stream.ensures.streams
 
 pub returns-in-Some-Save-clause-saved : goal.returns-in-Some-Save-clause-saved

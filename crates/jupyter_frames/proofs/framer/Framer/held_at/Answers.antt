@@ -1,6 +1,6 @@
 use Rattle.std.proofs.Common.{ap, ◌∙◌, length, arith}
 use Rattle.std.proofs.lemmas.List.{length-drop}
-use Rattle.jupyter_frames.proofs.framer.Framer.end.Goals as goal
+use Rattle.jupyter_frames.proofs.framer.Framer.held_at.Goals as goal
 
 pub returns-then-self-len : goal.returns-then-self-len
 returns-then-self-len c =
