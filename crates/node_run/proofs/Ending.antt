@@ -26,10 +26,11 @@ use Rattle.node_intake.specs.Taking.{IsTakenIn, EndsSo}
 use Rattle.node_run.specs.declared.end.RunEnd.{RunEnd}
 use Rattle.node_run.specs.declared.end.RunEnd.TheVariants.{Whole, Broken, SourceFailed, TooManyReads}
 use Rattle.node_run.specs.Journals.{Answers, AreHosted, ServedSession, journal_of, journals_of, AreRuns, AreJournals}
-use Rattle.node_run.specs.Frames.{journal_frames, session_frames, run_frames, error_frames, AddsFront}
+use Rattle.node_run.specs.Frames.{journal_frames, session_frames, run_frames, error_frames, AddsFront, AddsServedBefore}
 use Rattle.nb_outside.specs.Counts.{HasRisen, HasRisenBy}
 use Rattle.node_run.specs.Ends.{status_of, node_at, EndsAt, IsCaused, end_after, errors_after}
 use Rattle.node_run.specs.Streams.{HasRun, Writes, StreamsTold}
+use Rattle.node_run.proofs.Stopping.{node_before}
 
 -- ---- each session that is opened is on a host that is there
 
@@ -200,6 +201,9 @@ same_frames meaning hosts gives (s ∷ ss) (r ∷ runs) are =
 pub same_written : (es fs : List NodeError) (rs ss : List ServedSession) → es ≡ fs → rs ≡ ss → error_frames 1 es ++ run_frames rs ≡ error_frames 1 fs ++ run_frames ss
 same_written es fs rs ss p q = ap (λ z. error_frames 1 z ++ run_frames rs) p ∙ ap (λ z. error_frames 1 fs ++ run_frames z) q
 
+pub same_served : (a b : Option (List ℕ)) (es fs : List NodeError) (rs ss : List ServedSession) → es ≡ fs → rs ≡ ss → AddsServedBefore a b es rs → AddsServedBefore a b fs ss
+same_served a b es fs rs ss p q adds = subst (λ zs. AddsServedBefore a b fs zs) q (subst (λ zs. AddsServedBefore a b zs rs) p adds)
+
 writes_of : (meaning : Meaning) (hosts : ℕ) (gives : Answers) (end : RunEnd) (bytes : List ℕ) (left : Option (List ℕ)) (errors : List NodeError) (runs : List ServedSession) (IsAdded : List ℕ → Type 0)
     → HasRun meaning hosts gives end bytes left errors runs → IsAdded (error_frames 1 errors ++ run_frames runs) → Writes meaning hosts gives end bytes left IsAdded
 writes_of meaning hosts gives end bytes left errors runs IsAdded run adds = record {
@@ -299,9 +303,9 @@ told_cut meaning hosts gives caused end (Some had) new a b bytes errors runs (re
       },
     )
 
--- some of it was written, and memory ran out
+-- memory ran out at some frames, and all before were written
 pub told_short : (meaning : Meaning) (hosts : ℕ) (gives : Answers) (caused : RunEnd → Type 0) (end : RunEnd) (old new a b : Option (List ℕ)) (bytes : List ℕ) (errors : List NodeError) (runs : List ServedSession) → Takes old new bytes
-    → HasRun meaning hosts gives end bytes new errors runs → AddsFront a b (error_frames 1 errors ++ run_frames runs) → caused end → StreamsTold meaning hosts gives caused 5 old new a b
+    → HasRun meaning hosts gives end bytes new errors runs → AddsServedBefore a b errors runs → caused end → StreamsTold meaning hosts gives caused 5 old new a b
 told_short meaning hosts gives caused end None new a b bytes errors runs t run adds why = t
 told_short meaning hosts gives caused end (Some had) new a b bytes errors runs (rest, parts, is) run adds why =
     let told = subst (λ l. HasRun meaning hosts gives end bytes l errors runs) is run in (
@@ -312,6 +316,16 @@ told_short meaning hosts gives caused end (Some had) new a b bytes errors runs (
       record {
         whole = λ other e. absurd (not_five other (sym e));
         cut = λ e. absurd (omega (arith, e));
-        short = λ e. inr (end, why, writes_of meaning hosts gives end bytes (Some rest) errors runs (AddsFront a b) told adds);
+        short = λ e. inr (
+          end,
+          why,
+          record {
+            node = told.node;
+            journals = journals_of runs;
+            is_node = told.is_node;
+            are_journals = are_journals meaning hosts gives told.node.sessions runs told.are_runs;
+            added = node_before meaning hosts gives a b told.node errors runs told.errors_are told.are_runs adds;
+          },
+        );
       },
     )

@@ -8,7 +8,7 @@ use Rattle.reply_frames.specs.Replies.{entry_frames, entry_length}
 use Rattle.node_run.specs.Journals.{ServedSession, journal_of}
 use Rattle.node_run.specs.Frames.{error_frames, journal_frames, run_frames}
 
-error_first : (first : ℕ) (e : NodeError) (errors : List NodeError) → error_frames first (e ∷ errors) ≡ frame_of first e ++ error_frames (first + 1) errors
+pub error_first : (first : ℕ) (e : NodeError) (errors : List NodeError) → error_frames first (e ∷ errors) ≡ frame_of first e ++ error_frames (first + 1) errors
 unfolding error_frames
 error_first first e errors = refl
 
@@ -25,11 +25,11 @@ error_next at e errors within is =
 pub error_past : (at first : ℕ) (errors : List NodeError) → length errors ≤ at → error_frames first (drop at errors) ≡ []
 error_past at first errors past = ap (error_frames first) (drop_all at errors past) ∙ error_end first
 
-entry_first : (kernel first : ℕ) (e : Entry) (es : List Entry) → journal_frames kernel first (e ∷ es) ≡ entry_frames kernel e first ++ journal_frames kernel (first + entry_length e) es
+pub entry_first : (kernel first : ℕ) (e : Entry) (es : List Entry) → journal_frames kernel first (e ∷ es) ≡ entry_frames kernel e first ++ journal_frames kernel (first + entry_length e) es
 unfolding journal_frames
 entry_first kernel first e es = refl
 
-entry_end : (kernel first : ℕ) → journal_frames kernel first [] ≡ []
+pub entry_end : (kernel first : ℕ) → journal_frames kernel first [] ≡ []
 unfolding journal_frames
 entry_end kernel first = refl
 
@@ -42,11 +42,11 @@ entry_next kernel first next at e es within is then =
 pub entry_past : (kernel first at : ℕ) (es : List Entry) → length es ≤ at → journal_frames kernel first (drop at es) ≡ []
 entry_past kernel first at es past = ap (journal_frames kernel first) (drop_all at es past) ∙ entry_end kernel first
 
-run_first : (r : ServedSession) (runs : List ServedSession) → run_frames (r ∷ runs) ≡ journal_frames r.0 1 (journal_of r) ++ run_frames runs
+pub run_first : (r : ServedSession) (runs : List ServedSession) → run_frames (r ∷ runs) ≡ journal_frames r.0 1 (journal_of r) ++ run_frames runs
 unfolding run_frames
 run_first r runs = refl
 
-run_end : run_frames [] ≡ []
+pub run_end : run_frames [] ≡ []
 unfolding run_frames
 run_end = refl
 

@@ -1,5 +1,5 @@
 -- The frames of a node: of its errors, and then of each session's journal.
-use Rattle.std.specs.Prelude.{◌≡◌, ℕ, ◌+◌, List, [], ◌∷◌, ◌++◌, Option}
+use Rattle.std.specs.Prelude.{◌≡◌, ℕ, ◌+◌, ◌⊎◌, length, List, [], ◌∷◌, ◌++◌, Option}
 use Rattle.nb_outside.specs.Streams.{Adds}
 use Rattle.session_core.specs.declared.entry.Entry.{Entry}
 use Rattle.reply_frames.specs.declared.node.NodeError.{NodeError}
@@ -36,6 +36,58 @@ run_frames (run ∷ runs) = journal_frames run.0 1 (journal_of run) ++ run_frame
 -- the first of the bytes were added
 abbrev pub AddsFront : Option (List ℕ) → Option (List ℕ) → List ℕ → Type 0
 AddsFront old new bytes = (front : List ℕ) × (back : List ℕ) × (bytes ≡ front ++ back) × Adds old new front
+
+-- ---- memory ran out at the frames of an error or of an entry: the frames of all that come before it were added
+
+pub record AddsErrorsBefore (old new : Option (List ℕ)) (errors : List NodeError) : Type 0 where
+  pub before : List NodeError
+  pub failed : NodeError
+  pub later : List NodeError
+  pub parts : errors ≡ before ++ failed ∷ later
+  pub adds : Adds old new (error_frames 1 before)
+
+pub record AddsEntriesBefore (old new : Option (List ℕ)) (kernel : ℕ) (entries : List Entry) : Type 0 where
+  pub before : List Entry
+  pub failed : Entry
+  pub later : List Entry
+  pub parts : entries ≡ before ++ failed ∷ later
+  pub adds : Adds old new (journal_frames kernel 1 before)
+
+-- first those of the journals before, and then those of the entries before it in its own
+pub record AddsJournalsBefore (old new : Option (List ℕ)) (sessions : List Taken) (journals : List (List Entry)) : Type 0 where
+  pub sessions_before : List Taken
+  pub session : Taken
+  pub sessions_later : List Taken
+  pub are_sessions : sessions ≡ sessions_before ++ session ∷ sessions_later
+  pub journals_before : List (List Entry)
+  pub journal : List Entry
+  pub journals_later : List (List Entry)
+  pub are_journals : journals ≡ journals_before ++ journal ∷ journals_later
+  pub alike : length sessions_before ≡ length journals_before
+  pub between : Option (List ℕ)
+  pub first : Adds old between (session_frames sessions_before journals_before)
+  pub then : AddsEntriesBefore between new session.kernel journal
+
+-- of a node whose sessions have these journals
+abbrev pub AddsBefore : Option (List ℕ) → Option (List ℕ) → Node → List (List Entry) → Type 0
+AddsBefore old new node journals = AddsErrorsBefore old new node.errors
+    ⊎ ((between : Option (List ℕ)) × Adds old between (error_frames 1 node.errors) × AddsJournalsBefore between new node.sessions journals)
+
+-- the same of sessions that were served
+pub record AddsRunsBefore (old new : Option (List ℕ)) (runs : List ServedSession) : Type 0 where
+  pub before : List ServedSession
+  pub run : ServedSession
+  pub later : List ServedSession
+  pub parts : runs ≡ before ++ run ∷ later
+  pub between : Option (List ℕ)
+  pub first : Adds old between (run_frames before)
+  pub then : AddsEntriesBefore between new run.0 (journal_of run)
+
+abbrev pub AddsServedBefore : Option (List ℕ) → Option (List ℕ) → List NodeError → List ServedSession → Type 0
+AddsServedBefore old new errors runs = AddsErrorsBefore old new errors
+    ⊎ ((between : Option (List ℕ)) × Adds old between (error_frames 1 errors) × AddsRunsBefore between new runs)
+
+-- ---- on the way
 
 -- the front of the bytes was added, and the rest is left
 pub record WritesSoFar (old new : Option (List ℕ)) (bytes rest : List ℕ) : Type 0 where

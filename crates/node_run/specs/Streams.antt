@@ -9,7 +9,7 @@ use Rattle.node_intake.specs.Intake.{Node}
 use Rattle.reply_frames.specs.declared.node.NodeError.{NodeError}
 use Rattle.node_run.specs.declared.end.RunEnd.{RunEnd}
 use Rattle.node_run.specs.Journals.{Answers, ServedSession, AreRuns, AreJournals}
-use Rattle.node_run.specs.Frames.{written, AddsFront}
+use Rattle.node_run.specs.Frames.{written, AddsFront, AddsBefore}
 use Rattle.node_run.specs.Ends.{status_of, node_at, EndsAt}
 
 -- this node is what is taken in of these bytes by a run that ended so and left this in the source
@@ -37,6 +37,14 @@ pub record Writes (meaning : Meaning) (hosts : ℕ) (gives : Answers) (end : Run
   pub are_journals : AreJournals meaning hosts gives node.sessions journals
   pub added : IsAdded (written node journals)
 
+-- of that node and of journals of its sessions the frames were written that come before those of an error or of an entry
+pub record Stops (meaning : Meaning) (hosts : ℕ) (gives : Answers) (end : RunEnd) (bytes : List ℕ) (left : Option (List ℕ)) (sink_old sink_new : Option (List ℕ)) : Type 0 where
+  pub node : Node
+  pub journals : List (List Entry)
+  pub is_node : IsNodeOf hosts end bytes left node
+  pub are_journals : AreJournals meaning hosts gives node.sessions journals
+  pub added : AddsBefore sink_old sink_new node journals
+
 -- What a run did that took these bytes of a source and left the rest in it, with feeds made with these answers. At each status the
 -- reading ended where it did for a cause, and so no error of the node is left out.
 pub record Streams (meaning : Meaning) (hosts : ℕ) (gives : Answers) (caused : RunEnd → Type 0) (status : ℕ) (taken left : List ℕ) (sink_old sink_new : Option (List ℕ)) : Type 0 where
@@ -44,8 +52,9 @@ pub record Streams (meaning : Meaning) (hosts : ℕ) (gives : Answers) (caused :
   pub whole : (end : RunEnd) → status ≡ status_of end → caused end × Writes meaning hosts gives end taken (Some left) (Adds sink_old sink_new)
   -- at 4 the first bytes of it
   pub cut : status ≡ 4 → (end : RunEnd) × caused end × Writes meaning hosts gives end taken (Some left) (AddsFront sink_old sink_new)
-  -- at 5 the same, or nothing if memory ran out before all was served
-  pub short : status ≡ 5 → Adds sink_old sink_new [] ⊎ ((end : RunEnd) × caused end × Writes meaning hosts gives end taken (Some left) (AddsFront sink_old sink_new))
+  -- at 5 memory ran out: at the frames of an error or of an entry, and those of all before it were written; or before all was served,
+  -- and nothing was written
+  pub short : status ≡ 5 → Adds sink_old sink_new [] ⊎ ((end : RunEnd) × caused end × Stops meaning hosts gives end taken (Some left) sink_old sink_new)
 
 -- over a source that tells what it had and has left
 abbrev pub StreamsTold : Meaning → ℕ → Answers → (RunEnd → Type 0) → ℕ → Option (List ℕ) → Option (List ℕ) → Option (List ℕ) → Option (List ℕ) → Type 0

@@ -1,11 +1,11 @@
 //! The frames of errors and journals, written one after the other.
 
-ghost use Rattle.std.specs.Prelude.{◌≡◌, ◌+◌, ◌≤◌, ◌++◌, [], Err, IfOk, OnOk, OnErr};
+ghost use Rattle.std.specs.Prelude.{◌≡◌, ◌≢◌, ◌+◌, ◌≤◌, ◌++◌, [], Err, IfOk, OnOk, OnErr};
 ghost use Rattle.nb_outside.specs.Counts.{HasRisen};
 ghost use Rattle.nb_outside.specs.Streams.{Adds};
 ghost use Rattle.reply_frames.specs.Nodes.{frame_of};
 ghost use Rattle.reply_frames.specs.Replies.{entry_frames, entry_length};
-ghost use Rattle.node_run.specs.Frames.{AddsFront, WritesSoFar, error_frames, journal_frames, run_frames};
+ghost use Rattle.node_run.specs.Frames.{AddsFront, AddsErrorsBefore, AddsEntriesBefore, AddsRunsBefore, AddsServedBefore, WritesSoFar, error_frames, journal_frames, run_frames};
 
 use crate::streams::write_all;
 use nb_outside::Sink;
@@ -41,6 +41,7 @@ fn send<K: Sink>(sink: &mut K, bytes: &[u8]) -> Result<(), WriteFault>
     ensures ok { OnOk result (Adds (K.written sink.old) (K.written sink.new) bytes.now) }
     ensures err { OnErr result (AddsFront (K.written sink.old) (K.written sink.new) bytes.now) }
     ensures fault { result ≡ Err WriteFault.Sink → HasRisen (K.faults sink.old) (K.faults sink.new) }
+    ensures memory { result ≢ Err WriteFault.OutOfMemory }
     ensures faults_stay { K.faults sink.old ≤ K.faults sink.new }
 {
     match write_all(sink, bytes) {
@@ -59,6 +60,7 @@ fn write_error<K: Sink>(
     ensures ok { OnOk result (Adds (K.written sink.old) (K.written sink.new) (frame_of running error.now)) }
     ensures err { OnErr result (AddsFront (K.written sink.old) (K.written sink.new) (frame_of running error.now)) }
     ensures fault { result ≡ Err WriteFault.Sink → HasRisen (K.faults sink.old) (K.faults sink.new) }
+    ensures memory { result ≡ Err WriteFault.OutOfMemory → Adds (K.written sink.old) (K.written sink.new) [] }
     ensures faults_stay { K.faults sink.old ≤ K.faults sink.new }
 {
     match node_error_frame(alloc, running, error) {
@@ -76,6 +78,7 @@ fn write_errors<K: Sink>(
     ensures ok { OnOk result (Adds (K.written sink.old) (K.written sink.new) (error_frames 1 errors.now)) }
     ensures err { OnErr result (AddsFront (K.written sink.old) (K.written sink.new) (error_frames 1 errors.now)) }
     ensures fault { result ≡ Err WriteFault.Sink → HasRisen (K.faults sink.old) (K.faults sink.new) }
+    ensures memory { result ≡ Err WriteFault.OutOfMemory → AddsErrorsBefore (K.written sink.old) (K.written sink.new) errors.now }
     ensures faults_stay { K.faults sink.old ≤ K.faults sink.new }
 {
     for (at, error) in errors.iter().enumerate() {
@@ -96,6 +99,7 @@ fn flush<K: Sink>(sink: &mut K, gathered: &mut Items<u8>) -> Result<(), WriteFau
     ensures empty { OnOk result (gathered.new ≡ []) }
     ensures err { OnErr result (AddsFront (K.written sink.old) (K.written sink.new) gathered.old) }
     ensures fault { result ≡ Err WriteFault.Sink → HasRisen (K.faults sink.old) (K.faults sink.new) }
+    ensures memory { result ≢ Err WriteFault.OutOfMemory }
     ensures faults_stay { K.faults sink.old ≤ K.faults sink.new }
 {
     match send(sink, gathered.as_slice()) {
@@ -111,6 +115,7 @@ fn flush<K: Sink>(sink: &mut K, gathered: &mut Items<u8>) -> Result<(), WriteFau
 fn give_up<K: Sink>(sink: &mut K, gathered: &mut Items<u8>) -> WriteFault
     ensures front { AddsFront (K.written sink.old) (K.written sink.new) gathered.old }
     ensures fault { result ≡ WriteFault.Sink → HasRisen (K.faults sink.old) (K.faults sink.new) }
+    ensures memory { result ≡ WriteFault.OutOfMemory → Adds (K.written sink.old) (K.written sink.new) gathered.old }
     ensures faults_stay { K.faults sink.old ≤ K.faults sink.new }
 {
     match flush(sink, gathered) {
@@ -124,6 +129,7 @@ fn gather<K: Sink>(sink: &mut K, gathered: &mut Items<u8>, bytes: &[u8]) -> Resu
     ensures ok { OnOk result (WritesSoFar (K.written sink.old) (K.written sink.new) (gathered.old ++ bytes.now) gathered.new) }
     ensures err { OnErr result (AddsFront (K.written sink.old) (K.written sink.new) (gathered.old ++ bytes.now)) }
     ensures fault { result ≡ Err WriteFault.Sink → HasRisen (K.faults sink.old) (K.faults sink.new) }
+    ensures memory { result ≡ Err WriteFault.OutOfMemory → Adds (K.written sink.old) (K.written sink.new) gathered.old }
     ensures faults_stay { K.faults sink.old ≤ K.faults sink.new }
 {
     match gathered.extend_from_slice(bytes) {
@@ -150,6 +156,7 @@ fn gather_entry<K: Sink>(
     ensures ok { OnOk result (WritesSoFar (K.written sink.old) (K.written sink.new) (gathered.old ++ entry_frames kernel entry.now running) gathered.new) }
     ensures err { OnErr result (AddsFront (K.written sink.old) (K.written sink.new) (gathered.old ++ entry_frames kernel entry.now running)) }
     ensures fault { result ≡ Err WriteFault.Sink → HasRisen (K.faults sink.old) (K.faults sink.new) }
+    ensures memory { result ≡ Err WriteFault.OutOfMemory → Adds (K.written sink.old) (K.written sink.new) gathered.old }
     ensures faults_stay { K.faults sink.old ≤ K.faults sink.new }
 {
     match frames_of(alloc, kernel, entry, running) {
@@ -171,6 +178,7 @@ fn write_journal<K: Sink>(
     ensures ok { OnOk result (Adds (K.written sink.old) (K.written sink.new) (journal_frames kernel 1 entries.now)) }
     ensures err { OnErr result (AddsFront (K.written sink.old) (K.written sink.new) (journal_frames kernel 1 entries.now)) }
     ensures fault { result ≡ Err WriteFault.Sink → HasRisen (K.faults sink.old) (K.faults sink.new) }
+    ensures memory { result ≡ Err WriteFault.OutOfMemory → AddsEntriesBefore (K.written sink.old) (K.written sink.new) kernel entries.now }
     ensures faults_stay { K.faults sink.old ≤ K.faults sink.new }
 {
     let mut gathered = Items::new(alloc);
@@ -193,6 +201,7 @@ fn write_runs<E: Engine + Drop, K: Sink>(
     ensures ok { OnOk result (Adds (K.written sink.old) (K.written sink.new) (run_frames runs.now)) }
     ensures err { OnErr result (AddsFront (K.written sink.old) (K.written sink.new) (run_frames runs.now)) }
     ensures fault { result ≡ Err WriteFault.Sink → HasRisen (K.faults sink.old) (K.faults sink.new) }
+    ensures memory { result ≡ Err WriteFault.OutOfMemory → AddsRunsBefore (K.written sink.old) (K.written sink.new) runs.now }
     ensures faults_stay { K.faults sink.old ≤ K.faults sink.new }
 {
     for run in runs {
@@ -204,7 +213,8 @@ fn write_runs<E: Engine + Drop, K: Sink>(
     Ok(())
 }
 
-/// Writes the frames of the errors, and then those of each session's journal.
+/// Writes the frames of the errors, and then those of each session's journal. If memory runs out at the frames of an error or of an
+/// entry, all that come before it are written.
 pub fn write_all_frames<E: Engine + Drop, K: Sink>(
     alloc: Global,
     sink: &mut K,
@@ -214,6 +224,7 @@ pub fn write_all_frames<E: Engine + Drop, K: Sink>(
     ensures ok { OnOk result (Adds (K.written sink.old) (K.written sink.new) (error_frames 1 errors.now ++ run_frames runs.now)) }
     ensures err { OnErr result (AddsFront (K.written sink.old) (K.written sink.new) (error_frames 1 errors.now ++ run_frames runs.now)) }
     ensures fault { result ≡ Err WriteFault.Sink → HasRisen (K.faults sink.old) (K.faults sink.new) }
+    ensures memory { result ≡ Err WriteFault.OutOfMemory → AddsServedBefore (K.written sink.old) (K.written sink.new) errors.now runs.now }
     ensures faults_stay { K.faults sink.old ≤ K.faults sink.new }
 {
     match write_errors(alloc, sink, errors) {

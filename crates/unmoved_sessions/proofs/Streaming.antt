@@ -20,7 +20,8 @@ use Rattle.node_run.specs.declared.end.RunEnd.TheVariants.{Whole, Broken, Source
 use Rattle.node_run.specs.Journals.{Answers, IsJournalOf, AreJournals}
 use Rattle.node_run.specs.Frames.{error_frames, journal_frames, session_frames, written, AddsFront}
 use Rattle.node_run.specs.Ends.{node_at, EndsAt}
-use Rattle.node_run.specs.Streams.{IsNodeOf, Writes, Streams}
+use Rattle.node_run.specs.Streams.{IsNodeOf, Writes, Stops, Streams}
+use Rattle.node_run.proofs.Stopping.{front_of}
 use Rattle.notebook_meaning.specs.Notebooks.{notebooks}
 use Rattle.unmoved_sessions.specs.Cells.{AsksCell}
 use Rattle.unmoved_sessions.specs.Streams.{Opens, Asks, AreBodiesOf, errors_of, WritesAsUnmoved, StreamsAsUnmoved}
@@ -128,12 +129,22 @@ module _ (hosts : ℕ) (gives : Answers) (bytes left : List ℕ) (cut : Cutting 
         added = subst IsAdded (frames ∙ ap (λ z. error_frames 1 errors ++ journal_frames s.kernel 1 z) begins) writes.added;
       }
 
+  -- what is written if memory runs out is a beginning of what was to be written
+  of_stops : (end : RunEnd) (sink_old sink_new : Option (List ℕ)) → Stops notebooks hosts gives end bytes (Some left) sink_old sink_new → Writes notebooks hosts gives end bytes (Some left) (AddsFront sink_old sink_new)
+  of_stops end sink_old sink_new stops = record {
+    node = stops.node;
+    journals = stops.journals;
+    is_node = stops.is_node;
+    are_journals = stops.are_journals;
+    added = front_of sink_old sink_new stops.node stops.journals stops.added;
+  }
+
   pub stream_answered : (caused : RunEnd → Type 0) (status : ℕ) (sink_old sink_new : Option (List ℕ)) → Streams notebooks hosts gives caused status bytes left sink_old sink_new → StreamsAsUnmoved gives caused status s bytes cut left sink_old sink_new
   stream_answered caused status sink_old sink_new streams = record {
     whole = λ end is. let (why, writes) = streams.whole end is in (why, stream_written (Adds sink_old sink_new) end writes);
     cut_off = λ is. let (end, why, writes) = streams.cut is in (end, why, stream_written (AddsFront sink_old sink_new) end writes);
     short = λ is. elim (streams.short is) [
       | inl none ↦ inl none
-      | inr some ↦ inr (some.0, some.1, stream_written (AddsFront sink_old sink_new) some.0 some.2)
+      | inr some ↦ inr (some.0, some.1, stream_written (AddsFront sink_old sink_new) some.0 (of_stops some.0 sink_old sink_new some.2))
     ];
   }

@@ -1,4 +1,6 @@
-use Rattle.std.proofs.Common.{◌≤◌, ◌++◌, drop}
+use Rattle.std.proofs.Common.{◌≡◌, ◌+◌, ◌≤◌, ◌++◌, take, drop}
+use Rattle.std.specs.List.{sum_by}
+use Rattle.reply_frames.specs.Replies.{entry_length}
 use Rattle.node_run.specs.Frames.{WritesSoFar, journal_frames}
 use Rattle.node_run.proofs.write.write_journal.Given as goal
 
@@ -6,3 +8,4 @@ abbrev pub invariant-loop-entry : goal.invariant-loop-entry
 invariant-loop-entry g l =
     WritesSoFar (g.K.Sink.written l.initial.sink) (g.K.Sink.written l.sink) (journal_frames l.kernel 1 l.entries) (l.gathered ++ journal_frames l.kernel l.running (drop l.entry-index l.entries))
     × (g.K.Sink.faults l.initial.sink ≤ g.K.Sink.faults l.sink)
+    × (l.running ≡ 1 + sum_by entry_length (take l.entry-index l.entries))
