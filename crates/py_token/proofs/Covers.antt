@@ -189,7 +189,7 @@ white_more c bytes h gap rest is blank = white h blank
 carriage_more : (c : ℕ) (bytes : List ℕ) → c ≡ 13 → ends_line bytes ≡ true → (gap rest : List ℕ) → bytes ≡ gap ++ rest → Blank gap rest → Blank ((c ∷ []) ++ gap) rest
 carriage_more c bytes at h gap rest is blank = subst (λ k. Blank (k ∷ gap) rest) (sym at) (carriage (ap ends_line (sym is) ∙ h) blank)
 
-stops : (p : ℕ → Bool) (xs : List ℕ) → next_is p (drop (prefix_len p xs) xs) ≡ false
+pub stops : (p : ℕ → Bool) (xs : List ℕ) → next_is p (drop (prefix_len p xs) xs) ≡ false
 stops p [] = refl
 stops p (x ∷ xs) = by_first (p x) refl (stops p xs)
   where

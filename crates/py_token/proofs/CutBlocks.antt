@@ -25,7 +25,7 @@ IsStack [] = ⊥
 IsStack (d ∷ []) = d ≡ 0
 IsStack (d ∷ e ∷ ds) = (0 < d) × IsStack (e ∷ ds)
 
-positive : (d : ℕ) → 0 < d → eqb d 0 ≡ false
+pub positive : (d : ℕ) → 0 < d → eqb d 0 ≡ false
 positive d h = grind (arith, nat_tests)
 
 opened_more : (d : ℕ) (ds : List ℕ) → 0 < d → opened (d ∷ ds) ≡ suc (opened ds)

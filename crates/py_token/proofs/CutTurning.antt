@@ -4,7 +4,7 @@ use Rattle.std.specs.List.{prefix_len, AllByRecursion}
 use Rattle.py_names.specs.Names.{continues_name}
 use Rattle.py_token.specs.declared.faults.TokenFault.{TokenFault}
 use Rattle.py_token.specs.declared.kinds.Kind.{Kind}
-use Rattle.py_token.specs.declared.kinds.Kind.TheVariants.{Keyword, Newline, Indent, Dedent, End}
+use Rattle.py_token.specs.declared.kinds.Kind.TheVariants.{Newline, Indent, Dedent, End}
 use Rattle.py_token.specs.declared.kinds.Keyword as keyword
 use Rattle.py_token.specs.declared.kinds.Token.{Token}
 use Rattle.py_token.specs.declared.lines.Depths.{Depths}
@@ -130,12 +130,12 @@ pub record Tells (line : Line) (t : Turn) : Type 0 where
   pub level : level (opened line.depths) (kinds t.tokens) ≡ opened t.line.depths
   pub begins : begins_line (is_start line.spot) (kinds t.tokens) ≡ is_start t.line.spot
 
-start_with_tab : (at : ℕ) (spot : Spot) → is_start (with_tab at spot) ≡ is_start spot
+pub start_with_tab : (at : ℕ) (spot : Spot) → is_start (with_tab at spot) ≡ is_start spot
 start_with_tab at (Start from None) = refl
 start_with_tab at (Start from (Some tab)) = refl
 start_with_tab at Inside = refl
 
-start_without_tab : (spot : Spot) → is_start (without_tab spot) ≡ is_start spot
+pub start_without_tab : (spot : Spot) → is_start (without_tab spot) ≡ is_start spot
 start_without_tab (Start from tab) = refl
 start_without_tab Inside = refl
 

@@ -13,3 +13,5 @@ pub mod CutTurning
 pub mod CutReading
 pub mod CutReaching
 pub mod Cutting
+pub mod Depths
+pub mod Indented

@@ -6,3 +6,4 @@ pub mod Gives
 pub mod Bodies
 pub mod Texts
 pub mod Cuts
+pub mod Indentation

@@ -5,3 +5,4 @@ pub mod Headline
 pub mod Stepping
 pub mod Going
 pub mod Feeding
+pub mod Unmoved

@@ -1,7 +1,9 @@
 -- Which entry of a journal answers which request.
 use Rattle.std.specs.Prelude.{◌≡◌, ℕ, Bool, true, false, List, [], ◌∷◌, ◌++◌, length, filter, Some}
+use Rattle.std.specs.List.{AllByRecursion}
 use Rattle.session_core.specs.declared.request.Request.{Request}
 use Rattle.session_core.specs.declared.entry.Entry.{Entry}
+use Rattle.session_core.specs.Asks.{is_move}
 use Rattle.session_core.specs.declared.entry.Entry.TheVariants.{Opened, Ran, Died, Dead, Sealed, Moved, Adopted, Refused, Resumed}
 use Rattle.session_core.specs.Legal.{Phase, settled, sealed, arriving, progress_of, owner_after, asked_by, asked}
 
@@ -41,3 +43,7 @@ pub record IsRunOnce (in_list : Request → Bool) (journal : List Entry) (k : �
   pub answers : AnswersNext in_list before entry k r
   pub by_owner : owner_after before ≡ Some (host_of entry)
   pub once : (others : List Entry) (other : Entry) (s : Request) → Has journal others other → AnswersNext in_list others other k s → (others ≡ before) × (other ≡ entry)
+
+-- none of these requests asks to move
+abbrev pub NoneMoves : List Request → Type 0
+NoneMoves rs = AllByRecursion (λ r. is_move r.ask ≡ false) rs

@@ -4,7 +4,6 @@ use Rattle.std.specs.List.{flat_map, AllByRecursion}
 use Rattle.nb_outside.specs.declared.feed.Drawn.{Drawn}
 use Rattle.nb_outside.specs.declared.feed.Drawn.TheVariants.{Failed}
 use Rattle.nb_outside.specs.Feeds.{Seen, HasAll, Fed}
-use Rattle.session_core.specs.declared.entry.DiedCause.{DiedCause}
 use Rattle.session_core.specs.declared.entry.DiedCause.TheVariants.{OutOfMemory, TooMany}
 use Rattle.session_core.specs.declared.entry.Entry.{Entry}
 use Rattle.session_core.specs.declared.entry.Entry.TheVariants.{Opened, Ran, Died, Dead, Sealed, Moved, Adopted, Refused, Resumed}

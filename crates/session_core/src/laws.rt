@@ -3,7 +3,7 @@
 ghost use Rattle.std.specs.Prelude.{◌≡◌, ℕ, List, ◌∷◌, [], ◌++◌};
 ghost use Rattle.session_core.specs.declared.entry.Entry.{Entry};
 ghost use Rattle.session_core.specs.Legal.{IsLegal, MayCome, progress_of};
-ghost use Rattle.std.specs.Prelude.{◌<◌, ◌≤◌, ◌⊎◌, length, slice_get, Some};
+ghost use Rattle.std.specs.Prelude.{◌≢◌, ◌<◌, ◌≤◌, ◌⊎◌, length, slice_get, Some};
 ghost use Rattle.session_core.specs.declared.request.Header.{Header};
 ghost use Rattle.session_core.specs.declared.request.Channel.{Channel};
 ghost use Rattle.session_core.specs.declared.request.Request.{Request};
@@ -11,11 +11,13 @@ ghost use Rattle.session_core.specs.Asks.{is_main, is_control};
 ghost use Rattle.session_core.specs.Legal.{main_asked, control_asked};
 ghost use Rattle.session_core.specs.Machine.{Session, Event, opened_session, Happen, main_admitted, control_admitted, HasResident, IsSeated};
 ghost use Rattle.std.specs.Prelude.{Option};
-ghost use Rattle.session_core.specs.Answering.{IsRunOnce};
+ghost use Rattle.session_core.specs.Answering.{IsRunOnce, NoneMoves};
 ghost use Rattle.nb_outside.specs.declared.feed.Drawn.{Drawn};
 ghost use Rattle.graph_model.specs.declared.plan.Certified.{Certified};
 ghost use Rattle.session_core.specs.declared.reply.Reply.{Reply};
-ghost use Rattle.session_core.specs.declared.entry.Entry.TheVariants.{Ran, Adopted, Refused};
+ghost use Rattle.session_core.specs.declared.entry.Entry.TheVariants.{Opened, Ran, Adopted, Refused};
+ghost use Rattle.session_core.specs.Entries.{IsOfMove};
+ghost use Rattle.session_core.specs.Legal.{asked, owner_after};
 ghost use Rattle.session_core.specs.declared.entry.MoveRefusal.TheVariants.{Stuck};
 ghost use Rattle.session_core.specs.Meanings.{more};
 ghost use Rattle.session_core.specs.Legal.{HasBestPlan, NamesStuck};
@@ -68,6 +70,25 @@ pub fn each_request_is_run_once_by_the_owner_then<E: Engine>()
     ensures control { (hosts host : ℕ) (request : Header) (channel : Channel) (events : List Event) (s : Session) (k : ℕ) (r : Request) → host < hosts
         → Happen E.meaning hosts (opened_session host request channel) events s → slice_get (control_admitted events) k ≡ Some r
         → (length (control_asked s.journal) ≤ k) ⊎ IsRunOnce is_control s.journal k r }
+{}
+
+/// Each request that a legal journal answers is answered by one of its entries and by no other, and that entry's host owned the
+/// session there.
+pub fn each_answer_is_given_once_by_the_owner_then<E: Engine>()
+    ensures main { (hosts : ℕ) (journal : List Entry) (k : ℕ) (r : Request) → IsLegal E.meaning hosts journal
+        → slice_get (main_asked journal) k ≡ Some r → IsRunOnce is_main journal k r }
+    ensures control { (hosts : ℕ) (journal : List Entry) (k : ℕ) (r : Request) → IsLegal E.meaning hosts journal
+        → slice_get (control_asked journal) k ≡ Some r → IsRunOnce is_control journal k r }
+{}
+
+/// Without requests to move no journal is sealed: no entry of a legal journal that answers none of them is of a move, and the host
+/// of its opening owns the session throughout.
+pub fn without_requests_to_move_no_journal_is_sealed<E: Engine>()
+    ensures stays { (hosts : ℕ) (journal before : List Entry) (e : Entry) → IsLegal E.meaning hosts journal → NoneMoves (asked journal)
+        → Has journal before e → ¬ IsOfMove e }
+    ensures owner { (hosts host : ℕ) (request : Header) (channel : Channel) (journal before rest : List Entry) → IsLegal E.meaning hosts journal
+        → NoneMoves (asked journal) → Has journal [] (Opened host request channel) → journal ≡ before ++ rest → before ≢ []
+        → owner_after before ≡ Some host }
 {}
 
 /// Each reply is that of one kernel that never moved: the answer to the ask with its draws, after all that was served before.
