@@ -15,3 +15,5 @@ pub mod CutReaching
 pub mod Cutting
 pub mod Depths
 pub mod Indented
+pub mod Misfit
+pub mod Refused

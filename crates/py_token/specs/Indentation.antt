@@ -1,10 +1,11 @@
 -- Indentation: a stack of open depths over the lines of a text.
-use Rattle.std.specs.Prelude.{◌≡◌, ◌⊎◌, ℕ, ◌<◌, true, List, [], ◌∷◌, ◌++◌, map, take, replicate}
+use Rattle.std.specs.Prelude.{◌≡◌, ◌≢◌, ◌⊎◌, ℕ, ◌+◌, ◌<◌, true, List, [], ◌∷◌, ◌++◌, map, take, drop, replicate, slice_range, Ok}
 use Rattle.std.specs.List.{AllByRecursion}
 use Rattle.py_token.specs.declared.kinds.Kind.{Kind}
 use Rattle.py_token.specs.declared.kinds.Kind.TheVariants.{Newline, Indent, Dedent, End}
 use Rattle.py_token.specs.declared.kinds.Token.{Token}
-use Rattle.py_token.specs.Lines.{brackets_after}
+use Rattle.py_token.specs.Lines.{brackets_after, tokens_of}
+use Rattle.py_token.specs.Laws.{Blank}
 use Rattle.py_token.specs.Cuts.{kinds, is_word}
 
 -- Before that place are that many spaces, and before these nothing, or the line feed of the line above.
@@ -19,6 +20,20 @@ pub data Shifts (depth : ℕ) : List ℕ → List Kind → List ℕ → Type 0 w
   opens : (top : ℕ) (below : List ℕ) → top < depth → Shifts depth (top ∷ below) (Indent ∷ []) (depth ∷ top ∷ below)
   -- the depth of any other line is open, and each deeper one ends, with a Dedent
   ends : (deeper below : List ℕ) → AllByRecursion (λ d. depth < d) deeper → Shifts depth (deeper ++ depth ∷ below) (map (λ d. Dedent) deeper) (depth ∷ below)
+
+-- no line has that depth: it isn't open, and less than the deepest depth that is
+pub record IsMisfit (depth : ℕ) (stack : List ℕ) : Type 0 where
+  pub deepest : ℕ
+  pub others : List ℕ
+  pub is_stack : stack ≡ deepest ∷ others
+  pub less : depth < deepest
+  pub not_open : AllByRecursion (λ d. d ≢ depth) stack
+
+-- depths that descend to 0
+abbrev pub Descends : List ℕ → Type 0
+Descends [] = ⊥
+Descends (d ∷ []) = d ≡ 0
+Descends (d ∷ e ∷ below) = (e < d) × Descends (e ∷ below)
 
 -- how many brackets are open after those tokens, if `n` are before them
 abbrev pub brackets : ℕ → List Kind → ℕ
@@ -50,3 +65,19 @@ pub data Lines (code : List ℕ) : List ℕ → List Token → List ℕ → Type
   unended : {stack left : List ℕ} (line last : List Token) → IsLine code stack left line → 0 < brackets 0 (kinds line) → Closes left last → Lines code stack (line ++ last) left
   -- the text ends after its last line
   end : {stack : List ℕ} {tokens : List Token} → Closes stack tokens → Lines code stack tokens stack
+
+-- A line that is refused. It begins at `from`, after a line feed, and its first byte that isn't blank is at `at`. The text above it has
+-- tokens, after which no bracket is open. Its depth is less than the deepest of the depths that they leave open, and isn't open.
+pub record Misfits (code : List ℕ) (at : ℕ) : Type 0 where
+  pub from : ℕ
+  pub depth : ℕ
+  pub place : at ≡ from + depth
+  pub begins : (lines : List ℕ) × (take from code ≡ lines ++ 10 ∷ [])
+  pub blank : Blank (slice_range code from at) (drop at code)
+  pub one_line : AllByRecursion (λ c. c ≢ 10) (slice_range code from at)
+  pub above : List Token
+  pub stack : List ℕ
+  pub are_tokens : tokens_of (take from code) ≡ Ok above
+  pub leaves : Lines (take from code) (0 ∷ []) above stack
+  pub no_bracket : brackets 0 (kinds above) ≡ 0
+  pub misfit : IsMisfit depth stack

@@ -1,10 +1,23 @@
-ghost use Rattle.std.specs.Prelude.{◌≡◌, ◌∷◌, [], ℕ, List, Ok};
+ghost use Rattle.std.specs.Prelude.{◌≡◌, ◌∷◌, [], ℕ, List, Ok, Err};
+ghost use Rattle.py_token.specs.declared.faults.TokenFault.TheVariants.{BadIndent};
+ghost use Rattle.py_token.specs.declared.kinds.Kind.{Kind};
 ghost use Rattle.py_token.specs.declared.kinds.Token.{Token};
 ghost use Rattle.py_token.specs.Lines.{tokens_of};
-ghost use Rattle.py_token.specs.Indentation.{Lines};
+ghost use Rattle.py_token.specs.Indentation.{Shifts, Descends, Lines, Misfits};
 
 /// The tokens of a text are lines, whose `Indent`s and `Dedent`s are those that the stack of open depths gives for the depth
 /// at which the line's first word stands. At first 0 alone is open.
 pub fn lines_are_indented()
     ensures { (code : List ℕ) (tokens : List Token) → tokens_of code ≡ Ok tokens → (left : List ℕ) × Lines code (0 ∷ []) tokens left }
+{}
+
+/// A text is refused for a wrong indent at a place only if a line stands there whose depth is less than the deepest of the
+/// depths that the text above it leaves open, and is none of them.
+pub fn a_bad_indent_is_not_open()
+    ensures { (code : List ℕ) (at : ℕ) → tokens_of code ≡ Err (BadIndent at) → Misfits code at }
+{}
+
+/// The depths that are open descend to 0.
+pub fn open_depths_descend()
+    ensures { (depth : ℕ) (stack after : List ℕ) (markers : List Kind) → Shifts depth stack markers after → Descends stack → Descends after }
 {}

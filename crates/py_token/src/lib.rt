@@ -1,5 +1,7 @@
-//! The tokens of a text of the language. Laws say that a section of a text, cut out alone, has the same tokens, and that the
-//! tokens of a text are lines whose `Indent`s and `Dedent`s go by a stack of open depths (`lines_are_indented`).
+//! The tokens of a text of the language. A law says that a section of a text, cut out alone, has the same tokens. The rule of
+//! indentation stands in `specs/Indentation.antt`, as a stack of open depths over lines. Laws say that the tokens of a text
+//! are such lines (`lines_are_indented`), that a wrong indent is a depth that isn't open (`a_bad_indent_is_not_open`), and
+//! that the open depths descend to 0 (`open_depths_descend`).
 #![tactic(auto)]
 
 mod blocks;
@@ -19,7 +21,7 @@ mod words;
 
 pub use cut_laws::a_cut_text_has_the_same_tokens;
 pub use faults::{TokenError, TokenFault};
-pub use indentation::lines_are_indented;
+pub use indentation::{a_bad_indent_is_not_open, lines_are_indented, open_depths_descend};
 pub use kinds::{Keyword, Kind, Symbol, Token};
 pub use read::tokens;
 pub use words::word;
