@@ -29,7 +29,7 @@ pub data Tail (code left after : List ℕ) (n : ℕ) (ts : List Token) : Type 0 
   newline : (t : Token) (more : List Token) → ts ≡ t ∷ more → t.kind ≡ Newline → n ≡ 0 → Lines code after more left → Tail code left after n ts
   unended : 0 < n → Closes after ts → after ≡ left → Tail code left after n ts
 
--- words, and after the line's end or the text's
+-- words, and then the line's end or the text's
 pub record Rest (code left after : List ℕ) (n : ℕ) (ts : List Token) : Type 0 where
   pub words : List Token
   pub others : List Token

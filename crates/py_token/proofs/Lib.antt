@@ -17,3 +17,4 @@ pub mod Depths
 pub mod Indented
 pub mod Misfit
 pub mod Refused
+pub mod Joined

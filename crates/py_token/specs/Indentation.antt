@@ -1,5 +1,5 @@
 -- Indentation: a stack of open depths over the lines of a text.
-use Rattle.std.specs.Prelude.{◌≡◌, ◌≢◌, ◌⊎◌, ℕ, ◌+◌, ◌<◌, true, List, [], ◌∷◌, ◌++◌, map, take, drop, replicate, slice_range, Ok}
+use Rattle.std.specs.Prelude.{◌≡◌, ◌≢◌, ◌⊎◌, ℕ, ◌+◌, ◌<◌, true, List, [], ◌∷◌, ◌++◌, map, take, drop, get_or, replicate, slice_range, ◌≤◌, Ok}
 use Rattle.std.specs.List.{AllByRecursion}
 use Rattle.py_token.specs.declared.kinds.Kind.{Kind}
 use Rattle.py_token.specs.declared.kinds.Kind.TheVariants.{Newline, Indent, Dedent, End}
@@ -20,6 +20,10 @@ pub data Shifts (depth : ℕ) : List ℕ → List Kind → List ℕ → Type 0 w
   opens : (top : ℕ) (below : List ℕ) → top < depth → Shifts depth (top ∷ below) (Indent ∷ []) (depth ∷ top ∷ below)
   -- the depth of any other line is open, and each deeper one ends, with a Dedent
   ends : (deeper below : List ℕ) → AllByRecursion (λ d. depth < d) deeper → Shifts depth (deeper ++ depth ∷ below) (map (λ d. Dedent) deeper) (depth ∷ below)
+
+-- none of the bytes from a place up to another is a line feed
+abbrev pub InOneLine : List ℕ → ℕ → ℕ → Type 0
+InOneLine code from to = (i : ℕ) → from ≤ i → i < to → get_or code i 0 ≢ 10
 
 -- no line has that depth: it isn't open, and less than the deepest depth that is
 pub record IsMisfit (depth : ℕ) (stack : List ℕ) : Type 0 where

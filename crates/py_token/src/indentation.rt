@@ -1,14 +1,21 @@
-ghost use Rattle.std.specs.Prelude.{◌≡◌, ◌∷◌, [], ℕ, List, Ok, Err};
+ghost use Rattle.std.specs.Prelude.{◌≡◌, ◌∷◌, ◌++◌, [], ℕ, true, List, Ok, Err};
 ghost use Rattle.py_token.specs.declared.faults.TokenFault.TheVariants.{BadIndent};
 ghost use Rattle.py_token.specs.declared.kinds.Kind.{Kind};
 ghost use Rattle.py_token.specs.declared.kinds.Token.{Token};
 ghost use Rattle.py_token.specs.Lines.{tokens_of};
-ghost use Rattle.py_token.specs.Indentation.{Shifts, Descends, Lines, Misfits};
+ghost use Rattle.py_token.specs.Cuts.{kinds, is_word};
+ghost use Rattle.py_token.specs.Indentation.{Shifts, Descends, InOneLine, brackets, Lines, Misfits};
 
 /// The tokens of a text are lines, whose `Indent`s and `Dedent`s are those that the stack of open depths gives for the depth
 /// at which the line's first word stands. At first 0 alone is open.
 pub fn lines_are_indented()
     ensures { (code : List ℕ) (tokens : List Token) → tokens_of code ≡ Ok tokens → (left : List ℕ) × Lines code (0 ∷ []) tokens left }
+{}
+
+/// After a word that leaves no bracket open, no line feed stands before the next token: only a `Newline` ends the line.
+pub fn lines_go_on_in_brackets_alone()
+    ensures { (code : List ℕ) (before after : List Token) (word next : Token) → tokens_of code ≡ Ok (before ++ word ∷ next ∷ after) → is_word word.kind ≡ true
+        → brackets 0 (kinds (before ++ word ∷ [])) ≡ 0 → InOneLine code word.end next.start }
 {}
 
 /// A text is refused for a wrong indent at a place only if a line stands there whose depth is less than the deepest of the

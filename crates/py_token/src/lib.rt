@@ -21,7 +21,9 @@ mod words;
 
 pub use cut_laws::a_cut_text_has_the_same_tokens;
 pub use faults::{TokenError, TokenFault};
-pub use indentation::{a_bad_indent_is_not_open, lines_are_indented, open_depths_descend};
+pub use indentation::{
+    a_bad_indent_is_not_open, lines_are_indented, lines_go_on_in_brackets_alone, open_depths_descend,
+};
 pub use kinds::{Keyword, Kind, Symbol, Token};
 pub use read::tokens;
 pub use words::word;
