@@ -1,5 +1,5 @@
 -- Within a line, a line feed stands only where a bracket is open.
-use Rattle.std.proofs.Common.{◌≡◌, ℕ, zero, suc, pred, ◌+◌, ◌-◌, ◌<◌, ◌≤◌, Bool, true, false, cond, eqb, ltb, not, List, [], ◌∷◌, ◌++◌, drop, get_or, Some, None, Result, Ok, refl, sym, ap, ◌∙◌, subst, append_assoc, arith}
+use Rattle.std.proofs.Common.{◌≡◌, ℕ, zero, suc, pred, ◌+◌, ◌-◌, ◌≤◌, Bool, true, false, cond, eqb, ltb, not, List, [], ◌∷◌, ◌++◌, drop, get_or, Some, None, Result, Ok, refl, sym, ap, ◌∙◌, subst, append_assoc, arith}
 use Rattle.std.specs.Prelude.{◌≢◌}
 use Rattle.std.specs.List.{prefix_len}
 use Rattle.std.proofs.lemmas.Bool.Decides.{nat_tests}
@@ -77,7 +77,7 @@ joined_given code at n [] ts h l k b = k b
 joined_given code at n (m ∷ ms) ts h l k b = (
   λ e z i above below. absurd (omega (arith, above, below, h.0.0)),
   subst (λ p. Joined code (is_word m.kind) p (brackets_after m.kind n) (ms ++ ts)) (sym h.0.1)
-  (subst (λ j. Joined code (is_word m.kind) at j (ms ++ ts)) (sym (layout_after m.kind n l.0)) (joined_given code at n ms ts h.1 l.1 k (is_word m.kind))),
+      (subst (λ j. Joined code (is_word m.kind) at j (ms ++ ts)) (sym (layout_after m.kind n l.0)) (joined_given code at n ms ts h.1 l.1 k (is_word m.kind))),
 )
 
 joined_word : (code : List ℕ) (b : Bool) (at n w : ℕ) (k : Kind) (ts : List Token) → is_word k ≡ true → Joined code true (at + w) (brackets_after k n) ts → Joined code b at n (token k at w ∷ ts)

@@ -1,5 +1,5 @@
 -- A line whose depth isn't open, and what else a fault can't be.
-use Rattle.std.proofs.Common.{◌≡◌, ℕ, zero, suc, ◌+◌, ◌-◌, ◌<◌, Bool, true, false, cond, eqb, ltb, leb, ◌^◌, pos, List, [], ◌∷◌, ◌++◌, take, drop, Option, Some, None, Result, Ok, Err, refl, sym, ◌∙◌, subst, arith}
+use Rattle.std.proofs.Common.{map, ap, ◌≡◌, ◌⊎◌, inl, inr, ℕ, zero, suc, ◌+◌, ◌-◌, ◌<◌, Bool, true, false, cond, eqb, ltb, leb, ◌^◌, pos, List, [], ◌∷◌, ◌++◌, take, drop, Option, Some, None, Result, Ok, Err, refl, sym, ◌∙◌, subst, arith}
 use Rattle.std.specs.Prelude.{◌≢◌}
 use Rattle.std.specs.List.{AllByRecursion, prefix_len}
 use Rattle.std.specs.Char.{is_ascii_digit}
@@ -9,7 +9,7 @@ use Rattle.py_names.specs.Names.{begins_name, continues_name}
 use Rattle.py_token.specs.declared.faults.TokenFault.{TokenFault}
 use Rattle.py_token.specs.declared.faults.TokenFault.TheVariants.{BadChar, OpenText, BadIndent, WideNumber, LongName}
 use Rattle.py_token.specs.declared.kinds.Kind.{Kind}
-use Rattle.py_token.specs.declared.kinds.Kind.TheVariants.{Number}
+use Rattle.py_token.specs.declared.kinds.Kind.TheVariants.{Number, Indent, Dedent}
 use Rattle.py_token.specs.declared.kinds.Symbol as operator
 use Rattle.py_token.specs.declared.lines.Depths.{Depths}
 use Rattle.py_token.specs.declared.lines.Lexeme.{Lexeme}
@@ -20,9 +20,10 @@ use Rattle.py_token.specs.declared.pieces.Body.TheVariants.{Closed, Unclosed, Sp
 use Rattle.py_token.specs.Spellings.{decimal, is_quote}
 use Rattle.py_token.specs.Lexemes.{next_is, named, keyword_of, name_at, follows_no_number, number_width, number_at, body, text_lexeme, text_at, operator_lexeme, operator_at, lexeme_at}
 use Rattle.py_token.specs.Lines.{ends_block, shallower, indented, begun}
+use Rattle.py_token.specs.Cuts.{kinds}
 use Rattle.py_token.specs.Indentation.{Shifts, opens, ends, IsMisfit, Descends}
 use Rattle.py_token.proofs.Escapes.{eqb_is}
-use Rattle.py_token.proofs.Depths.{begun_shifts}
+use Rattle.py_token.proofs.Depths.{indented_shifts, begun_shifts}
 
 -- ---- open depths descend
 
@@ -102,6 +103,61 @@ unfolding begun
 begun_fault at p (Start from None) ds d h = let w = indented_fault at (at - from) ds (BadIndent p) d h in (from, refl, cc (w.0), w.1)
 begun_fault at p (Start from (Some tab)) ds d h = cc
 begun_fault at p Inside ds d h = cc
+
+-- ---- each depth has one list of markers, or none
+
+-- a depth shifts in one of two ways
+data Ways (depth : ℕ) (stack : List ℕ) (markers : List Kind) (after : List ℕ) : Type 0 where
+  up : (top : ℕ) (below : List ℕ) → stack ≡ top ∷ below → top < depth → markers ≡ Indent ∷ [] → after ≡ depth ∷ stack → Ways depth stack markers after
+  down : (deeper below : List ℕ) → stack ≡ deeper ++ depth ∷ below → AllByRecursion (λ d. depth < d) deeper → markers ≡ map (λ d. Dedent) deeper → after ≡ depth ∷ below
+      → Ways depth stack markers after
+
+ways : (depth : ℕ) (stack after : List ℕ) (markers : List Kind) → Shifts depth stack markers after → Ways depth stack markers after
+ways depth stack after markers (opens top below h) = up top below refl h refl refl
+ways depth stack after markers (ends deeper below h) = down deeper below refl h refl refl
+
+not_up_and_down : (depth top : ℕ) (below deeper under : List ℕ) → top < depth → AllByRecursion (λ d. depth < d) deeper → top ∷ below ≡ deeper ++ depth ∷ under → ⊥
+not_up_and_down depth top below [] under h k e = let same : top ≡ depth = cc in omega (arith, h, same)
+not_up_and_down depth top below (x ∷ deeper) under h k e = let same : top ≡ x = cc in omega (arith, h, k.0, same)
+
+same_down : (depth : ℕ) (xs ys under over : List ℕ) → AllByRecursion (λ d. depth < d) xs → AllByRecursion (λ d. depth < d) ys → xs ++ depth ∷ under ≡ ys ++ depth ∷ over → (xs ≡ ys) × (under ≡ over)
+same_down depth [] [] under over h k e = (refl, cc)
+same_down depth [] (y ∷ ys) under over h k e = let same : depth ≡ y = cc in let no : ⊥ = omega (arith, k.0, same) in absurd no
+same_down depth (x ∷ xs) [] under over h k e = let same : x ≡ depth = cc in let no : ⊥ = omega (arith, h.0, same) in absurd no
+same_down depth (x ∷ xs) (y ∷ ys) under over h k e =
+    let head : x ≡ y = cc in
+    let tail : xs ++ depth ∷ under ≡ ys ++ depth ∷ over = cc in
+    let w = same_down depth xs ys under over h.1 k.1 tail in
+    (ap (λ z. z ∷ xs) head ∙ ap (◌∷◌ y) w.0, w.1)
+
+same_ways : (depth : ℕ) (stack after other : List ℕ) (markers others : List Kind) → Ways depth stack markers after → Ways depth stack others other → (markers ≡ others) × (after ≡ other)
+same_ways depth stack after other markers others (up t b e h m a) (up t' b' e' h' m' a') = (m ∙ sym m', a ∙ sym a')
+same_ways depth stack after other markers others (up t b e h m a) (down d b' e' h' m' a') = absurd (not_up_and_down depth t b d b' h h' (sym e ∙ e'))
+same_ways depth stack after other markers others (down d b e h m a) (up t b' e' h' m' a') = absurd (not_up_and_down depth t b' d b h' h (sym e' ∙ e))
+same_ways depth stack after other markers others (down d b e h m a) (down d' b' e' h' m' a') =
+    let w = same_down depth d d' b b' h h' (sym e ∙ e') in
+    (m ∙ ap (map (λ x. Dedent)) w.0 ∙ sym m', a ∙ ap (◌∷◌ depth) w.1 ∙ sym a')
+
+pub shifts_once : (depth : ℕ) (stack after other : List ℕ) (markers others : List Kind) → Shifts depth stack markers after → Shifts depth stack others other → (markers ≡ others) × (after ≡ other)
+shifts_once depth stack after other markers others h k = same_ways depth stack after other markers others (ways depth stack after markers h) (ways depth stack other others k)
+
+not_among : (depth : ℕ) (deeper below : List ℕ) → AllByRecursion (λ d. d ≢ depth) (deeper ++ depth ∷ below) → ⊥
+not_among depth [] below h = h.0 refl
+not_among depth (x ∷ deeper) below h = not_among depth deeper below h.1
+
+pub misfit_never : (depth : ℕ) (stack after : List ℕ) (markers : List Kind) → IsMisfit depth stack → Shifts depth stack markers after → ⊥
+misfit_never depth stack after markers m h = on (ways depth stack after markers h)
+  where
+    on : Ways depth stack markers after → ⊥
+    on (up top below e less k a) = let same : top ≡ m.deepest = cc (e, m.is_stack) in omega (arith, less, m.less, same)
+    on (down deeper below e are k a) = not_among depth deeper below (subst (AllByRecursion (λ d. d ≢ depth)) e m.not_open)
+
+pub misfit_or_shifts : (depth : ℕ) (stack : List ℕ) → Descends stack → IsMisfit depth stack ⊎ ((markers : List Kind) × (after : List ℕ) × Shifts depth stack markers after)
+misfit_or_shifts depth stack d = on (indented 0 depth stack) refl
+  where
+    on : (r : Result Depths TokenFault) → indented 0 depth stack ≡ r → IsMisfit depth stack ⊎ ((markers : List Kind) × (after : List ℕ) × Shifts depth stack markers after)
+    on (Ok e) h = inr (kinds e.given, e.depths, (indented_shifts 0 depth stack e h).shifts)
+    on (Err f) h = inl (indented_fault 0 depth stack f d h).1
 
 -- ---- no token is refused so
 

@@ -1,8 +1,8 @@
 -- Where a text is refused for a wrong indent: the line, and the text above it.
-use Rattle.std.proofs.Common.{◌≡◌, ◌&&◌, ⊎_elim, inl, inr, ◌⊎◌, ℕ, zero, suc, pred, ◌+◌, ◌-◌, ◌<◌, Bool, true, false, cond, eqb, List, [], ◌∷◌, ◌++◌, length, take, drop, Option, Some, None, Result, Ok, Err, refl, sym, ap, ◌∙◌, subst, append_assoc, arith, length-append, length-take-le, take-append-drop}
+use Rattle.std.proofs.Common.{◌≡◌, ◌&&◌, ⊎_elim, inl, inr, ◌⊎◌, ℕ, zero, suc, pred, ◌+◌, ◌-◌, ◌<◌, Bool, true, false, cond, eqb, List, [], ◌∷◌, ◌++◌, length, take, drop, get_or, Option, Some, None, Result, Ok, Err, refl, sym, ap, ◌∙◌, subst, append_assoc, arith, length-append, length-take-le, take-append-drop}
 use Rattle.std.specs.Prelude.{◌≢◌}
 use Rattle.std.specs.List.{prefix_len, list_all, slice_range, AllByRecursion}
-use Rattle.std.proofs.lemmas.List.{drop_at}
+use Rattle.std.proofs.lemmas.List.{drop_at, get_or-drop}
 use Rattle.std.proofs.Math.Seq.{take-append_seam, drop-append_seam}
 use Rattle.std.proofs.Math.Numerals.{one-add}
 use Rattle.py_token.specs.declared.faults.TokenFault.{TokenFault}
@@ -19,7 +19,7 @@ use Rattle.py_token.specs.Lexemes.{ends_line}
 use Rattle.py_token.specs.Lines.{token, brackets_after, placed, passed, at_spot, next_line, line_ended, with_tab, without_tab, in_comment, ended, followed, turn, read, start, tokens_of}
 use Rattle.py_token.specs.Laws.{is_white, Blank, nothing}
 use Rattle.py_token.specs.Cuts.{kinds}
-use Rattle.py_token.specs.Indentation.{IsDepth, IsMisfit, Descends, brackets, Lines, Misfits}
+use Rattle.py_token.specs.Indentation.{IsDepth, IsMisfit, Descends, InOneLine, brackets, Lines, Misfits}
 use Rattle.py_token.proofs.Bytes.{prefix_len-le}
 use Rattle.py_token.proofs.Ends.{before_fault, line_fault}
 use Rattle.py_token.proofs.Covers.{white_more, carriage_more, comment_more}
@@ -362,6 +362,19 @@ rest_is : (code cut gap rest : List ℕ) (at : ℕ) → code ≡ cut ++ (gap ++ 
 rest_is code cut gap rest at is place =
     ap (drop at) (is ∙ sym (append_assoc cut gap rest)) ∙ drop_at (cut ++ gap) rest at (length-append cut gap ∙ sym place)
 
+gap_byte : (gap rest : List ℕ) (i : ℕ) → AllByRecursion (λ c. c ≢ 10) gap → i < length gap → get_or (gap ++ rest) i 0 ≢ 10
+gap_byte [] rest i h k = absurd (omega arith)
+gap_byte (x ∷ xs) rest zero h k = h.0
+gap_byte (x ∷ xs) rest (suc i) h k = gap_byte xs rest i h.1 (omega (arith, k))
+
+gap_line : (code cut gap rest : List ℕ) (at : ℕ) → code ≡ cut ++ (gap ++ rest) → at ≡ length cut + length gap → AllByRecursion (λ c. c ≢ 10) gap → InOneLine code (length cut) at
+gap_line code cut gap rest at is place h i above below =
+    let there : drop (length cut) code ≡ gap ++ rest = ap (drop (length cut)) is ∙ drop-append_seam cut (gap ++ rest) in
+    let sum : length cut + (i - length cut) ≡ i = omega (arith, above) in
+    let byte : get_or code i 0 ≡ get_or (gap ++ rest) (i - length cut) 0
+    = ap (λ j. get_or code j 0) (sym sum) ∙ sym (get_or-drop (length cut) code (i - length cut) 0) ∙ ap (λ l. get_or l (i - length cut) 0) there in
+    subst (λ c. c ≢ 10) (sym byte) (gap_byte gap rest (i - length cut) h (omega (arith, above, below, place)))
+
 misfits_by : (code : List ℕ) (p : ℕ) → Later zero 0 start code p → Misfits code p
 unfolding tokens_of
 misfits_by code p k =
@@ -379,7 +392,7 @@ misfits_by code p k =
       place = place;
       begins = (k.feed.0, front ∙ k.feed.1);
       blank = subst (λ g. Blank g (drop p code)) (sym slice) (subst (Blank h.gap) (sym (rest_is code k.cut h.gap h.rest p whole place)) h.blank);
-      one_line = subst (AllByRecursion (λ c. c ≢ 10)) (sym slice) h.one_line;
+      one_line = gap_line code k.cut h.gap h.rest p whole place h.one_line;
       above = k.tokens;
       stack = k.stack;
       are_tokens = subst (λ b. read 0 0 start b ≡ Ok k.tokens) (sym front) k.alone;
