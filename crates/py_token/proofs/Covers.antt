@@ -183,10 +183,10 @@ ended_tiles at line =
 
 -- ---- the whole
 
-white_more : (c : ℕ) (bytes : List ℕ) → is_white c ≡ true → (gap rest : List ℕ) → bytes ≡ gap ++ rest → Blank gap rest → Blank ((c ∷ []) ++ gap) rest
+pub white_more : (c : ℕ) (bytes : List ℕ) → is_white c ≡ true → (gap rest : List ℕ) → bytes ≡ gap ++ rest → Blank gap rest → Blank ((c ∷ []) ++ gap) rest
 white_more c bytes h gap rest is blank = white h blank
 
-carriage_more : (c : ℕ) (bytes : List ℕ) → c ≡ 13 → ends_line bytes ≡ true → (gap rest : List ℕ) → bytes ≡ gap ++ rest → Blank gap rest → Blank ((c ∷ []) ++ gap) rest
+pub carriage_more : (c : ℕ) (bytes : List ℕ) → c ≡ 13 → ends_line bytes ≡ true → (gap rest : List ℕ) → bytes ≡ gap ++ rest → Blank gap rest → Blank ((c ∷ []) ++ gap) rest
 carriage_more c bytes at h gap rest is blank = subst (λ k. Blank (k ∷ gap) rest) (sym at) (carriage (ap ends_line (sym is) ∙ h) blank)
 
 pub stops : (p : ℕ → Bool) (xs : List ℕ) → next_is p (drop (prefix_len p xs) xs) ≡ false
@@ -197,7 +197,7 @@ stops p (x ∷ xs) = by_first (p x) refl (stops p xs)
     by_first true e inner = rw one-add inner
     by_first false e inner = e
 
-comment_more : (c : ℕ) (rest : List ℕ) → c ≡ 35 → (gap after : List ℕ) → drop (prefix_len in_comment rest) rest ≡ gap ++ after → Blank gap after
+pub comment_more : (c : ℕ) (rest : List ℕ) → c ≡ 35 → (gap after : List ℕ) → drop (prefix_len in_comment rest) rest ≡ gap ++ after → Blank gap after
     → Blank ((c ∷ take (prefix_len in_comment rest) rest) ++ gap) after
 comment_more c rest at gap after is blank =
     subst (λ k. Blank ((k ∷ take (prefix_len in_comment rest) rest) ++ gap) after) (sym at)

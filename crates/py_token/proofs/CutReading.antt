@@ -66,7 +66,7 @@ same_list xs ys h = cc
 
 -- ---- one turn more
 
-after_turn : (at n : ℕ) → 0 < n → suc at + pred n ≡ at + n
+pub after_turn : (at n : ℕ) → 0 < n → suc at + pred n ≡ at + n
 after_turn at zero h = absurd (omega arith)
 after_turn at (suc n) h = omega arith
 

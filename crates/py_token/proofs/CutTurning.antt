@@ -265,27 +265,27 @@ quiet_same n p q line other s s' bytes t is same spot h =
       lines = record { spot = moved n p q s s' spot; depths = same.depths; brackets = same.brackets };
     })
 
-ends_line_cut : (xs ys : List ℕ) → 0 < length xs → ends_line (xs ++ ys) ≡ ends_line xs
+pub ends_line_cut : (xs ys : List ℕ) → 0 < length xs → ends_line (xs ++ ys) ≡ ends_line xs
 ends_line_cut [] ys h = absurd (omega arith)
 ends_line_cut (x ∷ xs) ys h = refl
 
-return_turn : (q : ℕ) (other : Line) (xs : List ℕ) → ends_line xs ≡ true → turn q other (13 ∷ xs) ≡ passed 1 other
+pub return_turn : (q : ℕ) (other : Line) (xs : List ℕ) → ends_line xs ≡ true → turn q other (13 ∷ xs) ≡ passed 1 other
 unfolding turn
 return_turn q other xs h = ap (λ b. cond b (passed 1 other) (placed q other (begun q other.spot other.depths) (lexeme_at q (13 ∷ xs)))) h
 
-blank_turn : (q : ℕ) (other : Line) (xs : List ℕ) → turn q other (32 ∷ xs) ≡ passed 1 other
+pub blank_turn : (q : ℕ) (other : Line) (xs : List ℕ) → turn q other (32 ∷ xs) ≡ passed 1 other
 unfolding turn
 blank_turn q other xs = refl
 
-tab_turn : (q : ℕ) (other : Line) (xs : List ℕ) → turn q other (9 ∷ xs) ≡ passed 1 (at_spot (with_tab q other.spot) other)
+pub tab_turn : (q : ℕ) (other : Line) (xs : List ℕ) → turn q other (9 ∷ xs) ≡ passed 1 (at_spot (with_tab q other.spot) other)
 unfolding turn
 tab_turn q other xs = refl
 
-comment_turn : (q : ℕ) (other : Line) (xs : List ℕ) → turn q other (35 ∷ xs) ≡ passed (1 + prefix_len in_comment xs) (at_spot (without_tab other.spot) other)
+pub comment_turn : (q : ℕ) (other : Line) (xs : List ℕ) → turn q other (35 ∷ xs) ≡ passed (1 + prefix_len in_comment xs) (at_spot (without_tab other.spot) other)
 unfolding turn
 comment_turn q other xs = refl
 
-feed_turn : (q : ℕ) (other : Line) (xs : List ℕ) → turn q other (10 ∷ xs) ≡ line_ended q other other.spot
+pub feed_turn : (q : ℕ) (other : Line) (xs : List ℕ) → turn q other (10 ∷ xs) ≡ line_ended q other other.spot
 unfolding turn
 feed_turn q other xs = refl
 

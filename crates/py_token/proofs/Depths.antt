@@ -75,7 +75,7 @@ shifts_by depth ds deeper below left ks parts are given leaves =
     subst (λ a. Shifts depth a ks left) (sym parts) (subst (λ k. Shifts depth (deeper ++ depth ∷ below) k left) (sym given)
     (subst (Shifts depth (deeper ++ depth ∷ below) (map (λ x. Dedent) deeper)) (sym leaves) (ends deeper below are)))
 
-indented_shifts : (at depth : ℕ) (ds : List ℕ) (d : Depths) → indented at depth ds ≡ Ok d → Shifted at depth ds d
+pub indented_shifts : (at depth : ℕ) (ds : List ℕ) (d : Depths) → indented at depth ds ≡ Ok d → Shifted at depth ds d
 unfolding indented
 indented_shifts at depth ds d h = on ds (is_deeper depth ds) refl (shallower at depth ds) (shallower_ended at depth ds) h
   where

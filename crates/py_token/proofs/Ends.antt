@@ -174,7 +174,7 @@ placed_fault at n line (Err g) r f h p q = p (ap Err (fault_same {A = Turn} g f 
 placed_fault at n line (Ok e) (Err g) f h p q = q (ap Err (fault_same {A = Turn} g f h))
 placed_fault at n line (Ok e) (Ok l) f h p q = cc
 
-line_fault : (at : ℕ) (line : Line) (spot : Spot) (f : TokenFault) → line_ended at line spot ≡ Err f → ⊥
+pub line_fault : (at : ℕ) (line : Line) (spot : Spot) (f : TokenFault) → line_ended at line spot ≡ Err f → ⊥
 line_fault at line (Start from tab) f h = cc
 line_fault at line Inside f h = by_brackets (eqb line.brackets 0) _ _ h
   where
@@ -217,7 +217,7 @@ turn_tab at line c rest t h is =
     (λ e. let w = placed_ok at line _ _ t e in subst (λ u. TabBefore (suc at) u.line.spot) w.4 tt)
     is
 
-before_fault : (xs : List Token) (r : Result (List Token) TokenFault) (f : TokenFault) → before xs r ≡ Err f → r ≡ Err f
+pub before_fault : (xs : List Token) (r : Result (List Token) TokenFault) (f : TokenFault) → before xs r ≡ Err f → r ≡ Err f
 before_fault xs (Ok ys) f h = cc
 before_fault xs (Err g) f h = h
 

@@ -15,3 +15,6 @@ pub mod CutReaching
 pub mod Cutting
 pub mod Depths
 pub mod Indented
+pub mod Misfit
+pub mod Refused
+pub mod Joined
