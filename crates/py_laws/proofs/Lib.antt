@@ -28,3 +28,5 @@ pub mod Reporting
 pub mod Closing
 pub mod Validity
 pub mod Knowing
+pub mod Dividing
+pub mod Looping

@@ -1,11 +1,13 @@
-//! Laws of the meaning of a cell: what a cell depends on, what its marks report, that it keeps states valid, and when two
-//! states are the same.
+//! Laws of the meaning of a cell: what a cell depends on, what its marks report, that it keeps states valid, when two
+//! states are the same, that the bounds of loops change nothing, and what floor division is.
 //!
 //! Two states are the same over some names if these have equal values, but for the addresses of objects. Each law is
 //! the contract of a function that does nothing.
 #![tactic(auto)]
 
 mod laws;
+mod loops;
+mod numbers;
 
 pub use laws::{
     a_state_is_the_same_as_itself, cells_depend_on_what_they_look_up, cells_keep_states_closed,
@@ -14,3 +16,5 @@ pub use laws::{
     sameness_goes_both_ways, sameness_goes_on, sameness_is_of_what_is_reached, sameness_joins,
     what_names_reach_is_a_list,
 };
+pub use loops::bounds_of_loops_change_nothing;
+pub use numbers::floor_division_is_by_quotient_and_remainder;
