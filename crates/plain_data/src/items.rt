@@ -131,6 +131,15 @@ impl<T: Drop> Items<T> {
         Ok(())
     }
 
+    /// Puts the elements of another list at the end. After an error the list is unchanged.
+    pub fn append(&mut self, more: Items<T>) -> Result<(), AllocError>
+        ensures ok { OnOk result (self.new ≡ self.old ++ more) }
+        ensures err { OnErr result (self.new ≡ self.old) }
+    {
+        let mut more = more.into_vec();
+        self.items.append(&mut more)
+    }
+
     /// Takes all elements out.
     pub fn clear(&mut self)
         ensures { self.new ≡ [] }

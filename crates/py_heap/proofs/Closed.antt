@@ -103,6 +103,9 @@ module _ (s : State) (at : ℕ) (c : IsClosed s) where
   pub push_closed : (value : Value) → Live value → IsClosed (with_items s at (items ++ value ∷ []))
   push_closed value l = items_closed s at _ c (All-push Live items value (items_live s at c) l)
 
+  pub extend_closed : (more : List Value) → ItemsLive s.heap more → IsClosed (with_items s at (items ++ more))
+  extend_closed more l = items_closed s at _ c (All-append Live items more (items_live s at c) l)
+
   pub insert_closed : (index : ℕ) (value : Value) → Live value → IsClosed (with_items s at (insert items index value))
   insert_closed index value l = items_closed s at _ c
       (All-append Live (take index items) (value ∷ drop index items) (All-take Live index items (items_live s at c))

@@ -23,7 +23,7 @@ use Rattle.py_heap.specs.References.{value_refs, object_refs, AreLive, IsClosed}
 use Rattle.py_heap.specs.States.{empty, with_name, without_name, with_object, with_object_at, with_items, with_pairs, with_uses}
 use Rattle.py_heap.specs.Valid.{IsValidObject, IsValid, meter_limit}
 use Rattle.py_heap.proofs.Pairs.{with_pair_distinct, without_key_distinct}
-use Rattle.py_heap.proofs.Closed.{empty_closed, bind_closed, unbind_closed, add_closed, set_closed, push_closed, insert_closed, remove_closed, clear_closed, put_closed, remove_key_closed, clear_dict_closed, uses_closed}
+use Rattle.py_heap.proofs.Closed.{ItemsLive, empty_closed, bind_closed, unbind_closed, add_closed, set_closed, push_closed, extend_closed, insert_closed, remove_closed, clear_closed, put_closed, remove_key_closed, clear_dict_closed, uses_closed}
 
 abbrev tied : List ℕ → List ℕ → Bool
 tied = eq_by_cmp (slice_cmp nat_cmp)
@@ -129,6 +129,9 @@ module _ (IsOfKind : Def → Type 0) where
 
     pub push_valid : (value : Value) → AreLive s.heap (value_refs value) → IsValid IsOfKind (with_items s at (items ++ value ∷ []))
     push_valid value l = put_there s at (object.List (items ++ value ∷ [])) v (push_closed s at v.closed value l) tt
+
+    pub extend_valid : (more : List Value) → ItemsLive s.heap more → IsValid IsOfKind (with_items s at (items ++ more))
+    extend_valid more l = put_there s at (object.List (items ++ more)) v (extend_closed s at v.closed more l) tt
 
     pub insert_valid : (index : ℕ) (value : Value) → AreLive s.heap (value_refs value) → IsValid IsOfKind (with_items s at (insert items index value))
     insert_valid index value l = put_there s at (object.List (insert items index value)) v (insert_closed s at v.closed index value l) tt

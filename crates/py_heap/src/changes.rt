@@ -8,16 +8,6 @@ use plain_data::Items;
 use py_value::{Key, Value};
 use std::alloc::AllocError;
 
-/// Puts items at the end of others. After an error some of them may be there.
-fn append_all(items: &mut Items<Value>, more: Items<Value>) -> Result<(), AllocError>
-    ensures { OnOk result (items.new ≡ items.old ++ more) }
-{
-    for item in more.into_vec() {
-        items.push(item)?;
-    }
-    Ok(())
-}
-
 /// The changes of one object, each of the kind that it is made on. `State` makes them at addresses.
 impl Object {
     pub(crate) fn set_item(&mut self, index: u32, value: Value)
@@ -42,13 +32,13 @@ impl Object {
         }
     }
 
-    /// Puts items at the end of a list. After an error some of them may be there.
     pub(crate) fn extend_items(&mut self, more: Items<Value>) -> Result<(), AllocError>
         requires { IsTrue (is_list (Some self.old)) }
-        ensures { OnOk result (self.new ≡ Object.List (items_of (Some self.old) ++ more)) }
+        ensures ok { OnOk result (self.new ≡ Object.List (items_of (Some self.old) ++ more)) }
+        ensures err { OnErr result (self.new ≡ self.old) }
     {
         match self {
-            Object::List(items) => append_all(items, more),
+            Object::List(items) => items.append(more),
             _ => unreachable!(),
         }
     }

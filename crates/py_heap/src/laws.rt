@@ -1,4 +1,4 @@
-ghost use Rattle.std.specs.Prelude.{ℕ, ◌≡◌, ◌<◌, ◌≤◌, ◌++◌, Bool, IsTrue, Contains, List, [], ◌∷◌, length, insert, remove, slice_set};
+ghost use Rattle.std.specs.Prelude.{ℕ, ◌≡◌, ◌<◌, ◌≤◌, ◌++◌, Bool, IsTrue, Contains, List, [], ◌∷◌, All, length, insert, remove, slice_set};
 ghost use Rattle.py_names.specs.Names.{is_variable};
 ghost use Rattle.py_tree.specs.declared.statements.Def.{Def};
 ghost use Rattle.py_value.specs.declared.key.Key.{Key};
@@ -29,6 +29,8 @@ pub fn operations_keep_closed()
         → IsClosed (with_items s at (slice_set (items_at s.heap at) index value)) }
     ensures push_item { (s : State) (at : ℕ) (value : Value) → IsClosed s → AreLive s.heap (value_refs value)
         → IsClosed (with_items s at (items_at s.heap at ++ value ∷ [])) }
+    ensures extend_items { (s : State) (at : ℕ) (more : List Value) → IsClosed s → All (λ item. AreLive s.heap (value_refs item)) more
+        → IsClosed (with_items s at (items_at s.heap at ++ more)) }
     ensures insert_item { (s : State) (at index : ℕ) (value : Value) → IsClosed s → AreLive s.heap (value_refs value)
         → IsClosed (with_items s at (insert (items_at s.heap at) index value)) }
     ensures remove_item { (s : State) (at index : ℕ) → IsClosed s → IsClosed (with_items s at (remove (items_at s.heap at) index)) }
@@ -60,6 +62,8 @@ pub fn operations_keep_valid()
         → IsValidBy test (with_items s at (slice_set (items_at s.heap at) index value)) }
     ensures push_item { (test : Def → Bool) (s : State) (at : ℕ) (value : Value) → IsValidBy test s → AreLive s.heap (value_refs value)
         → IsValidBy test (with_items s at (items_at s.heap at ++ value ∷ [])) }
+    ensures extend_items { (test : Def → Bool) (s : State) (at : ℕ) (more : List Value) → IsValidBy test s
+        → All (λ item. AreLive s.heap (value_refs item)) more → IsValidBy test (with_items s at (items_at s.heap at ++ more)) }
     ensures insert_item { (test : Def → Bool) (s : State) (at index : ℕ) (value : Value) → IsValidBy test s → AreLive s.heap (value_refs value)
         → IsValidBy test (with_items s at (insert (items_at s.heap at) index value)) }
     ensures remove_item { (test : Def → Bool) (s : State) (at index : ℕ) → IsValidBy test s

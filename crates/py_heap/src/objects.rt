@@ -100,10 +100,11 @@ impl State {
         heap.objects[at as usize].push_item(value)
     }
 
-    /// Puts items at the end of the list at an address. After an error the state means nothing and may only be dropped.
+    /// Puts items at the end of the list at an address. After an error nothing is changed.
     pub fn extend_items(&mut self, at: u32, more: Items<Value>) -> Result<(), AllocError>
         requires { IsListAt self.old.heap at }
-        ensures { OnOk result (self.new ≡ spec.with_items self.old at (items_at self.old.heap at ++ more)) }
+        ensures ok { OnOk result (self.new ≡ spec.with_items self.old at (items_at self.old.heap at ++ more)) }
+        ensures err { OnErr result (self.new ≡ self.old) }
     {
         let heap = &mut self.heap;
         heap.objects[at as usize].extend_items(more)

@@ -1,4 +1,4 @@
-use Rattle.py_heap.proofs.Closed.{empty_closed, bind_closed, unbind_closed, add_closed, set_closed, push_closed, insert_closed, remove_closed, clear_closed, put_closed, remove_key_closed, clear_dict_closed, uses_closed}
+use Rattle.py_heap.proofs.Closed.{empty_closed, bind_closed, unbind_closed, add_closed, set_closed, push_closed, extend_closed, insert_closed, remove_closed, clear_closed, put_closed, remove_key_closed, clear_dict_closed, uses_closed}
 use Rattle.py_heap.proofs.laws.operations_keep_closed.Goals as goal
 
 pub returns-clause-new : goal.returns-clause-new
@@ -18,6 +18,9 @@ returns-clause-set_item c = λ s at index value h. set_closed s at h index value
 
 pub returns-clause-push_item : goal.returns-clause-push_item
 returns-clause-push_item c = λ s at value h. push_closed s at h value
+
+pub returns-clause-extend_items : goal.returns-clause-extend_items
+returns-clause-extend_items c = λ s at more h l. extend_closed s at h more l
 
 pub returns-clause-insert_item : goal.returns-clause-insert_item
 returns-clause-insert_item c = λ s at index value h. insert_closed s at h index value

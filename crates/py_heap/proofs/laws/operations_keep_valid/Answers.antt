@@ -1,6 +1,6 @@
 use Rattle.std.proofs.Common.{Bool, IsTrue}
 use Rattle.py_tree.specs.declared.statements.Def.{Def}
-use Rattle.py_heap.proofs.Validity.{empty_valid, count_valid, meter_valid, bind_valid, unbind_valid, add_valid, set_valid, push_valid, insert_valid, remove_valid, clear_valid, put_valid, remove_key_valid, clear_dict_valid, uses_valid}
+use Rattle.py_heap.proofs.Validity.{empty_valid, count_valid, meter_valid, bind_valid, unbind_valid, add_valid, set_valid, push_valid, extend_valid, insert_valid, remove_valid, clear_valid, put_valid, remove_key_valid, clear_dict_valid, uses_valid}
 use Rattle.py_heap.proofs.laws.operations_keep_valid.Goals as goal
 
 abbrev Passes : (Def → Bool) → Def → Type 0
@@ -29,6 +29,9 @@ returns-clause-set_item c = λ test s at index value v l. set_valid (Passes test
 
 pub returns-clause-push_item : goal.returns-clause-push_item
 returns-clause-push_item c = λ test s at value v l. push_valid (Passes test) s at v value l
+
+pub returns-clause-extend_items : goal.returns-clause-extend_items
+returns-clause-extend_items c = λ test s at more v l. extend_valid (Passes test) s at v more l
 
 pub returns-clause-insert_item : goal.returns-clause-insert_item
 returns-clause-insert_item c = λ test s at index value v l. insert_valid (Passes test) s at v index value l
