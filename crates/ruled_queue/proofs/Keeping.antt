@@ -9,7 +9,7 @@ use lib.ListN.{get_elem?}
 use Rattle.crossbeam_queue.specs.Fifo.{Pushes, Pops, Forks, Merges, Learns}
 use Rattle.crossbeam_queue.proofs.Lists.{at_set, set_else, at_longer, at_last}
 use Rattle.ruled_queue.specs.declared.rule.View.{View}
-use Rattle.ruled_queue.specs.Rule.{of, Keeps, Fits, Kept, knows, first_view, spent_view, impossible, grow, grown, took, Took, MayPush, Waits, Each, OnlyFirstOpens}
+use Rattle.ruled_queue.specs.Rule.{of, Keeps, Fits, Kept, knows, first_view, spent_view, impossible, grow, grown, looked, took, Took, MayPush, Waits, Each, OnlyFirstOpens}
 
 module _ {T : Type 0} where
   keeps_either : (n : ℕ) (l : List T) (es fs : List (ℕ × List T)) → Keeps n l (es ++ fs) → Keeps n l es ⊎ Keeps n l fs
@@ -210,10 +210,10 @@ module _ {T : Type 0} (number : T → ℕ) where
       later = λ pos n le. ap (λ g. of number n (g ++ items)) (sym same) ∙ h.later n (let g = (mine.gives pos).0 in omega arith);
     }
 
-    pub forks_roles : (pass : ℕ) (v : View T) → v.pops ≡ true → Forks (Kept number IsFit opens) pass v (knows false [] v.lists v.given) (knows true v.popped [] 0)
+    pub forks_roles : (pass : ℕ) (v : View T) → v.pops ≡ true → Forks (Kept number IsFit opens) pass v (knows false [] v.lists v.given) (record (knows true v.popped [] 0) { looks = v.looks })
     forks_roles pass v may items views h at =
         let l : View T = knows false [] v.lists v.given in
-        let r : View T = knows true v.popped [] 0 in
+        let r : View T = record (knows true v.popped [] 0) { looks = v.looks } in
         let mine = h.fits pass v at in
         let vs : List (View T) = set views pass l in
         let all : List T = h.popped ++ items in
@@ -233,9 +233,9 @@ module _ {T : Type 0} (number : T → ℕ) where
           opening = h.opening;
         }
 
-    pub forks_number : (pass : ℕ) (v : View T) → 0 < v.given → Forks (Kept number IsFit opens) pass v (knows v.pops v.popped v.lists (v.given + 1)) (knows false [] ((v.given, []) ∷ []) 0)
+    pub forks_number : (pass : ℕ) (v : View T) → 0 < v.given → Forks (Kept number IsFit opens) pass v (record v { given = v.given + 1 }) (knows false [] ((v.given, []) ∷ []) 0)
     forks_number pass v first items views h at =
-        let l : View T = knows v.pops v.popped v.lists (v.given + 1) in
+        let l : View T = record v { given = v.given + 1 } in
         let r : View T = knows false [] ((v.given, []) ∷ []) 0 in
         let mine = h.fits pass v at in
         let zero_here = mine.gives first in
@@ -271,9 +271,9 @@ module _ {T : Type 0} (number : T → ℕ) where
           opening = h.opening;
         }
 
-    pub merges : (pass : ℕ) (v : View T) (other : ℕ) (w : View T) → w.pops ≡ false → Merges (Kept number IsFit opens) pass v other w (knows v.pops v.popped (v.lists ++ w.lists) (v.given + w.given)) (knows false [] [] 0)
+    pub merges : (pass : ℕ) (v : View T) (other : ℕ) (w : View T) → w.pops ≡ false → Merges (Kept number IsFit opens) pass v other w (record v { lists = v.lists ++ w.lists; given = v.given + w.given }) (knows false [] [] 0)
     merges pass v other w plain items views h at two at' =
-        let both : View T = knows v.pops v.popped (v.lists ++ w.lists) (v.given + w.given) in
+        let both : View T = record v { lists = v.lists ++ w.lists; given = v.given + w.given } in
         let spent : View T = knows false [] [] 0 in
         let vs : List (View T) = set views pass both in
         let was : get_elem? views other ≡ some w = ⊎_elim (λ x. absurd (two x.0)) (λ x. x.1) (at_set views pass other both w at') in
@@ -312,6 +312,48 @@ module _ {T : Type 0} (number : T → ℕ) where
               (both, t.1, ap (get_elem? (set vs other spent)) (moved m e) ∙ both_at, keeps_right m t.1 v.lists w.lists (subst (λ (u : View T). Keeps m t.1 u.lists) is t.3)))
               (λ n. let r = there_set views pass v both m (h.seat m) at (λ l k. (l, keeps_left m l v.lists w.lists k)) t in
               subst (λ (place : ℕ). There (set vs other spent) m place) (sym (kept m n)) (r.0, r.1, set_else vs other (h.seat m) spent n ∙ r.2, r.3));
+          later = h.later;
+          fit = h.fit;
+          opening = h.opening;
+        }
+
+    -- a pass that knows nothing may be split off
+    pub forks_spent : (pass : ℕ) (v : View T) → Forks (Kept number IsFit opens) pass v v spent_view
+    forks_spent pass v items views h at =
+        let vs : List (View T) = set views pass v in
+        let F : ℕ → View T → Type 0 = Fits number h.reader h.popped h.given (h.popped ++ items) h.seat in
+        let old : All F vs = all_set F views pass v (h.fits pass v at) (λ j u other e. h.fits j u e) in
+        let new : F (length vs) spent_view = record { pops = λ p. absurd (true≢false (sym p)); keeps = λ m l k. absurd k; gives = λ pos. absurd (omega arith) } in
+        record {
+          reader = h.reader;
+          popped = h.popped;
+          given = h.given;
+          seat = h.seat;
+          fits = λ j u e. ⊎_elim (λ x. old j u x) (λ (x : (j ≡ length vs) × (spent_view ≡ u)). subst (λ (y : ℕ × View T). F y.0 y.1) (λ i. (sym x.0 i, x.1 i)) new) (at_more vs spent_view u j e);
+          there = λ m lt. let t = there_set views pass v v m (h.seat m) at (λ k h'. (k, h')) (h.there m lt) in (t.0, t.1, at_longer vs (spent_view ∷ []) (h.seat m) t.0 t.2, t.3);
+          later = h.later;
+          fit = h.fit;
+          opening = h.opening;
+        }
+
+    -- and taken in again as an empty look
+    pub merges_spent : (pass : ℕ) (v : View T) (other : ℕ) (w : View T) → w ≡ spent_view → Merges (Kept number IsFit opens) pass v other w (looked v) spent_view
+    merges_spent pass v other w is items views h at two at' =
+        let both : View T = looked v in
+        let vs : List (View T) = set views pass both in
+        let was : get_elem? views other ≡ some w = ⊎_elim (λ x. absurd (two x.0)) (λ x. x.1) (at_set views pass other both w at') in
+        let mine = h.fits pass v at in
+        let F : ℕ → View T → Type 0 = Fits number h.reader h.popped h.given (h.popped ++ items) h.seat in
+        let now : All F vs = all_set F views pass both (record { pops = mine.pops; keeps = mine.keeps; gives = mine.gives }) (λ j u apart e. h.fits j u e) in
+        record {
+          reader = h.reader;
+          popped = h.popped;
+          given = h.given;
+          seat = h.seat;
+          fits = all_set F vs other spent_view (record { pops = λ p. absurd (true≢false (sym p)); keeps = λ m l k. absurd k; gives = λ pos. absurd (omega arith) }) (λ j u apart e. now j u e);
+          there = λ m lt.
+              let t = there_set views pass v both m (h.seat m) at (λ l k. (l, k)) (h.there m lt) in
+              there_set vs other w spent_view m (h.seat m) at' (λ l k. absurd (subst (λ (u : View T). Keeps m l u.lists) is k)) t;
           later = h.later;
           fit = h.fit;
           opening = h.opening;

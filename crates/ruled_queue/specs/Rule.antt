@@ -11,7 +11,7 @@ module _ {T : Type 0} where
   Keeps n l (e ∷ es) = ((e.0 ≡ n) × (e.1 ≡ l)) ⊎ Keeps n l es
 
   abbrev pub knows : Bool → List T → List (ℕ × List T) → ℕ → View T
-  knows pops popped lists given = record { pops = pops; popped = popped; lists = lists; given = given }
+  knows pops popped lists given = record { pops = pops; popped = popped; lists = lists; given = given; looks = 0 }
 
   -- the pass that a queue is made with: it pops and has number 0, and no other number was given
   abbrev pub first_view : View T
@@ -23,28 +23,32 @@ module _ {T : Type 0} where
 
   -- what the consumer and the producer know once they are parted
   abbrev pub consumer_part : View T → View T
-  consumer_part v = knows true v.popped [] 0
+  consumer_part v = record (knows true v.popped [] 0) { looks = v.looks }
 
   abbrev pub producer_part : View T → View T
   producer_part v = knows false [] v.lists v.given
 
   -- the next number is given to another pass
   abbrev pub gave_number : View T → View T
-  gave_number v = knows v.pops v.popped v.lists (v.given + 1)
+  gave_number v = record v { given = v.given + 1 }
 
   abbrev pub next_number : View T → View T
   next_number v = knows false [] ((v.given, []) ∷ []) 0
 
   -- a producer's lists are taken in
   abbrev pub joined : View T → View T → View T
-  joined v w = knows v.pops v.popped (v.lists ++ w.lists) (v.given + w.given)
+  joined v w = record v { lists = v.lists ++ w.lists; given = v.given + w.given }
+
+  -- it found the queue empty once more
+  abbrev pub looked : View T → View T
+  looked v = record v { looks = v.looks + 1 }
 
   -- what no pass knows
   abbrev pub impossible : View T
   impossible = knows true [] ((0, []) ∷ (1, []) ∷ []) 1
 
   abbrev pub took : View T → T → View T
-  took v x = knows v.pops (v.popped ++ x ∷ []) v.lists v.given
+  took v x = record v { popped = v.popped ++ x ∷ [] }
 
   -- this holds of each item
   abbrev pub Each : (T → Type 0) → List T → Type 0
@@ -66,7 +70,7 @@ module _ {T : Type 0} (number : T → ℕ) where
   grow x e = (e.0, e.1 ++ of e.0 (x ∷ []))
 
   abbrev pub grown : View T → T → View T
-  grown v x = knows v.pops v.popped (map (grow x) v.lists) v.given
+  grown v x = record v { lists = map (grow x) v.lists }
 
   -- what one pass knows is true
   pub record Fits (reader : ℕ) (popped : List T) (given : ℕ) (all : List T) (seat : ℕ → ℕ) (pass : ℕ) (v : View T) : Type 0 where

@@ -9,7 +9,7 @@ mod queue;
 mod rule;
 
 pub use queue::{
-    Queue, Seat, join, make, one_consumer, pop, pop_and_drop, push, push_or_drop, split_consumer,
-    split_number,
+    Queue, Seat, join, make, one_consumer, pop, pop_and_drop, pop_or_count, push, push_or_drop,
+    split_consumer, split_number,
 };
 pub use rule::{Numbering, View};

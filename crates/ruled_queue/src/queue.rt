@@ -1,9 +1,10 @@
 ghost use Rattle.std.specs.Prelude.{◌≡◌, ◌<◌, [], true, false, IfOk, MatchBool, MatchOption, MatchResult};
 ghost use Rattle.crossbeam_queue.specs.SegTies.{IsSegPassOf};
-ghost use Rattle.ruled_queue.specs.Rule.{first_view, producer_part, consumer_part, gave_number, next_number, joined, impossible, grown, Took, MayPush, Waits};
+ghost use Rattle.ruled_queue.specs.Rule.{first_view, producer_part, consumer_part, gave_number, next_number, joined, looked, impossible, grown, Took, MayPush, Waits};
 
 use crate::rule::{
-    Consumers, Never, NextNumber, Numbering, PassNumbers, Popped, Pushed, Roles, Ruled, View,
+    Consumers, EmptyLook, Never, NextNumber, Numbering, PassNumbers, Popped, Pushed, Roles, Ruled,
+    View,
 };
 use crossbeam_queue::{RuledSegQueue, SegPass};
 use std::alloc::{AllocError, Global};
@@ -49,6 +50,36 @@ pub fn pop<T: Drop, N: Numbering<T>, R: Wait>(
     ensures done { MatchOption result ((seat.new.me.view.client ≡ seat.old.me.view.client) × Waits N.number seat.old.me.view.client []) (λ x. Took N.number N.is_fit N.opens seat.old.me.view.client x seat.new.me.view.client) }
 {
     queue.pop_as::<Popped<N>, R>(rt, seat)
+}
+
+/// Pops the front. None if the queue was found empty at a step of this call, and then the seat has counted one empty look more.
+pub fn pop_or_count<T: Drop, N: Numbering<T>, R: Wait>(
+    rt: &R,
+    queue: &Queue<T, N>,
+    seat: &mut Seat<T>,
+) -> Option<T>
+    requires queue { IsSegPassOf queue.now seat.old }
+    requires consumer { seat.old.me.view.client.pops ≡ true }
+    ensures queue { IsSegPassOf queue.now seat.new }
+    ensures done { MatchOption result ((seat.new.me.view.client ≡ looked seat.old.me.view.client) × Waits N.number seat.old.me.view.client []) (λ x. Took N.number N.is_fit N.opens seat.old.me.view.client x seat.new.me.view.client) }
+{
+    match pop(rt, queue, seat) {
+        Some(item) => Some(item),
+        None => {
+            count_look(queue, seat);
+            None
+        }
+    }
+}
+
+/// Counts an empty look.
+fn count_look<T, N: Numbering<T>>(queue: &Queue<T, N>, seat: &mut Seat<T>)
+    requires queue { IsSegPassOf queue.now seat.old }
+    ensures queue { IsSegPassOf queue.now seat.new }
+    ensures counted { seat.new.me.view.client ≡ looked seat.old.me.view.client }
+{
+    let spent = queue.another::<EmptyLook>(seat);
+    queue.absorb::<EmptyLook>(seat, spent);
 }
 
 /// Pushes an item under its number, or lets it go for want of memory.

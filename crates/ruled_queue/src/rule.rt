@@ -26,6 +26,8 @@ pub struct View<T> {
     pub lists: LinkedList<(u32, LinkedList<T>)>,
     /// How many numbers were given, if it has number 0.
     pub given: u32,
+    /// How often it found the queue empty, as far as that was counted.
+    pub looks: u64,
 }
 
 /// The rule of a queue.
@@ -99,6 +101,25 @@ impl<T> Join<View<T>> for PassNumbers {
     ghost use Rattle.ruled_queue.specs.Rule.{joined, spent_view};
 
     ghost both = { joined };
+
+    ghost spent = { spent_view };
+}
+
+/// A pass that knows nothing is split off, and taken in again as one look that found the queue empty.
+pub struct EmptyLook;
+
+impl<T> Split<View<T>> for EmptyLook {
+    ghost use Rattle.ruled_queue.specs.Rule.{spent_view};
+
+    ghost left = { λ v. v };
+
+    ghost right = { λ v. spent_view };
+}
+
+impl<T> Join<View<T>> for EmptyLook {
+    ghost use Rattle.ruled_queue.specs.Rule.{looked, spent_view};
+
+    ghost both = { λ v w. looked v };
 
     ghost spent = { spent_view };
 }

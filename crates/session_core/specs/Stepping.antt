@@ -1,5 +1,5 @@
 -- What the steps of a session on one thread decide.
-use Rattle.std.specs.Prelude.{◌≡◌, ◌≢◌, ℕ, ◌<◌, ◌≤◌, true, false, ◌⊎◌, List, [], ◌∷◌, ◌++◌, Option, Some, None}
+use Rattle.std.specs.Prelude.{◌≡◌, ◌≢◌, ℕ, ◌<◌, ◌≤◌, true, false, ◌⊎◌, List, [], ◌∷◌, ◌++◌, Option, Some, None, Ok}
 use Rattle.session_core.specs.declared.engine.RunFault.{RunFault}
 use Rattle.session_core.specs.declared.engine.RunFault.TheVariants as run
 use Rattle.session_core.specs.declared.entry.DiedCause.{DiedCause}
@@ -7,14 +7,19 @@ use Rattle.session_core.specs.declared.entry.DiedCause.TheVariants as died
 use Rattle.session_core.specs.declared.entry.MoveRefusal.{MoveRefusal}
 use Rattle.session_core.specs.declared.entry.MoveRefusal.TheVariants.{Stuck, SameHost, UnknownHost, BadWeights, DeadKernel}
 use Rattle.graph_model.specs.declared.plan.Certified.{Certified}
+use Rattle.session_core.specs.declared.request.Ask.{Ask}
 use Rattle.session_core.specs.declared.request.Request.{Request}
 use Rattle.session_core.specs.declared.entry.Entry.{Entry}
 use Rattle.session_core.specs.declared.entry.Entry.TheVariants.{Sealed, Moved, Adopted, Resumed}
 use Rattle.session_core.specs.declared.engine.Packed.{Packed}
 use Rattle.session_core.specs.declared.engine.PackFault.{PackFault}
 use Rattle.session_core.specs.declared.engine.PackFault.TheVariants as pack
+use Rattle.session_core.specs.declared.judging.Verdict.{Verdict}
+use Rattle.session_core.specs.declared.judging.Verdict.TheVariants.{Refuse, Stay, Go}
+use Rattle.session_core.specs.Asks.{IsMove}
+use Rattle.session_core.specs.Engines.{Packs}
 use Rattle.session_core.specs.Meanings.{Served, Meaning, IsPacked}
-use Rattle.session_core.specs.Legal.{Progress, progress_of, settled, IsLegal, asked}
+use Rattle.session_core.specs.Legal.{Progress, progress_of, settled, IsLegal, IsReason, CanGo, MayTry, asked}
 use Rattle.session_core.specs.Feeding.{drawn_in}
 
 -- why a session dies at a fault of its engine
@@ -67,3 +72,15 @@ abbrev pub reason_of : PackFault → Option MoveRefusal
 reason_of pack.OutOfMemory = None
 reason_of (pack.BadWeights fault) = Some (BadWeights fault)
 reason_of (pack.Stuck version cell names) = Some (Stuck version cell names)
+
+module _ (meaning : Meaning) (hosts : ℕ) (p : Progress) where
+  -- the session may go to that host, for which the move asks, by this pack of what it served
+  abbrev pub GoesBy : Packed → ℕ → Ask → Type 0
+  GoesBy packed to ask = IsMove (λ asked weights. (to ≡ asked) × CanGo meaning hosts p asked × Packs meaning p.served weights (Ok packed)) ask
+
+  -- What is to be done about a request to move: it is refused for the first reason that holds; the session stays if none holds but
+  -- perhaps the last; or it goes by a pack, with a copy of the request.
+  abbrev pub IsVerdict : Request → Verdict → Type 0
+  IsVerdict r (Refuse reason) = IsMove (λ to weights. IsReason meaning hosts p to weights reason) r.ask
+  IsVerdict r Stay = IsMove (MayTry meaning hosts p) r.ask
+  IsVerdict r (Go again to packed) = (again ≡ r) × GoesBy packed to r.ask

@@ -1,28 +1,25 @@
 //! The steps of a session on one thread. Each puts at the journal's end entries that may come there.
 
-ghost use Rattle.std.specs.Prelude.{◌≡◌, ℕ, ◌+◌, ◌≤◌, ◌<◌, true, false, [], ◌∷◌, ◌++◌, Some, IfSome, IfNone, MatchOption, Ok, Err};
-ghost use Rattle.graph_model.specs.declared.plan.Weights.{Weights};
-ghost use Rattle.session_core.specs.declared.request.Ask.TheVariants as asks;
+ghost use Rattle.std.specs.Prelude.{◌≡◌, ℕ, ◌+◌, ◌≤◌, ◌<◌, true, false, [], ◌∷◌, ◌++◌, Some};
 ghost use Rattle.session_core.specs.declared.entry.Entry.{Entry};
 ghost use Rattle.session_core.specs.Asks.{IsWork, is_move, is_end};
 ghost use Rattle.session_core.specs.Entries.{IsEnd};
-ghost use Rattle.session_core.specs.Legal.{settled, progress_of, CanGo, IsReason, IsLegal, asked};
+ghost use Rattle.session_core.specs.Legal.{settled, progress_of};
 ghost use Rattle.session_core.specs.Machine.{IsNoted};
-ghost use Rattle.session_core.specs.Stepping.{cause_of, IsEarly, IsFree, IsPackOf, HasGone, HasEnded};
-ghost use Rattle.session_core.specs.Engines.{Packs};
+ghost use Rattle.session_core.specs.Stepping.{cause_of, IsPackOf, HasGone, HasEnded};
 ghost use Rattle.session_core.specs.Feeding.{TellsDraws, Drew};
 
-use crate::engine::{Engine, PackFault, Packed, RunFault};
+use crate::engine::{Engine, Packed, RunFault};
 use crate::entry::{DiedCause, Entry, MoveRefusal};
 use crate::journal::Journal;
+use crate::judging::{Verdict, judge};
 use crate::reply::Done;
-use crate::request::{Ask, Request};
-use graph_model::Weights;
+use crate::request::Request;
 use nb_outside::Feed;
 use std::alloc::Global;
 
 /// The host of a session that is settled.
-fn settled_owner(journal: &Journal) -> u32
+pub(crate) fn settled_owner(journal: &Journal) -> u32
     requires { (progress_of journal.now.entries).phase ≡ settled }
     ensures { result ≡ (progress_of journal.now.entries).owner }
 {
@@ -106,35 +103,6 @@ pub fn answer_dead<E: Engine>(_engine: &E, journal: &mut Journal, count: u32, re
     });
 }
 
-/// The host and the weights of a move.
-fn aim_of(ask: &Ask) -> (u64, Weights)
-    requires { is_move ask.now ≡ true }
-    ensures { ask.now ≡ asks.Migrate result.0 result.1 }
-{
-    match ask {
-        Ask::Migrate { to, weights } => (*to, *weights),
-        _ => unreachable!(),
-    }
-}
-
-/// The first reason not to plan a move: the session is dead, it is on that host, or there is no such host.
-fn reason_before_planning(journal: &Journal, hosts: u32, dead: bool, to: u64) -> Option<MoveRefusal>
-    requires settled { (progress_of journal.now.entries).phase ≡ settled }
-    requires dead { dead ≡ (progress_of journal.now.entries).dead }
-    ensures { MatchOption result (IsFree hosts (progress_of journal.now.entries) to) (IsEarly hosts (progress_of journal.now.entries) to) }
-{
-    if dead {
-        return Some(MoveRefusal::DeadKernel);
-    }
-    if to == u64::from(settled_owner(journal)) {
-        return Some(MoveRefusal::SameHost);
-    }
-    if to >= u64::from(hosts) {
-        return Some(MoveRefusal::UnknownHost(to));
-    }
-    None
-}
-
 /// Puts the entry that says that the session doesn't move, and why.
 fn refuse(journal: &mut Journal, request: Request, reason: MoveRefusal)
     requires spare { 1 ≤ journal.old.spare }
@@ -196,86 +164,6 @@ fn go<E: Engine + Drop>(
     }
 }
 
-/// A move that can't be packed: it is refused or, for want of memory, resumed.
-fn stay<E: Engine>(
-    _engine: &E,
-    journal: &mut Journal,
-    hosts: u32,
-    to: u32,
-    weights: &Weights,
-    request: Request,
-    fault: PackFault,
-)
-    requires spare { 1 ≤ journal.old.spare }
-    requires settled { (progress_of journal.old.entries).phase ≡ settled }
-    requires asked { request.ask ≡ asks.Migrate to weights.now }
-    requires free { IsFree hosts (progress_of journal.old.entries) to }
-    requires fault { Packs E.meaning (progress_of journal.old.entries).served weights.now (Err fault) }
-    ensures ended { HasEnded E.meaning hosts journal.old.entries journal.new.entries request }
-    ensures owner { (progress_of journal.new.entries).owner ≡ (progress_of journal.old.entries).owner }
-{
-    match fault.reason() {
-        Some(reason) => refuse(journal, request, reason),
-        None => resume(journal, settled_owner(&*journal), request),
-    }
-}
-
-/// A move by a pack of the session: it is adopted or, for want of memory, resumed.
-fn depart<E: Engine + Drop>(
-    alloc: Global,
-    journal: &mut Journal,
-    engine: E,
-    hosts: u32,
-    to: u32,
-    weights: &Weights,
-    request: Request,
-    packed: Packed,
-) -> E
-    requires spare { 3 ≤ journal.old.spare }
-    requires settled { (progress_of journal.old.entries).phase ≡ settled }
-    requires asked { request.ask ≡ asks.Migrate to weights.now }
-    requires free { IsFree hosts (progress_of journal.old.entries) to }
-    requires stands { E.stands_for engine (progress_of journal.old.entries).served × (E.host_of engine ≡ (progress_of journal.old.entries).owner) }
-    requires packed { Packs E.meaning (progress_of journal.old.entries).served weights.now (Ok packed) }
-    ensures ended { HasEnded E.meaning hosts journal.old.entries journal.new.entries request }
-    ensures stands { E.stands_for result (progress_of journal.new.entries).served × (E.host_of result ≡ (progress_of journal.new.entries).owner) }
-{
-    match request.copy(alloc) {
-        Ok(again) => go(alloc, journal, engine, to, packed, (request, again)),
-        Err(_) => {
-            resume(journal, settled_owner(&*journal), request);
-            engine
-        }
-    }
-}
-
-/// The plan for a move to a host that is there, and the move by it: it is adopted, refused or, for want of memory, resumed.
-fn plan_and_go<E: Engine + Drop>(
-    alloc: Global,
-    journal: &mut Journal,
-    engine: E,
-    hosts: u32,
-    to: u32,
-    weights: &Weights,
-    request: Request,
-) -> E
-    requires spare { 3 ≤ journal.old.spare }
-    requires settled { (progress_of journal.old.entries).phase ≡ settled }
-    requires asked { request.ask ≡ asks.Migrate to weights.now }
-    requires free { IsFree hosts (progress_of journal.old.entries) to }
-    requires stands { E.stands_for engine (progress_of journal.old.entries).served × (E.host_of engine ≡ (progress_of journal.old.entries).owner) }
-    ensures ended { HasEnded E.meaning hosts journal.old.entries journal.new.entries request }
-    ensures stands { E.stands_for result (progress_of journal.new.entries).served × (E.host_of result ≡ (progress_of journal.new.entries).owner) }
-{
-    match engine.pack(alloc, weights) {
-        Ok(packed) => depart(alloc, journal, engine, hosts, to, weights, request, packed),
-        Err(fault) => {
-            stay(&engine, journal, hosts, to, weights, request, fault);
-            engine
-        }
-    }
-}
-
 /// Answers a request to move: it is adopted, refused for the first reason that holds, or, for want of memory, resumed.
 pub fn attempt<E: Engine + Drop>(
     alloc: Global,
@@ -293,12 +181,17 @@ pub fn attempt<E: Engine + Drop>(
     ensures ended { HasEnded E.meaning hosts journal.old.entries journal.new.entries request }
     ensures stands { dead ≡ false → E.stands_for result (progress_of journal.new.entries).served × (E.host_of result ≡ (progress_of journal.new.entries).owner) }
 {
-    let (to, weights) = aim_of(&request.ask);
-    match reason_before_planning(&*journal, hosts, dead, to) {
-        Some(reason) => {
+    match judge(alloc, &engine, &*journal, hosts, dead, &request) {
+        Verdict::Refuse(reason) => {
             refuse(journal, request, reason);
             engine
         }
-        None => plan_and_go(alloc, journal, engine, hosts, to as u32, &weights, request),
+        Verdict::Stay => {
+            resume(journal, settled_owner(&*journal), request);
+            engine
+        }
+        Verdict::Go { again, to, packed } => {
+            go(alloc, journal, engine, to, packed, (request, again))
+        }
     }
 }

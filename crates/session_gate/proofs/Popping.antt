@@ -13,7 +13,7 @@ use Rattle.session_queues.specs.declared.items.MainItem.TheVariants.{Opening, As
 use Rattle.ruled_queue.specs.declared.rule.View.{View}
 use Rattle.ruled_queue.proofs.Keeping.{cons_is_not_nil}
 use Rattle.session_queues.specs.declared.shared.SharedQueues.{SharedQueues}
-use Rattle.session_queues.specs.Ends.{Held, Outgoing, FoundNothing, TookRequest, admitted_main, admitted_control}
+use Rattle.session_queues.specs.Ends.{Held, Outgoing, FoundNothing, looked_at_both, TookRequest, admitted_main, admitted_control}
 use Rattle.session_gate.specs.Answered.{opening_by, opening_of, as_main, as_control, IsAnswered}
 use Rattle.session_gate.specs.Facts.{IsResident}
 
@@ -72,9 +72,13 @@ popped_owes es old new r h (inr t) =
       ap (λ (e : Held). e.control.popped) t.3 ∙ h.1 ∙ ap as_control none ∙ sym (as_control_main (asked es) r t.0),
     )
 
+-- looks that find nothing leave what was popped
+pub looks_answered : (es : List Entry) (old new : Held) → IsAnswered es old [] → new ≡ looked_at_both old → IsAnswered es new []
+looks_answered es old new h is = (ap (λ (e : Held). e.main.popped) is ∙ h.0, ap (λ (e : Held). e.control.popped) is ∙ h.1)
+
 -- what a pop tells, with what is owed then
-pub popped_told : (es : List Entry) (old new : Held) (r : Option Request) → IsAnswered es old [] → MatchOption r ((new ≡ old) × FoundNothing old) (λ x. TookRequest old x new)
-    → MatchOption r ((new ≡ old) × FoundNothing old) (λ x. TookRequest old x new × IsAnswered es new (x ∷ []))
+pub popped_told : (es : List Entry) (old new : Held) (r : Option Request) → IsAnswered es old [] → MatchOption r ((new ≡ looked_at_both old) × FoundNothing old) (λ x. TookRequest old x new)
+    → MatchOption r ((new ≡ looked_at_both old) × FoundNothing old) (λ x. TookRequest old x new × IsAnswered es new (x ∷ []))
 popped_told es old new None h is = is
 popped_told es old new (Some x) h is = (is, popped_owes es old new x h is)
 
@@ -94,8 +98,8 @@ module _ (meaning : Meaning) (Stands : List Served → Type 0) (host : ℕ) (see
     published = (h.published.0 ∙ ap (λ (q : SharedQueues). q.out) (sym queues), h.published.1);
   }
 
-  pub resident_popped : (ends new : Held) (r : Option Request) → Is ends → IsAnswered es ends [] → MatchOption r ((new ≡ ends) × FoundNothing ends) (λ x. TookRequest ends x new) → Is new
-  resident_popped ends new None h answered is = subst Is (sym is.0) h
+  pub resident_popped : (ends new : Held) (r : Option Request) → Is ends → IsAnswered es ends [] → MatchOption r ((new ≡ looked_at_both ends) × FoundNothing ends) (λ x. TookRequest ends x new) → Is new
+  resident_popped ends new None h answered is = with_ends ends new [] h (looks_answered es ends new answered is.0) (ap (λ (e : Held). e.queues) is.0)
   resident_popped ends new (Some x) h answered is = with_ends ends new (x ∷ []) h (popped_owes es ends new x answered is) (popped_queues ends new x is)
 
   -- steps that pop nothing

@@ -4,7 +4,7 @@ ghost use Rattle.session_core.specs.Asks.{IsWork, IsMove, is_control};
 ghost use Rattle.session_core.specs.Engines.{Packs};
 ghost use Rattle.session_core.specs.Legal.{progress_of, IsLegal, IsReason, MayTry, CanGo};
 ghost use Rattle.session_queues.specs.Passes.{IsPassOf};
-ghost use Rattle.session_queues.specs.Ends.{FoundNothing, TookRequest, admitted_main, admitted_control, gathered, all_of, GoesOn};
+ghost use Rattle.session_queues.specs.Ends.{FoundNothing, looked_at_both, TookRequest, admitted_main, admitted_control, gathered, all_of, GoesOn};
 ghost use Rattle.session_gate.specs.Facts.{OwesNone, Owes, IsSettled, IsWhole, IsIn, HasSame, HasNoted, owner_of};
 ghost use Rattle.session_gate.specs.Slots.{IsServed};
 ghost use Rattle.session_gate.specs.Custodies.{is_of, IsFree};
@@ -108,13 +108,13 @@ impl<E: Engine, F: Feed> Lease<E, F> {
     }
 
     /// The control queue's front, or else the main queue's, which the lease then owes. None if each of the two was found empty
-    /// at a step of this call. Takes no memory.
+    /// at a step of this call. Each that was found empty counts one empty look more. Takes no memory.
     pub fn pop<R: Wait>(&mut self, rt: &R) -> Option<Request>
         requires owes { OwesNone self.old }
         requires spare { 3 ≤ self.old.spare }
         ensures same { (self.new.engine ≡ self.old.engine) × (self.new.feed ≡ self.old.feed) × (self.new.entries ≡ self.old.entries) × (self.new.spare ≡ self.old.spare)
             × (self.new.out ≡ self.old.out) × (self.new.number ≡ self.old.number) × (self.new.hosts ≡ self.old.hosts) }
-        ensures popped { MatchOption result ((self.new.ends ≡ self.old.ends) × FoundNothing self.old.ends) (λ request. TookRequest self.old.ends request self.new.ends × Owes self.new request) }
+        ensures popped { MatchOption result ((self.new.ends ≡ looked_at_both self.old.ends) × FoundNothing self.old.ends) (λ request. TookRequest self.old.ends request self.new.ends × Owes self.new request) }
     {
         self.resident.pop(rt)
     }

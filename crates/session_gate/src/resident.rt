@@ -6,7 +6,7 @@ ghost use Rattle.session_core.specs.Engines.{Packs};
 ghost use Rattle.session_core.specs.Legal.{progress_of, after, MayCome};
 ghost use Rattle.session_core.specs.Stepping.{cause_of};
 ghost use Rattle.session_queues.specs.Passes.{IsPassOf, KeepsAll};
-ghost use Rattle.session_queues.specs.Ends.{FoundNothing, TookRequest, gathered, admitted_main, admitted_control, all_of, GoesOn};
+ghost use Rattle.session_queues.specs.Ends.{FoundNothing, looked_at_both, TookRequest, gathered, admitted_main, admitted_control, all_of, GoesOn};
 ghost use Rattle.session_gate.specs.Facts.{OwesNone, Owes, IsSettled, IsWhole, HasSame, HasNoted, owner_of};
 ghost use Rattle.session_gate.specs.Slots.{IsQuiet, IsStill, IsServed};
 
@@ -99,12 +99,12 @@ impl<E: Engine, F: Feed> Resident<E, F> {
         self.journal.reserve(more)
     }
 
-    /// The front of the control queue, or else of the main queue, which is then owed.
+    /// The front of the control queue, or else of the main queue, which is then owed. None if each was found empty.
     pub(crate) fn pop<R: Wait>(&mut self, rt: &R) -> Option<Request>
         requires { OwesNone self.old }
         ensures same { (self.new.engine ≡ self.old.engine) × (self.new.feed ≡ self.old.feed) × (self.new.entries ≡ self.old.entries) × (self.new.spare ≡ self.old.spare)
             × (self.new.out ≡ self.old.out) × (self.new.number ≡ self.old.number) × (self.new.hosts ≡ self.old.hosts) }
-        ensures popped { MatchOption result ((self.new.ends ≡ self.old.ends) × FoundNothing self.old.ends) (λ request. TookRequest self.old.ends request self.new.ends × Owes self.new request) }
+        ensures popped { MatchOption result ((self.new.ends ≡ looked_at_both self.old.ends) × FoundNothing self.old.ends) (λ request. TookRequest self.old.ends request self.new.ends × Owes self.new request) }
     {
         self.ends.pop(rt)
     }

@@ -4,7 +4,7 @@ use Rattle.std.specs.Prelude.{◌≡◌, ℕ, ◌⊎◌, Bool, true, false, ⊤,
 use Rattle.std.specs.declared.alloc.Global.{Global}
 use Rattle.crossbeam_queue.specs.SegTies.{SegId}
 use Rattle.ruled_queue.specs.declared.rule.View.{View}
-use Rattle.ruled_queue.specs.Rule.{knows, grown, joined, Took, Waits}
+use Rattle.ruled_queue.specs.Rule.{knows, grown, joined, looked, Took, Waits}
 use Rattle.session_core.specs.declared.request.Request.{Request}
 use Rattle.session_core.specs.declared.entry.Entry.{Entry}
 use Rattle.session_core.specs.Asks.{is_control}
@@ -109,10 +109,15 @@ FoundNoControl h = Waits frontend_of h.control []
 abbrev pub FoundNothing : Held → Type 0
 FoundNothing h = Waits number_of h.main [] × FoundNoControl h
 
--- The request was the front of the control queue; or it was the front of the main queue, and the control queue was found empty.
+-- each of the two was found empty once more
+abbrev pub looked_at_both : Held → Held
+looked_at_both h = record h { main = looked h.main; control = looked h.control }
+
+-- The request was the front of the control queue; or it was the front of the main queue, and the control queue was found empty,
+-- which is counted.
 abbrev pub TookRequest : Held → Request → Held → Type 0
 TookRequest old r new = ((is_control r ≡ true) × Took frontend_of IsForControl opens_control old.control r new.control × (new ≡ record old { control = new.control }))
-    ⊎ ((is_control r ≡ false) × Took number_of IsForMain is_opening old.main (Asked r) new.main × FoundNoControl old × (new ≡ record old { main = new.main }))
+    ⊎ ((is_control r ≡ false) × Took number_of IsForMain is_opening old.main (Asked r) new.main × FoundNoControl old × (new ≡ record old { main = new.main; control = looked old.control }))
 
 -- all passes that a producer has were taken in
 abbrev pub gathered : Held → Producer → Held

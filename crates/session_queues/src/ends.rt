@@ -1,7 +1,7 @@
 ghost use Rattle.std.specs.Prelude.{◌≡◌, ◌≢◌, ◌<◌, [], cond, true, MatchOption, MatchResult};
 ghost use Rattle.session_core.specs.Asks.{is_control};
 ghost use Rattle.session_queues.specs.Passes.{IsPassOf, KeepsAll};
-ghost use Rattle.session_queues.specs.Ends.{FoundNothing, TookRequest, gathered, admitted_main, admitted_control};
+ghost use Rattle.session_queues.specs.Ends.{FoundNothing, looked_at_both, TookRequest, gathered, admitted_main, admitted_control};
 
 use crate::items::MainItem;
 use crate::pass::{Pass, push_main};
@@ -43,15 +43,19 @@ impl Ends {
     }
 
     /// Pops the front of the control queue, or else of the main queue. None if each of the two was found empty at a step of
-    /// this call. Takes no memory.
+    /// this call. Each queue that was found empty counts one empty look more. Takes no memory.
     pub fn pop<R: Wait>(&mut self, rt: &R) -> Option<Request>
         requires { self.old.main.popped ≢ [] }
-        ensures { MatchOption result ((self.new ≡ self.old) × FoundNothing self.old) (λ request. TookRequest self.old request self.new) }
+        ensures { MatchOption result ((self.new ≡ looked_at_both self.old) × FoundNothing self.old) (λ request. TookRequest self.old request self.new) }
     {
-        if let Some(request) = ruled_queue::pop(rt, &self.shared.control, &mut self.control) {
+        if let Some(request) = ruled_queue::pop_or_count(
+            rt,
+            &self.shared.control,
+            &mut self.control,
+        ) {
             return Some(request);
         }
-        match ruled_queue::pop(rt, &self.shared.main, &mut self.main) {
+        match ruled_queue::pop_or_count(rt, &self.shared.main, &mut self.main) {
             None => None,
             Some(MainItem::Asked(request)) => Some(request),
             Some(MainItem::Opening { .. }) => unreachable!(),

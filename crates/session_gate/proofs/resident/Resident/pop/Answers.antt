@@ -1,5 +1,5 @@
 use Rattle.std.proofs.Common.{◌≡◌, sym, subst, [], ◌∷◌, MatchOption}
-use Rattle.session_queues.specs.Ends.{FoundNothing, TookRequest}
+use Rattle.session_queues.specs.Ends.{FoundNothing, looked_at_both, TookRequest}
 use Rattle.session_gate.specs.Answered.{IsAnswered}
 use Rattle.session_gate.specs.Facts.{Holds}
 use Rattle.session_gate.proofs.Popping.{begun, resident_popped, popped_told}
@@ -16,5 +16,5 @@ invariant_of-self g c = let e = g.E.Engine in let i = c.self.inside in
 
 pub returns-clause-popped : goal.returns-clause-popped
 returns-clause-popped g c = let i = c.self.inside in
-    subst (λ (h : Holds g.row.E.Denot g.row.F.Denot). MatchOption c.pop.result ((c.pop.new.self ≡ h.ends) × FoundNothing h.ends) (λ x. TookRequest h.ends x c.pop.new.self × IsAnswered i.journal.entries c.pop.new.self (x ∷ []))) c.self.view_is
+    subst (λ (h : Holds g.row.E.Denot g.row.F.Denot). MatchOption c.pop.result ((c.pop.new.self ≡ looked_at_both h.ends) × FoundNothing h.ends) (λ x. TookRequest h.ends x c.pop.new.self × IsAnswered i.journal.entries c.pop.new.self (x ∷ []))) c.self.view_is
     (popped_told i.journal.entries i.ends c.pop.new.self c.pop.result (subst (λ (h : Holds g.row.E.Denot g.row.F.Denot). IsAnswered h.entries h.ends []) (sym c.self.view_is) c.requires) c.pop.ensures)
