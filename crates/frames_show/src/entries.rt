@@ -11,7 +11,7 @@ use graph_model::Tally;
 use jupyter_messages::{Message, MessageKind};
 use plain_data::{Items, Text};
 use serde_json::Value;
-use session_core::{Completion, DiedCause, Entry, Reply, Request};
+use session_core::{Completion, DiedCause, Entry, Failure, Reply, Request};
 use std::alloc::Global;
 
 /// What is asked of a session.
@@ -54,14 +54,23 @@ fn shown_in(alloc: Global, line: &Value) -> Result<Option<Text>> {
     Ok(Some(copy_in(alloc, line, "shown")?))
 }
 
+/// The error of a cell; none if its name is empty.
+fn error_in(alloc: Global, line: &Value) -> Result<Option<Failure>> {
+    let name = copy_in(alloc, line, "ename")?;
+    if name.as_str().is_empty() {
+        return Ok(None);
+    }
+    let text = copy_in(alloc, line, "evalue")?;
+    Ok(Some(Failure { name, text }))
+}
+
 fn executed(alloc: Global, line: &Value) -> Result<Reply> {
     Ok(Reply::Executed {
         count: small_in(line, "count")?,
         silent: truth_in(line, "silent")?,
         printed: copy_in(alloc, line, "printed")?,
         shown: shown_in(alloc, line)?,
-        ename: copy_in(alloc, line, "ename")?,
-        evalue: copy_in(alloc, line, "evalue")?,
+        error: error_in(alloc, line)?,
     })
 }
 
