@@ -30,6 +30,7 @@ use Rattle.node_run.specs.Frames.{journal_frames, session_frames, run_frames, er
 use Rattle.nb_outside.specs.Counts.{HasRisen, HasRisenBy}
 use Rattle.node_run.specs.Ends.{status_of, node_at, EndsAt, IsCaused, end_after, errors_after}
 use Rattle.node_run.specs.Streams.{HasRun, Writes, StreamsTold}
+use Rattle.node_run.proofs.Streaming.{Adds-none}
 use Rattle.node_run.proofs.Stopping.{node_before}
 
 -- ---- each session that is opened is on a host that is there
@@ -249,10 +250,6 @@ caused_by faults_old faults_new reads_old reads_new SourceFailed failed many = f
 caused_by faults_old faults_new reads_old reads_new TooManyReads failed many = many refl
 
 -- ---- a run over a source that tells
-
-Adds-none : (old : Option (List ℕ)) → Adds old old []
-Adds-none None = refl
-Adds-none (Some had) = ap Some (sym (append-nil had))
 
 -- nothing was written
 pub told_nothing : (meaning : Meaning) (hosts : ℕ) (gives : Answers) (caused : RunEnd → Type 0) (old new sink : Option (List ℕ)) (bytes : List ℕ) → Takes old new bytes → StreamsTold meaning hosts gives caused 5 old new sink sink

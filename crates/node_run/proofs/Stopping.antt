@@ -1,6 +1,7 @@
 -- What is written if memory runs out at the frames of an error or of an entry.
-use Rattle.std.proofs.Common.{◌≡◌, ℕ, zero, suc, ◌+◌, ◌<◌, ◌≤◌, List, [], ◌∷◌, ◌++◌, map, length, take, drop, get_or, append_assoc, append-nil, Option, refl, ap, sym, ◌∙◌, subst, inl, inr, arith}
+use Rattle.std.proofs.Common.{◌≡◌, ℕ, zero, suc, ◌+◌, ◌<◌, ◌≤◌, List, [], ◌∷◌, ◌++◌, map, length, take, drop, get_or, append_assoc, append-nil, Option, Result, Err, refl, ap, sym, ◌∙◌, subst, inl, inr, arith}
 use Rattle.std.specs.List.{AllZip, sum_by}
+use Rattle.std.proofs.lemmas.List.Sums.{sum_by-cons}
 use Rattle.std.proofs.lemmas.List.{append_cancel_right, take-append-drop, drop_more, length-take-le, map-append}
 use Rattle.nb_outside.specs.Streams.{Adds}
 use Rattle.session_core.specs.declared.entry.Entry.{Entry}
@@ -9,6 +10,7 @@ use Rattle.reply_frames.specs.declared.node.NodeError.{NodeError}
 use Rattle.reply_frames.specs.Nodes.{frame_of}
 use Rattle.reply_frames.specs.Replies.{entry_frames, entry_length}
 use Rattle.node_intake.specs.Intake.{Taken, Node}
+use Rattle.node_run.specs.declared.write.WriteFault.{WriteFault}
 use Rattle.node_run.specs.Journals.{Answers, ServedSession, journal_of, journals_of, IsRunOf, AreRuns}
 use Rattle.node_run.specs.Frames.{error_frames, journal_frames, session_frames, run_frames, written, AddsFront, AddsErrorsBefore, AddsEntriesBefore, AddsJournalsBefore, AddsBefore, AddsRunsBefore, AddsServedBefore, WritesSoFar}
 use Rattle.node_run.proofs.Streaming.{Adds-both, piece_written, front_second}
@@ -18,8 +20,8 @@ use Rattle.node_run.proofs.Framing.{error_first, error_end, entry_first, entry_e
 
 errors_append : (first : ℕ) (xs ys : List NodeError) → error_frames first (xs ++ ys) ≡ error_frames first xs ++ error_frames (first + length xs) ys
 errors_append first [] ys =
-    let same : first ≡ first + length [] = omega arith in
-    ap (λ (n : ℕ). error_frames n ys) same ∙ ap (λ z. z ++ error_frames (first + length []) ys) (sym (error_end first))
+    let same : first ≡ first + 0 = omega arith in
+    ap (λ (n : ℕ). error_frames n ys) same ∙ ap (λ z. z ++ error_frames (first + 0) ys) (sym (error_end first))
 errors_append first (x ∷ xs) ys =
     let same : (first + 1) + length xs ≡ first + length (x ∷ xs) = omega arith in
     error_first first x (xs ++ ys) ∙ ap (λ z. frame_of first x ++ z) (errors_append (first + 1) xs ys)
@@ -33,7 +35,8 @@ entries_append kernel first [] ys =
     ap (λ (n : ℕ). journal_frames kernel n ys) same ∙ ap (λ z. z ++ journal_frames kernel (first + 0) ys) (sym (entry_end kernel first))
 entries_append kernel first (x ∷ xs) ys =
     let next : ℕ = first + entry_length x in
-    let same : next + sum_by entry_length xs ≡ first + (entry_length x + sum_by entry_length xs) = omega arith in
+    let all : sum_by entry_length (x ∷ xs) ≡ entry_length x + sum_by entry_length xs = sum_by-cons entry_length x xs in
+    let same : next + sum_by entry_length xs ≡ first + sum_by entry_length (x ∷ xs) = omega (arith, all) in
     entry_first kernel first x (xs ++ ys) ∙ ap (λ z. entry_frames kernel x first ++ z) (entries_append kernel next xs ys)
     ∙ sym (append_assoc (entry_frames kernel x first) (journal_frames kernel next xs) (journal_frames kernel (next + sum_by entry_length xs) ys))
     ∙ ap (λ z. z ++ journal_frames kernel (next + sum_by entry_length xs) ys) (sym (entry_first kernel first x xs))
@@ -70,6 +73,10 @@ written_is old now all before rest w is = subst (Adds old now) (append_cancel_ri
 
 gathered_is : (old mid new : Option (List ℕ)) (all before had rest : List ℕ) → WritesSoFar old mid all (had ++ rest) → all ≡ before ++ rest → Adds mid new had → Adds old new before
 gathered_is old mid new all before had rest w is adds = written_is old new all before rest (piece_written old mid new all (had ++ rest) had rest w refl adds) is
+
+-- the fault of one call, as that of another
+pub fault_alike : {A B : Type 0} (e f : WriteFault) → ◌≡◌ {A = Result A WriteFault} (Err e) (Err f) → ◌≡◌ {A = Result B WriteFault} (Err e) (Err f)
+fault_alike e f is = let same : e ≡ f = cc is in ap (λ x. Err x) same
 
 -- a list, cut at one of its elements
 cut_at : {A : Type 0} (xs : List A) (at : ℕ) (x : A) → at < length xs → x ≡ get_or xs at x → xs ≡ take at xs ++ x ∷ drop (at + 1) xs

@@ -4,7 +4,7 @@ use Rattle.reply_frames.specs.Replies.{entry_length}
 use Rattle.node_run.specs.Frames.{journal_frames}
 use Rattle.node_run.proofs.Streaming.{piece_written, front_written, all_written, gathered_on, gathered_front, map_ok, map_err}
 use Rattle.node_run.proofs.Framing.{entry_next, entry_past}
-use Rattle.node_run.proofs.Stopping.{stops_in_entries}
+use Rattle.node_run.proofs.Stopping.{stops_in_entries, fault_alike}
 use Rattle.node_run.proofs.write.write_journal.Goals as goal
 
 pub returns-in-Err-clause-err : goal.returns-in-Err-clause-err
@@ -16,7 +16,7 @@ returns-in-Err-clause-err g c =
 pub returns-in-Err-clause-memory : goal.returns-in-Err-clause-memory
 returns-in-Err-clause-memory g c = λ is.
     stops_in_entries (g.K.Sink.written c.args.sink.now) (g.K.Sink.written c.loop-entry.sink) (g.K.Sink.written c.gather_entry.new.sink) c.args.kernel c.args.entries.now c.loop-entry.entry-index c.loop-entry.running c.entry-item.result
-    c.loop-entry.gathered c.loop-entry-test.true c.entry-item.is c.loop-entry.invariant.2 c.loop-entry.invariant.0 (c.in-Err.ensures.memory is)
+    c.loop-entry.gathered c.loop-entry-test.true c.entry-item.is c.loop-entry.invariant.2 c.loop-entry.invariant.0 (c.in-Err.ensures.memory (fault_alike _ _ is))
 
 pub loop-entry-preserved : goal.loop-entry-preserved
 loop-entry-preserved g c = (
