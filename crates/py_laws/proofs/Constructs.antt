@@ -547,16 +547,16 @@ module _ (c : Setting) where
 
   -- ---- the levels
 
-  record LevelRespects (n : ℕ) : Type 0 where
-    evals : (e : Expr) → c.rules.evals e → Gives c ((level n).eval e) ((level n).eval e)
-    execs : (s : Stmt) → c.rules.runs s → Flows c ((level n).exec s) ((level n).exec s)
-    deeper : (e : Expr) → c.rules.evals e → Gives c ((level n).deeper e) ((level n).deeper e)
-    calls : (v w : Value) (vs ws : List Value) → Values c v w → AllZip (Values c) vs ws → Gives c ((level n).calls v vs) ((level n).calls w ws)
+  pub record LevelRespects (n : ℕ) : Type 0 where
+    pub evals : (e : Expr) → c.rules.evals e → Gives c ((level n).eval e) ((level n).eval e)
+    pub execs : (s : Stmt) → c.rules.runs s → Flows c ((level n).exec s) ((level n).exec s)
+    pub deeper : (e : Expr) → c.rules.evals e → Gives c ((level n).deeper e) ((level n).deeper e)
+    pub calls : (v w : Value) (vs ws : List Value) → Values c v w → AllZip (Values c) vs ws → Gives c ((level n).calls v vs) ((level n).calls w ws)
 
   no_level : Gives c (fail recursion_error) (fail recursion_error)
   no_level = fail_respects c (Values c) recursion_error recursion_error refl
 
-  level_respects : (n : ℕ) → LevelRespects n
+  pub level_respects : (n : ℕ) → LevelRespects n
   unfolding level
   level_respects zero = record {
     evals = λ e r. no_level;

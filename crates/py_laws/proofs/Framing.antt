@@ -33,7 +33,7 @@ both_there M (Some x) (Some y) h = (x, y, refl, refl)
 both_there M (Some x) None h = absurd h
 both_there M None u h = absurd h
 
-to_slots : {A : Type 0} (M N : A → A → Type 0) → ((x y : A) → M x y → N x y) → (o u : Option A) → Both M o u → BothOrNone N o u
+pub to_slots : {A : Type 0} (M N : A → A → Type 0) → ((x y : A) → M x y → N x y) → (o u : Option A) → Both M o u → BothOrNone N o u
 to_slots M N k (Some x) (Some y) h = k x y h
 to_slots M N k (Some x) None h = absurd h
 to_slots M N k None u h = absurd h

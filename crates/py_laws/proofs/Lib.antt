@@ -30,3 +30,4 @@ pub mod Validity
 pub mod Knowing
 pub mod Dividing
 pub mod Looping
+pub mod Sounding

@@ -294,7 +294,7 @@ module _ (c : Setting) where
   keys_from_respects xs ys [] (w ∷ ws) h k = absurd k
   keys_from_respects xs ys (v ∷ vs) [] h k = absurd k
 
-  put_respects : (a b : ℕ) (key : Key) (v w : Value) → Paired c a b → Values c v w → Respects c Any (put a key v) (put b key w)
+  pub put_respects : (a b : ℕ) (key : Key) (v w : Value) → Paired c a b → Values c v w → Respects c Any (put a key v) (put b key w)
   unfolding put
   put_respects a b key v w p h =
       next c (object_at_respects c a b p) λ o u m. put_in_respects c a b (pairs_in o) (pairs_in u) key v w p (pairs_in_match c o u (kinds c o u m)) h

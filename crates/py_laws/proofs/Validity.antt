@@ -14,7 +14,6 @@ use Rattle.py_tree.specs.declared.statements.Def.{Def}
 use Rattle.py_tree.specs.declared.statements.Stmt.{Stmt, out-Stmt}
 use Rattle.py_tree.specs.declared.statements.Stmt.TheOpen.{Stmt-F, Arm-F}
 use Rattle.py_tree.specs.declared.statements.Stmt.TheFolds.{every-Stmt, every-Arm, every-Def, every_here-Stmt, every_held-Stmt, every_held-Arm, map-Stmt}
-use Rattle.py_tree.specs.declared.statements.Stmt.TheVariants as s
 use Rattle.py_value.specs.declared.value.Value.{Value}
 use Rattle.py_heap.specs.declared.heap.Object.{Object}
 use Rattle.py_heap.specs.declared.heap.Object.TheVariants as object
@@ -42,18 +41,18 @@ pub each : {A : Type 0} (P : A → Type 0) (xs : List A) → All P xs → AllByR
 each P [] h = tt
 each P (x ∷ xs) h = (All-head P x xs h, each P xs (All-tail P x xs h))
 
-nothing_twice : HasNoKeyTwice []
+pub nothing_twice : HasNoKeyTwice []
 unfolding IsDistinct
 nothing_twice = tt
 
 module _ (IsOfKind : Def → Type 0) where
-  abbrev May : Name → Type 0
+  abbrev pub May : Name → Type 0
   May name = IsTrue (is_variable name)
 
-  abbrev Fit : Object → Type 0
+  abbrev pub Fit : Object → Type 0
   Fit = IsValidObject IsOfKind
 
-  abbrev Runs : Stmt → Type 0
+  abbrev pub Runs : Stmt → Type 0
   Runs = every-Stmt (IsAllowedHere IsOfKind) ArmAny DefAny
 
   abbrev RunsArm : Arm → Type 0
@@ -112,7 +111,7 @@ module _ (IsOfKind : Def → Type 0) where
   opens (Stmt-F.Function def) h = ((h.0, tt), h.1)
   opens _ h = tt
 
-  opened : (s : Stmt) → Runs s → OpensHere (out-Stmt s)
+  pub opened : (s : Stmt) → Runs s → OpensHere (out-Stmt s)
   opened s h =
       let w = every_held-Stmt (IsAllowedHere IsOfKind) ArmAny DefAny s h in
       let here : IsAllowedHere IsOfKind (out-Stmt s) = every_here-Stmt (IsAllowedHere IsOfKind) ArmAny DefAny s h in
@@ -143,7 +142,7 @@ module _ (IsOfKind : Def → Type 0) where
   handle_fit change.Use name uses = tt
   handle_fit _ name uses = tt
 
-  stays_fit : (p : Change) (o : Object) → Fit o → IfThere Fit (changed p o)
+  pub stays_fit : (p : Change) (o : Object) → Fit o → IfThere Fit (changed p o)
   stays_fit p (object.List items) h = items_fit p items
   stays_fit p (object.Dict pairs) h = pairs_fit p pairs h
   stays_fit p (object.Function def) h = tt
@@ -152,7 +151,7 @@ module _ (IsOfKind : Def → Type 0) where
   -- ---- the runs
 
   module _ (bodies : (def : Def) → IsOfKind def → AreAllowed IsOfKind def.body) where
-    abbrev rules : Rules
+    abbrev pub rules : Rules
     rules = record {
       may = May;
       known = NameAny;

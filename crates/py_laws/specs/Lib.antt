@@ -4,3 +4,4 @@ pub mod Allowed
 pub mod Mentioned
 pub mod Divided
 pub mod Loops
+pub mod Sound

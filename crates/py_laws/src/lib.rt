@@ -1,5 +1,5 @@
-//! Laws of the meaning of a cell: what a cell depends on, what its marks report, that it keeps states valid, when two
-//! states are the same, that the bounds of loops change nothing, and what floor division is.
+//! Laws of the meaning of a cell: what a cell depends on, what its marks report, that it keeps states valid and each run in
+//! it does, when two states are the same, that the bounds of loops change nothing, and what floor division is.
 //!
 //! Two states are the same over some names if these have equal values, but for the addresses of objects. Each law is
 //! the contract of a function that does nothing.
@@ -8,6 +8,7 @@
 mod laws;
 mod loops;
 mod numbers;
+mod runs;
 
 pub use laws::{
     a_state_is_the_same_as_itself, cells_depend_on_what_they_look_up, cells_keep_states_closed,
@@ -18,3 +19,4 @@ pub use laws::{
 };
 pub use loops::bounds_of_loops_change_nothing;
 pub use numbers::floor_division_is_by_quotient_and_remainder;
+pub use runs::runs_keep_machines_sound;
