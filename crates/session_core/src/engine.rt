@@ -1,7 +1,7 @@
 ghost use Rattle.std.specs.Prelude.{◌≡◌, ℕ, List, [], IfOk, OnOk, OnErr};
-ghost use Rattle.session_core.specs.Stepping.{reason_of};
+ghost use Rattle.session_core.specs.Stepping.{cause_of, reason_of};
 
-use crate::entry::MoveRefusal;
+use crate::entry::{DiedCause, MoveRefusal};
 use crate::reply::Done;
 use crate::request::Ask;
 use graph_model::{Certified, Tally, Weights};
@@ -18,6 +18,18 @@ pub enum RunFault {
     OutOfMemory,
     /// With these draws, one of the six numbers of a session would reach 2^32.
     TooMany { which: Tally, draws: Items<Drawn> },
+}
+
+impl RunFault {
+    /// Why the session dies.
+    pub fn cause(self) -> DiedCause
+        ensures { result ≡ cause_of self }
+    {
+        match self {
+            RunFault::OutOfMemory => DiedCause::OutOfMemory,
+            RunFault::TooMany { which, draws } => DiedCause::TooMany { which, draws },
+        }
+    }
 }
 
 impl fmt::Display for RunFault {

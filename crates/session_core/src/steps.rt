@@ -6,11 +6,11 @@ ghost use Rattle.session_core.specs.Asks.{IsWork, is_move, is_end};
 ghost use Rattle.session_core.specs.Entries.{IsEnd};
 ghost use Rattle.session_core.specs.Legal.{settled, progress_of};
 ghost use Rattle.session_core.specs.Machine.{IsNoted};
-ghost use Rattle.session_core.specs.Stepping.{cause_of, IsPackOf, HasGone, HasEnded};
+ghost use Rattle.session_core.specs.Stepping.{IsPackOf, HasGone, HasEnded};
 ghost use Rattle.session_core.specs.Feeding.{TellsDraws, Drew};
 
-use crate::engine::{Engine, Packed, RunFault};
-use crate::entry::{DiedCause, Entry, MoveRefusal};
+use crate::engine::{Engine, Packed};
+use crate::entry::{Entry, MoveRefusal};
 use crate::journal::Journal;
 use crate::judging::{Verdict, judge};
 use crate::reply::Done;
@@ -64,7 +64,7 @@ pub fn serve<E: Engine, F: Feed>(
             true
         }
         Err(fault) => {
-            let cause = died_by(fault);
+            let cause = fault.cause();
             journal.push(Entry::Died {
                 host,
                 request,
@@ -73,15 +73,6 @@ pub fn serve<E: Engine, F: Feed>(
             });
             false
         }
-    }
-}
-
-fn died_by(fault: RunFault) -> DiedCause
-    ensures { result ≡ cause_of fault }
-{
-    match fault {
-        RunFault::OutOfMemory => DiedCause::OutOfMemory,
-        RunFault::TooMany { which, draws } => DiedCause::TooMany { which, draws },
     }
 }
 

@@ -1,8 +1,7 @@
 -- A move that sets out, and how it ends.
 use Rattle.std.specs.Prelude.{Result, Err, IfOk}
-use Rattle.std.proofs.Common.{◌≡◌, ◌<◌, ◌≤◌, ◌+◌, ℕ, false, List, [], ◌∷◌, ◌++◌, refl, sym, ap, ◌∙◌, subst, Ok, arith}
+use Rattle.std.proofs.Common.{◌≡◌, ◌≤◌, ◌+◌, ℕ, List, [], ◌∷◌, ◌++◌, refl, sym, ap, ◌∙◌, subst, Ok, arith}
 use Rattle.session_core.specs.declared.request.Ask.{Ask}
-use Rattle.session_core.specs.declared.request.Ask.TheVariants.{Execute, Info, Complete, Shutdown, Migrate}
 use Rattle.session_core.specs.declared.request.Request.{Request}
 use Rattle.session_core.specs.declared.entry.Entry.{Entry}
 use Rattle.session_core.specs.declared.entry.Entry.TheVariants.{Sealed, Moved}
@@ -10,54 +9,26 @@ use Rattle.session_core.specs.declared.engine.Packed.{Packed}
 use Rattle.session_core.specs.Asks.{IsMove}
 use Rattle.session_core.specs.Engines.{Packs}
 use Rattle.session_core.specs.Meanings.{Served, Meaning, HasNoEnd, IsPacked}
-use Rattle.session_core.specs.Legal.{Phase, settled, sealed, arriving, moved, Progress, progress_of, CanGo, MayTry, MayGo, HasPlan, MayBeMoved, MayBeAdopted, MayBeResumed}
+use Rattle.session_core.specs.Legal.{Phase, settled, sealed, arriving, moved, Progress, progress_of, CanGo, MayTry, HasPlan, MayBeMoved, MayBeAdopted, MayBeResumed}
 use Rattle.session_core.proofs.Progressing.{progress_more}
-use Rattle.session_core.proofs.Going.{pack_of}
+use Rattle.session_core.proofs.Going.{move_more, move_gives, pack_of}
+use Rattle.session_core.specs.Stepping.{GoesBy}
 use Rattle.session_gate.specs.Facts.{IsOnItsWay, IsPackFor}
 
 module _ (meaning : Meaning) (hosts : ℕ) where
-  pub can_go : (p : Progress) (packed : Packed) (ask : Ask) → IsMove (λ to weights. CanGo meaning hosts p to × Packs meaning p.served weights (Ok packed)) ask → IsMove (λ to weights. to < hosts) ask
-  can_go p packed (Execute code silent store) h = absurd h
-  can_go p packed Info h = absurd h
-  can_go p packed (Complete code) h = absurd h
-  can_go p packed (Shutdown restart) h = absurd h
-  can_go p packed (Migrate to weights) h = h.0.2
-
-  pub is_alive : (p : Progress) (packed : Packed) (ask : Ask) → IsMove (λ to weights. CanGo meaning hosts p to × Packs meaning p.served weights (Ok packed)) ask → p.dead ≡ false
-  is_alive p packed (Execute code silent store) h = absurd h
-  is_alive p packed Info h = absurd h
-  is_alive p packed (Complete code) h = absurd h
-  is_alive p packed (Shutdown restart) h = absurd h
-  is_alive p packed (Migrate to weights) h = h.0.0
-
-  pub departs : (p : Progress) (packed : Packed) (ask : Ask) (aim : ℕ) → IsMove (λ to weights. CanGo meaning hosts p to × Packs meaning p.served weights (Ok packed)) ask → IsMove (λ to weights. aim ≡ to) ask
-      → IsMove (λ to weights. (aim ≡ to) × MayGo meaning hosts p to weights) ask
-  departs p packed (Execute code silent store) aim h is = absurd h
-  departs p packed Info aim h is = absurd h
-  departs p packed (Complete code) aim h is = absurd h
-  departs p packed (Shutdown restart) aim h is = absurd h
-  departs p packed (Migrate to weights) aim h is = let (g, of, admitted, free, certified, text) = h.1 in (is, (h.0, (g, of, admitted, free)))
-
-  pub packs : (p : Progress) (packed : Packed) (ask : Ask) → IsMove (λ to weights. CanGo meaning hosts p to × Packs meaning p.served weights (Ok packed)) ask → IsPackFor meaning p.served packed ask
-  packs p packed (Execute code silent store) h = absurd h
-  packs p packed Info h = absurd h
-  packs p packed (Complete code) h = absurd h
-  packs p packed (Shutdown restart) h = absurd h
-  packs p packed (Migrate to weights) h = h.1
+  -- a pack by which the session may go is one for the move
+  pub packs : (p : Progress) (packed : Packed) (to : ℕ) (ask : Ask) → GoesBy meaning hosts p packed to ask → IsPackFor meaning p.served packed ask
+  packs p packed to ask goes =
+      move_more (λ t w. (to ≡ t) × CanGo meaning hosts p t × Packs meaning p.served w (Ok packed)) (λ _ w. Packs meaning p.served w (Ok packed)) ask (λ t w h. h.2) goes
 
   has_plan : (p : Progress) (packed : Packed) (ask : Ask) → IsPackFor meaning p.served packed ask → IsMove (λ _ weights. HasPlan meaning hosts p packed.certified weights) ask
-  has_plan p packed (Execute code silent store) h = absurd h
-  has_plan p packed Info h = absurd h
-  has_plan p packed (Complete code) h = absurd h
-  has_plan p packed (Shutdown restart) h = absurd h
-  has_plan p packed (Migrate to weights) h = let (g, of, admitted, free, certified, text) = h in (g, of, certified)
+  has_plan p packed ask h =
+      move_more (λ _ w. Packs meaning p.served w (Ok packed)) (λ _ w. HasPlan meaning hosts p packed.certified w) ask
+      (λ t w k. let (g, of, admitted, free, certified, text) = k in (g, of, certified)) h
 
   pub is_packed : (served : List Served) (packed : Packed) (ask : Ask) → IsPackFor meaning served packed ask → meaning.IsRun served → HasNoEnd served → IsPacked meaning served packed.certified.plan packed.bytes
-  is_packed served packed (Execute code silent store) h runs open_ = absurd h
-  is_packed served packed Info h runs open_ = absurd h
-  is_packed served packed (Complete code) h runs open_ = absurd h
-  is_packed served packed (Shutdown restart) h runs open_ = absurd h
-  is_packed served packed (Migrate to weights) h runs open_ = pack_of meaning served weights packed runs open_ h
+  is_packed served packed ask h runs open_ =
+      move_gives (λ _ w. Packs meaning served w (Ok packed)) (IsPacked meaning served packed.certified.plan packed.bytes) ask (λ t w k. pack_of meaning served w packed runs open_ k) h
 
   pub may_resume : (p : Progress) (phase : Phase) (host : ℕ) (request : Request) → phase ≡ settled → host ≡ p.owner → IsMove (MayTry meaning hosts p) request.ask → MayBeResumed meaning hosts p phase host request
   may_resume p phase host request is own h = subst (λ z. MayBeResumed meaning hosts p z host request) (sym is) (own, h)

@@ -1,15 +1,13 @@
 -- What is in a slot, and what it is at the end.
-use Rattle.std.proofs.Common.{◌≡◌, ◌==◌, ℕ, Bool, true, false, cond, List, ◌++◌, sym, ap, ◌∙◌, subst, eqb-true, Some, Ok, slice_get, arith}
+use Rattle.std.proofs.Common.{◌≡◌, ℕ, true, List, ◌++◌, sym, ap, ◌∙◌, subst, eqb-true, Some, Ok, slice_get, arith}
 use Rattle.ruled_queue.specs.declared.rule.View.{View}
 use Rattle.ruled_queue.specs.Rule.{joined}
 use Rattle.ruled_queue.proofs.Keeping.{keeps_right}
 use Rattle.session_queues.specs.declared.shared.SharedQueues.{SharedQueues}
 use Rattle.session_queues.specs.Passes.{Producer, KeepsAll, HoldsAll}
 use Rattle.session_queues.specs.Ends.{gathered}
-use Rattle.session_gate.specs.Facts.{Holds, IsWhole, IsBare, owner_of}
-use Rattle.session_gate.specs.Custodies.{IsAtRest, IsInOrder, HasOwner, HasQueues, IsFinished, IsFree, is_of, took, Finishes}
-use Rattle.session_gate.specs.declared.slot.Take.{Take}
-use Rattle.session_gate.specs.declared.slot.Take.TheVariants as take
+use Rattle.session_gate.specs.Facts.{Holds, IsWhole, IsBare}
+use Rattle.session_gate.specs.Custodies.{IsAtRest, IsInOrder, HasOwner, HasQueues, IsFinished, is_of, Finishes}
 use Rattle.session_gate.specs.declared.slot.Custody.{Custody}
 use Rattle.session_gate.specs.declared.slot.Custody.TheVariants.{Unopened, In, Out, Sealed}
 
@@ -56,14 +54,3 @@ module _ {E F : Type 0} where
   queues_here hosts all number (In h) rest same = ap (slice_get all) (sym (eqb-true h.number number same)) ∙ rest.0.0
   queues_here hosts all number Out rest same = tt
   queues_here hosts all number (Sealed p) rest same = ap (slice_get all) (sym (eqb-true p.held.number number same)) ∙ rest.0.0
-
-  -- once the session is taken nobody is there
-  free_by : (own : Bool) (h o : Holds E F) (owner : ℕ) (t : Custody E F) → ◌≡◌ {A = Take E F × Custody E F} (take.Taken h, t) (cond own (take.Taken o, Out) (take.Elsewhere owner, In o)) → IsFree t
-  free_by true h o owner t is = subst IsFree (sym (ap (λ (p : Take E F × Custody E F). p.1) is)) tt
-  free_by false h o owner t is = let same : take.Taken h ≡ take.Elsewhere owner = ap (λ (p : Take E F × Custody E F). p.0) is in let no : ⊥ = cc in absurd no
-
-  pub free_once_taken : (s t : Custody E F) (host : ℕ) (h : Holds E F) → ◌≡◌ {A = Take E F × Custody E F} (take.Taken h, t) (took s host) → IsFree t
-  free_once_taken Unopened t host h is = subst IsFree (sym (ap (λ (p : Take E F × Custody E F). p.1) is)) tt
-  free_once_taken (In o) t host h is = free_by (owner_of o == host) h o (owner_of o) t is
-  free_once_taken Out t host h is = subst IsFree (sym (ap (λ (p : Take E F × Custody E F). p.1) is)) tt
-  free_once_taken (Sealed p) t host h is = let same : take.Taken h ≡ take.Sealed p.to = ap (λ (p : Take E F × Custody E F). p.0) is in let no : ⊥ = cc in absurd no

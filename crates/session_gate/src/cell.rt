@@ -107,10 +107,8 @@ impl<E: Engine + Drop, F: Feed, N: Name> SessionCell<E, F, N> {
             (λ made. (made.0 ≡ first_pass queues (MainItem.Opening host request channel)) × (made.1 ≡ nothing_on queues))
             (λ back. back ≡ queues) }
     {
-        let mut queues = queues;
         let mut guard = self.slot.lock(rt);
         let slot = &mut *guard;
-        slot.make_way_for(rt, &mut queues, self.number);
         slot.open(
             rt,
             alloc,
@@ -137,7 +135,7 @@ impl<E: Engine + Drop, F: Feed, N: Name> SessionCell<E, F, N> {
                 if lease.number() == self.number {
                     Take::Taken(lease)
                 } else {
-                    slot.give(lease);
+                    slot.give(rt, lease);
                     Take::Out
                 }
             }
@@ -150,11 +148,9 @@ impl<E: Engine + Drop, F: Feed, N: Name> SessionCell<E, F, N> {
         requires { (lease.ends.queues ≡ self.now.0) × (lease.number ≡ self.now.1) × (lease.hosts ≡ N.hosts) × OwesNone lease × IsBare lease }
     {
         let _ = &self.number;
-        let mut lease = lease;
         let mut guard = self.slot.lock(rt);
         let slot = &mut *guard;
-        lease.make_way(rt, slot);
-        slot.give(lease);
+        slot.give(rt, lease);
     }
 
     /// Puts a sealed session there in one hold of the lock. No owner of it is there.
@@ -164,11 +160,9 @@ impl<E: Engine + Drop, F: Feed, N: Name> SessionCell<E, F, N> {
         requires rest { OwesNone parcel.held × IsBare parcel.held }
     {
         let _ = &self.number;
-        let mut parcel = parcel;
         let mut guard = self.slot.lock(rt);
         let slot = &mut *guard;
-        parcel.make_way(rt, slot);
-        slot.seal(parcel);
+        slot.seal(rt, parcel);
     }
 
     /// Gives a session that is sealed for this host, in one hold of the lock. The parcel is this cell's, is for this host, and

@@ -1,8 +1,9 @@
-ghost use Rattle.std.specs.Prelude.{◌≡◌, ◌≢◌, ◌<◌, ◌≤◌, ◌+◌, [], ◌∷◌, ◌++◌, None, false, cond, length, List, IfOk, MatchOption, MatchResult, Ok};
+ghost use Rattle.std.specs.Prelude.{◌≡◌, ◌≢◌, ◌<◌, ◌≤◌, ◌+◌, [], ◌∷◌, ◌++◌, None, false, cond, length, List, IfOk, MatchOption, MatchResult, true};
 ghost use Rattle.session_core.specs.declared.entry.Entry.{Entry};
-ghost use Rattle.session_core.specs.Asks.{IsWork, IsMove, is_control};
+ghost use Rattle.session_core.specs.Asks.{IsWork, IsMove, is_move, is_control};
 ghost use Rattle.session_core.specs.Engines.{Packs};
-ghost use Rattle.session_core.specs.Legal.{progress_of, IsLegal, IsReason, MayTry, CanGo};
+ghost use Rattle.session_core.specs.Legal.{progress_of, sealed, IsLegal, IsReason, MayTry};
+ghost use Rattle.session_core.specs.Stepping.{GoesBy, IsVerdict};
 ghost use Rattle.session_queues.specs.Passes.{IsPassOf};
 ghost use Rattle.session_queues.specs.Ends.{FoundNothing, looked_at_both, TookRequest, admitted_main, admitted_control, gathered, all_of, GoesOn};
 ghost use Rattle.session_gate.specs.Facts.{OwesNone, Owes, IsSettled, IsWhole, IsIn, HasSame, HasNoted, owner_of};
@@ -15,7 +16,7 @@ use crate::served::ServedAs;
 use crate::slot::{Name, Slot};
 use graph_model::Weights;
 use nb_outside::Feed;
-use session_core::{Ask, Engine, Entry, Journal, MoveRefusal, PackFault, Packed, Request};
+use session_core::{Engine, Entry, Journal, MoveRefusal, PackFault, Packed, Request, Verdict};
 use session_queues::{Pass, Reader};
 use std::alloc::{AllocError, Global};
 use std::marker::Model;
@@ -88,6 +89,14 @@ impl<E: Engine, F: Feed> Lease<E, F> {
         ensures { result ≡ (progress_of self.now.entries).dead }
     {
         self.resident.is_dead()
+    }
+
+    /// What is to be done about a request to move.
+    pub fn judge(&self, alloc: Global, request: &Request) -> Verdict
+        requires { is_move request.now.ask ≡ true }
+        ensures { IsVerdict E.meaning self.now.hosts (progress_of self.now.entries) request.now result }
+    {
+        self.resident.judge(alloc, request)
     }
 
     /// A pack of the engine under these weights, or why there is none.
@@ -198,13 +207,14 @@ impl<E: Engine, F: Feed> Lease<E, F> {
     }
 
     /// Seals the session for the host that the owed request asks for, with a pack of its engine.
-    pub fn depart(self, request: Request, again: Request, packed: Packed) -> Parcel<E, F>
+    pub fn depart(self, request: Request, again: Request, to: u32, packed: Packed) -> Parcel<E, F>
         requires owes { Owes self request }
         requires spare { 3 ≤ self.spare }
         requires again { again ≡ request }
-        requires packed { IsMove (λ to weights. CanGo E.meaning self.hosts (progress_of self.entries) to × Packs E.meaning (progress_of self.entries).served weights (Ok packed)) request.ask }
-        ensures noted { HasNoted self result.held (Entry.Sealed (owner_of self) request result.to) }
-        ensures to { IsMove (λ to weights. result.to ≡ to) request.ask }
+        requires packed { GoesBy E.meaning self.hosts (progress_of self.entries) packed to request.ask }
+        ensures noted { HasNoted self result.held (Entry.Sealed (owner_of self) request to) }
+        ensures to { result.to ≡ to }
+        ensures sealed { (progress_of result.held.entries).phase ≡ sealed again to }
         ensures from { result.from ≡ owner_of self }
         ensures kept { (result.bytes ≡ packed.bytes) × (result.certified ≡ packed.certified) × (result.again ≡ again) }
         ensures owes { OwesNone result.held }
@@ -212,8 +222,6 @@ impl<E: Engine, F: Feed> Lease<E, F> {
         let Lease { resident } = self;
         let mut resident = resident;
         let host = resident.owner();
-        let hosts = resident.hosts();
-        let to = aim_of(&request.ask, hosts);
         let Packed { bytes, certified } = packed;
         resident.note(Entry::Sealed { host, request, to });
         Parcel {
@@ -253,7 +261,7 @@ impl<E: Engine, F: Feed> Lease<E, F> {
 impl<E: Engine + Drop, F: Feed> Lease<E, F> {
     /// Makes sure that a slot is free, before the lease is put there. An owner of the lease's session is never in it. If one of
     /// another session is, which it is in no run, it stays there, and the call doesn't return.
-    pub fn make_way<N: Name, R: Wait>(&mut self, rt: &R, slot: &mut Slot<E, F, N>)
+    pub(crate) fn make_way<N: Name, R: Wait>(&mut self, rt: &R, slot: &mut Slot<E, F, N>)
         requires { IsIn N.hosts N.queues self.old }
         ensures free { IsFree slot.new }
         ensures kept { slot.new ≡ slot.old }
@@ -269,17 +277,5 @@ impl<E: Engine + Drop, F: Feed> Lease<E, F> {
         ensures { self.new ≡ record self.old { ends = gathered self.old.ends pass } }
     {
         self.resident.join(pass);
-    }
-}
-
-/// The host that a move asks for, which is below the number of hosts.
-fn aim_of(ask: &Ask, hosts: u32) -> u32
-    requires { IsMove (λ to weights. to < hosts) ask.now }
-    ensures { IsMove (λ to weights. result ≡ to) ask.now }
-{
-    let _ = hosts;
-    match ask {
-        Ask::Migrate { to, .. } => *to as u32,
-        _ => unreachable!(),
     }
 }

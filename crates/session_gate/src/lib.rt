@@ -5,9 +5,8 @@
 //! a Parcel is kept, and a `SessionCell` is a slot that a lock guards. docs/THREADS.md tells it in words.
 //!
 //! What the contracts leave open: before a lock is taken nothing is known of what it guards but its type, so no clause of a
-//! cell's call can name who is there. Whom the call finds is said where it is lent the slot: `make_way` and `make_way_for` say
-//! that no owner of the session is there (`before`), and that who is there stays (`kept`). What lets go who is in a slot is
-//! private to the slot's file. A cell's call that takes the session out and ends it by a call that says so (`discard`,
+//! cell's call can name who is there. Whom the call finds is said where it is lent the slot: `open`, `give`, `seal` and `settle`
+//! of a slot say that nobody was there. What lets go who is in a slot is private to the slot's file. A cell's call that takes the session out and ends it by a call that says so (`discard`,
 //! `into_journal`) would be proved.
 //!
 //! For the same reason a `SessionCell::take` that always says that another host owns the session, a `collect` and a `read` that

@@ -1,7 +1,7 @@
 ghost use Rattle.std.specs.Prelude.{◌≡◌, ◌≤◌, ◌+◌, [], ◌∷◌, ◌++◌, false, IfOk};
 ghost use Rattle.session_core.specs.declared.entry.Entry.{Entry};
 ghost use Rattle.session_core.specs.Legal.{progress_of, sealed, arriving};
-ghost use Rattle.session_gate.specs.Facts.{OwesNone, IsIn, HasSame, HasNoted};
+ghost use Rattle.session_gate.specs.Facts.{OwesNone, IsIn, HasSame, HasNoted, owner_of};
 ghost use Rattle.session_gate.specs.Custodies.{is_of, IsFree};
 
 use crate::lease::Lease;
@@ -92,6 +92,7 @@ impl<E: Engine, F: Feed> Parcel<E, F> {
     pub fn resume(self) -> Lease<E, F>
         requires { (progress_of self.held.entries).phase ≡ arriving self.again self.to }
         ensures noted { HasNoted self.held result (Entry.Resumed self.from self.again) }
+        ensures owner { owner_of result ≡ self.from }
         ensures owes { OwesNone result }
     {
         let Parcel {
@@ -121,6 +122,7 @@ impl<E: Engine, F: Feed> Parcel<E, F> {
         requires objects { E.meaning.HasObjects (progress_of self.held.entries).served objects }
         ensures engine { result.engine ≡ engine }
         ensures entries { result.entries ≡ self.held.entries ++ Entry.Adopted self.from self.to self.again self.certified objects ∷ [] }
+        ensures owner { owner_of result ≡ self.to }
         ensures same { HasSame self.held result × (result.feed ≡ self.held.feed) × (self.held.spare ≡ result.spare + 1) }
         ensures owes { OwesNone result }
     {
@@ -148,7 +150,7 @@ impl<E: Engine, F: Feed> Parcel<E, F> {
 impl<E: Engine + Drop, F: Feed> Parcel<E, F> {
     /// Makes sure that a slot is free, before the parcel is put there. An owner of the parcel's session is never in it. If one of
     /// another session is, which it is in no run, it stays there, and the call doesn't return.
-    pub fn make_way<N: Name, R: Wait>(&mut self, rt: &R, slot: &mut Slot<E, F, N>)
+    pub(crate) fn make_way<N: Name, R: Wait>(&mut self, rt: &R, slot: &mut Slot<E, F, N>)
         requires { IsIn N.hosts N.queues self.old.held }
         ensures free { IsFree slot.new }
         ensures kept { slot.new ≡ slot.old }

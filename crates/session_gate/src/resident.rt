@@ -1,10 +1,9 @@
 ghost use Rattle.std.specs.Prelude.{◌≡◌, ◌≢◌, ◌<◌, ◌≤◌, ◌+◌, [], ◌∷◌, ◌++◌, true, false, None, cond, length, List, IfOk, MatchOption, MatchResult};
 ghost use Rattle.session_core.specs.declared.entry.Entry.{Entry};
-ghost use Rattle.session_core.specs.declared.entry.DiedCause.{DiedCause};
-ghost use Rattle.session_core.specs.Asks.{IsWork, is_control};
+ghost use Rattle.session_core.specs.Asks.{IsWork, is_move, is_control};
 ghost use Rattle.session_core.specs.Engines.{Packs};
 ghost use Rattle.session_core.specs.Legal.{progress_of, after, MayCome};
-ghost use Rattle.session_core.specs.Stepping.{cause_of};
+ghost use Rattle.session_core.specs.Stepping.{IsVerdict};
 ghost use Rattle.session_queues.specs.Passes.{IsPassOf, KeepsAll};
 ghost use Rattle.session_queues.specs.Ends.{FoundNothing, looked_at_both, TookRequest, gathered, admitted_main, admitted_control, all_of, GoesOn};
 ghost use Rattle.session_gate.specs.Facts.{OwesNone, Owes, IsSettled, IsWhole, HasSame, HasNoted, owner_of};
@@ -13,7 +12,7 @@ ghost use Rattle.session_gate.specs.Slots.{IsQuiet, IsStill, IsServed};
 use crate::served::ServedAs;
 use graph_model::Weights;
 use nb_outside::Feed;
-use session_core::{DiedCause, Done, Engine, Entry, Journal, PackFault, Packed, Request, RunFault};
+use session_core::{Done, Engine, Entry, Journal, PackFault, Packed, Request, Verdict, judge};
 use session_queues::{Ends, Outlet, Pass, Reader};
 use std::alloc::{AllocError, Global};
 use std::marker::Model;
@@ -79,6 +78,22 @@ impl<E: Engine, F: Feed> Resident<E, F> {
         ensures { (progress_of self.now.entries).dead ≡ false → E.stands_for self.now.engine (progress_of self.now.entries).served }
     {
         let _ = &self.dead;
+    }
+
+    /// What is to be done about a request to move.
+    pub(crate) fn judge(&self, alloc: Global, request: &Request) -> Verdict
+        requires settled { IsSettled self.now }
+        requires asked { is_move request.now.ask ≡ true }
+        ensures { IsVerdict E.meaning self.now.hosts (progress_of self.now.entries) request.now result }
+    {
+        judge(
+            alloc,
+            &self.engine,
+            &self.journal,
+            self.hosts,
+            self.dead,
+            request,
+        )
     }
 
     /// A pack of the engine under these weights, or why there is none.
@@ -160,7 +175,7 @@ impl<E: Engine, F: Feed> Resident<E, F> {
                 ServedAs::Ran
             }
             Err(fault) => {
-                let cause = died_by(fault);
+                let cause = fault.cause();
                 self.journal.push(Entry::Died {
                     host,
                     request,
@@ -237,14 +252,5 @@ impl<E: Engine, F: Feed> Resident<E, F> {
             (λ r. (r ≡ request) × (self.new ≡ self.old)) }
     {
         self.ends.admit(rt, request)
-    }
-}
-
-fn died_by(fault: RunFault) -> DiedCause
-    ensures { result ≡ cause_of fault }
-{
-    match fault {
-        RunFault::OutOfMemory => DiedCause::OutOfMemory,
-        RunFault::TooMany { which, draws } => DiedCause::TooMany { which, draws },
     }
 }

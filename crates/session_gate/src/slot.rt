@@ -121,8 +121,8 @@ impl<E: Engine, F: Feed, N: Name> Slot<E, F, N> {
         }
     }
 
-    /// Puts a lease that owes nothing in a free slot. Takes no memory.
-    pub fn give(&mut self, lease: Lease<E, F>)
+    /// Puts a lease that owes nothing in a free slot.
+    fn put_lease(&mut self, lease: Lease<E, F>)
         requires free { IsFree self.old }
         requires ours { IsIn N.hosts N.queues lease × OwesNone lease × IsBare lease }
         ensures { self.new ≡ In lease }
@@ -131,22 +131,13 @@ impl<E: Engine, F: Feed, N: Name> Slot<E, F, N> {
         put(&mut self.state, Custody::In(resident));
     }
 
-    /// Puts a sealed session in a free slot. Takes no memory.
-    pub fn seal(&mut self, parcel: Parcel<E, F>)
+    /// Puts a sealed session in a free slot.
+    fn put_parcel(&mut self, parcel: Parcel<E, F>)
         requires free { IsFree self.old }
         requires ours { IsSealedUp N.hosts N.queues parcel }
         ensures { self.new ≡ Sealed parcel }
     {
         put(&mut self.state, Custody::Sealed(parcel));
-    }
-
-    /// Puts the lease of a session that was collected, and then adopted or resumed, in a free slot. Takes no memory.
-    pub fn settle(&mut self, lease: Lease<E, F>)
-        requires free { IsFree self.old }
-        requires ours { IsIn N.hosts N.queues lease × OwesNone lease × IsBare lease }
-        ensures { self.new ≡ In lease }
-    {
-        self.give(lease);
     }
 
     /// Whether the owner of the session of this number is here, sealed or not.
@@ -227,9 +218,71 @@ fn put<E: Engine, F: Feed>(custody: &mut Custody<E, F>, state: Custody<E, F>)
 }
 
 impl<E: Engine + Drop, F: Feed, N: Name> Slot<E, F, N> {
-    /// Opens a session in a free slot, and gives the first pass and the one reader. The queues come back for want of memory
-    /// alone.
+    /// Puts a lease that owes nothing here. An owner of its session never is here. If one of another session is, which it is in no
+    /// run, it stays, and the call doesn't return. Takes no memory.
+    pub fn give<R: Wait>(&mut self, rt: &R, lease: Lease<E, F>)
+        requires { IsIn N.hosts N.queues lease × OwesNone lease × IsBare lease }
+        ensures free { IsFree self.old }
+        ensures here { self.new ≡ In lease }
+    {
+        let mut lease = lease;
+        lease.make_way(rt, self);
+        self.put_lease(lease);
+    }
+
+    /// Puts a sealed session here, as `give` does a lease. Takes no memory.
+    pub fn seal<R: Wait>(&mut self, rt: &R, parcel: Parcel<E, F>)
+        requires { IsSealedUp N.hosts N.queues parcel }
+        ensures free { IsFree self.old }
+        ensures here { self.new ≡ Sealed parcel }
+    {
+        let mut parcel = parcel;
+        parcel.make_way(rt, self);
+        self.put_parcel(parcel);
+    }
+
+    /// Puts the lease of a session that was collected, and then adopted or resumed, here, as `give` does. Takes no memory.
+    pub fn settle<R: Wait>(&mut self, rt: &R, lease: Lease<E, F>)
+        requires { IsIn N.hosts N.queues lease × OwesNone lease × IsBare lease }
+        ensures free { IsFree self.old }
+        ensures here { self.new ≡ In lease }
+    {
+        self.give(rt, lease);
+    }
+
+    /// Opens a session here, and gives the first pass and the one reader. The queues come back for want of memory alone. An owner of
+    /// their session never is here yet. If one of another session is, which it is in no run, it stays, and the call doesn't return.
     pub fn open<R: Wait>(
+        &mut self,
+        rt: &R,
+        alloc: Global,
+        queues: Queues,
+        number: u32,
+        hosts: u32,
+        engine: E,
+        feed: F,
+        host: u32,
+        request: Header,
+        channel: Channel,
+    ) -> Result<(Pass, Reader), Queues>
+        requires name { (slice_get N.queues number ≡ Some queues) × (hosts ≡ N.hosts) }
+        requires host { host < hosts }
+        requires engine { E.stands_for engine [] × (E.host_of engine ≡ host) }
+        requires feed { HasAll (F.seen feed) }
+        ensures free { IsFree self.old }
+        ensures opened { MatchResult result
+            (λ made. HasOwner (IsNew engine feed queues number hosts host request channel) self.new × (made.0 ≡ first_pass queues (MainItem.Opening host request channel)) × (made.1 ≡ nothing_on queues))
+            (λ back. (back ≡ queues) × (self.new ≡ self.old)) }
+    {
+        let mut queues = queues;
+        self.make_way_for(rt, &mut queues, number);
+        self.open_free(
+            rt, alloc, queues, number, hosts, engine, feed, host, request, channel,
+        )
+    }
+
+    /// Opens a session in a free slot.
+    fn open_free<R: Wait>(
         &mut self,
         rt: &R,
         alloc: Global,
@@ -278,7 +331,7 @@ impl<E: Engine + Drop, F: Feed, N: Name> Slot<E, F, N> {
     }
 
     /// The same before the session of these queues is opened here.
-    pub fn make_way_for<R: Wait>(&mut self, rt: &R, queues: &mut Queues, number: u32)
+    fn make_way_for<R: Wait>(&mut self, rt: &R, queues: &mut Queues, number: u32)
         requires { slice_get N.queues number ≡ Some queues.old }
         ensures free { IsFree self.new }
         ensures kept { self.new ≡ self.old }

@@ -11,8 +11,8 @@ use Rattle.session_queues.specs.Passes.{Producer}
 use Rattle.session_queues.specs.Ends.{Held, FoundNothing}
 use Rattle.session_gate.specs.Answered.{as_main, as_control, IsAnswered}
 use Rattle.session_gate.specs.Facts.{Holds, OwesNone, HasSame}
-use Rattle.session_threads.specs.declared.moving.Started.{Started}
-use Rattle.session_threads.specs.declared.moving.Started.TheVariants.{Stayed, Sealed}
+use Rattle.hand_off.specs.declared.lib.Started.{Started}
+use Rattle.hand_off.specs.declared.lib.Started.TheVariants.{Refused, Resumed, Sealed}
 
 -- of this frontend the journal answers just these requests, in order, on each of the two lists
 abbrev pub AnswersJust : ℕ → List Entry → List Request → Type 0
@@ -46,7 +46,8 @@ IsServed entries p = (ends : Held) × IsAnswered entries ends [] × FoundNothing
     × (ends.control.lists ≡ p.control.lists) × (ends.control.given ≡ p.control.given)
 
 module _ {E F : Type 0} where
-  -- it stayed and owes nothing, or is sealed for its host
-  abbrev pub HasStarted : Holds E F → Started E F → Type 0
-  HasStarted old (Stayed h) = OwesNone h × HasSame old h
-  HasStarted old (Sealed p) = ((progress_of p.held.entries).phase ≡ sealed p.again p.to) × OwesNone p.held × HasSame old p.held
+  -- it is the same session and owes nothing: it stayed, or is sealed for its host
+  abbrev pub IsStarted : Holds E F → Started E F → Type 0
+  IsStarted old (Refused h) = OwesNone h × HasSame old h
+  IsStarted old (Resumed h) = OwesNone h × HasSame old h
+  IsStarted old (Sealed p) = ((progress_of p.held.entries).phase ≡ sealed p.again p.to) × OwesNone p.held × HasSame old p.held

@@ -7,10 +7,10 @@ ghost use Rattle.session_queues.specs.Ends.{first_pass};
 ghost use Rattle.session_core.specs.declared.request.Channel.{Channel};
 ghost use Rattle.session_gate.specs.Facts.{OwesNone, IsWhole};
 
+use crate::idle::Idle;
 use crate::serve_here;
 use crate::working::drain;
 use graph_model::Weights;
-use idle_engine::Idle;
 use nb_outside::NoFeed;
 use plain_data::Text;
 use session_core::{Ask, Channel, Engine, Entry, Header, Journal, Request};

@@ -1,13 +1,15 @@
 ghost use Rattle.std.specs.Prelude.{◌≡◌, ◌≤◌, true};
 ghost use Rattle.session_queues.specs.Ends.{FoundNothing};
-ghost use Rattle.session_gate.specs.Facts.{OwesNone, IsBare};
-ghost use Rattle.session_threads.specs.Served.{HasLists};
+ghost use Rattle.session_core.specs.Asks.{is_move};
+ghost use Rattle.session_core.specs.Legal.{progress_of, arriving};
+ghost use Rattle.session_gate.specs.Facts.{Owes, OwesNone, IsBare, HasSame};
+ghost use Rattle.session_threads.specs.Served.{IsStarted, HasLists};
 ghost use Rattle.session_threads.specs.declared.working.Found.{Found};
 
-use crate::moving::{Started, finish_move, start_move};
+use hand_off::{Started, finish_move, start_move};
 use nb_outside::Feed;
-use session_core::Engine;
-use session_gate::{Lease, Name, SessionCell, Take};
+use session_core::{Engine, Request};
+use session_gate::{Lease, Name, Parcel, SessionCell, Take};
 use std::alloc::Global;
 use std::sync::Wait;
 use std::sync::atomic::{AtomicBool, Ordering};
@@ -83,8 +85,9 @@ where
         return false;
     };
     if request.ask.is_move() {
-        match start_move(alloc, lease, request) {
-            Started::Stayed(lease) => cell.give(rt, lease),
+        match started(alloc, lease, request) {
+            Started::Refused(lease) => cell.give(rt, lease),
+            Started::Resumed(lease) => cell.give(rt, lease),
             Started::Sealed(parcel) => cell.seal(rt, parcel),
         }
         return true;
@@ -93,6 +96,25 @@ where
     let _ = lease.publish(rt, alloc);
     cell.give(rt, lease);
     true
+}
+
+/// Starts a move. Of what comes of it this is told: it is the same session, owes nothing, and stayed or is sealed.
+fn started<E: Engine, F: Feed>(alloc: Global, lease: Lease<E, F>, request: Request) -> Started<E, F>
+    requires owes { Owes lease request }
+    requires spare { 3 ≤ lease.spare }
+    requires asked { is_move request.ask ≡ true }
+    ensures { IsStarted lease result }
+{
+    start_move(alloc, lease, request)
+}
+
+/// Ends a move. Of what comes of it this is told: it is the same session, and owes nothing.
+fn finished<E: Engine + Drop, F: Feed>(alloc: Global, parcel: Parcel<E, F>) -> Lease<E, F>
+    requires { (progress_of parcel.held.entries).phase ≡ arriving parcel.again parcel.to }
+    ensures owes { OwesNone result }
+    ensures same { HasSame parcel.held result }
+{
+    finish_move(alloc, parcel)
 }
 
 /// Brings a session that is sealed for the host there. Whether it was.
@@ -105,7 +127,7 @@ where
 {
     match cell.collect(rt, host) {
         Some(parcel) => {
-            cell.settle(rt, finish_move(alloc, parcel));
+            cell.settle(rt, finished(alloc, parcel));
             true
         }
         None => false,
@@ -140,9 +162,10 @@ fn turn<E: Engine + Drop, F: Feed, R: Wait>(
         return (lease, Found::Nothing);
     };
     if request.ask.is_move() {
-        return match start_move(alloc, lease, request) {
-            Started::Stayed(lease) => (lease, Found::Answered),
-            Started::Sealed(parcel) => (finish_move(alloc, parcel.arrive()), Found::Answered),
+        return match started(alloc, lease, request) {
+            Started::Refused(lease) => (lease, Found::Answered),
+            Started::Resumed(lease) => (lease, Found::Answered),
+            Started::Sealed(parcel) => (finished(alloc, parcel.arrive()), Found::Answered),
         };
     }
     let _ = lease.serve(alloc, request);

@@ -27,7 +27,7 @@ pub returns-in-Err-clause-noted : goal.returns-in-Err-clause-noted
 returns-in-Err-clause-noted g c = λ hosts.
     let es = c.args.journal.now.entries in
     let failed = c.in-Err.ensures.reply (progress_of es).served c.requires.stands (alive_has_no_end es c.requires.alive) in (
-      Died c.settled_owner-host.result c.args.request c.count-count.result c.died_by-cause.result,
+      Died c.settled_owner-host.result c.args.request c.count-count.result c.cause-cause.result,
       refl,
       (
         (
@@ -36,7 +36,7 @@ returns-in-Err-clause-noted g c = λ hosts.
           c.settled_owner-host.ensures,
           c.requires.work,
           c.count-count.ensures (progress_of es).served c.requires.stands,
-          cause_is g.E.Engine.meaning hosts (progress_of es) c.args.request.ask c.in-Err.fault c.died_by-cause.result failed c.died_by-cause.ensures,
+          cause_is g.E.Engine.meaning hosts (progress_of es) c.args.request.ask c.in-Err.fault c.cause-cause.result failed c.cause-cause.ensures,
         ),
         c.push-in-Err.ensures.entries,
       ),
@@ -45,7 +45,7 @@ returns-in-Err-clause-noted g c = λ hosts.
 pub returns-in-Err-clause-dead : goal.returns-in-Err-clause-dead
 returns-in-Err-clause-dead g c = λ _.
     let es = c.args.journal.now.entries in
-    ap (λ p. p.dead) (ap progress_of c.push-in-Err.ensures.entries ∙ progress_more es (Died c.settled_owner-host.result c.args.request c.count-count.result c.died_by-cause.result))
+    ap (λ p. p.dead) (ap progress_of c.push-in-Err.ensures.entries ∙ progress_more es (Died c.settled_owner-host.result c.args.request c.count-count.result c.cause-cause.result))
 
 pub returns-in-Ok-clause-ends : goal.returns-in-Ok-clause-ends
 returns-in-Ok-clause-ends g c = λ _.
@@ -56,7 +56,7 @@ returns-in-Ok-clause-ends g c = λ _.
 pub returns-in-Err-clause-served : goal.returns-in-Err-clause-served
 returns-in-Err-clause-served g c = λ _.
     let es = c.args.journal.now.entries in
-    ap (λ p. p.served) (ap progress_of c.push-in-Err.ensures.entries ∙ progress_more es (Died c.settled_owner-host.result c.args.request c.count-count.result c.died_by-cause.result))
+    ap (λ p. p.served) (ap progress_of c.push-in-Err.ensures.entries ∙ progress_more es (Died c.settled_owner-host.result c.args.request c.count-count.result c.cause-cause.result))
 
 pub returns-in-Ok-clause-fed : goal.returns-in-Ok-clause-fed
 returns-in-Ok-clause-fed g c =
@@ -67,9 +67,9 @@ pub returns-in-Err-clause-fed : goal.returns-in-Err-clause-fed
 returns-in-Err-clause-fed g c =
     let host = c.settled_owner-host.result in
     let count = c.count-count.result in
-    let cause = c.died_by-cause.result in (
+    let cause = c.cause-cause.result in (
       Died host c.args.request count cause,
       c.push-in-Err.ensures.entries,
-      drew_at_fault c.in-Err.fault cause host c.args.request count _ _ c.in-Err.ensures.drawn c.died_by-cause.ensures,
+      drew_at_fault c.in-Err.fault cause host c.args.request count _ _ c.in-Err.ensures.drawn c.cause-cause.ensures,
       λ ran. let never : false ≡ true = ran in cc,
     )

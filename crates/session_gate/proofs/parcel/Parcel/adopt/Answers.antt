@@ -1,6 +1,7 @@
 use Rattle.std.proofs.Common.{◌≡◌, sym, ap, ◌∙◌, refl, subst, []}
 use Rattle.session_core.specs.declared.entry.Entry.TheVariants.{Adopted}
 use Rattle.session_core.specs.Legal.{arriving, progress_of}
+use Rattle.session_core.proofs.Progressing.{progress_more}
 use Rattle.session_gate.specs.Facts.{Away}
 use Rattle.session_gate.proofs.Noting.{answered_more, settled_now}
 use Rattle.session_gate.proofs.Going.{may_adopt, arriving_room}
@@ -29,3 +30,8 @@ adopt-requires-clause-stands g c = let v = c.self.view_is in
 
 pub invariant_of-result : goal.invariant_of-result
 invariant_of-result g c = let i = c.self.inside in settled_now i.resident.entries _ (Adopted i.from i.to i.again i.certified c.args.objects) c.adopt.ensures.noted.1 refl
+
+pub returns-clause-owner : goal.returns-clause-owner
+returns-clause-owner g c = let i = c.self.inside in
+    ap (λ es. (progress_of es).owner) c.adopt.ensures.noted.1 ∙ ap (λ p. p.owner) (progress_more i.resident.entries (Adopted i.from i.to i.again i.certified c.args.objects))
+    ∙ ap (λ (p : Away g.row.E.Denot g.row.F.Denot). p.to) c.self.view_is

@@ -1,6 +1,7 @@
-use Rattle.std.proofs.Common.{◌≡◌, sym, ap, refl, subst, []}
+use Rattle.std.proofs.Common.{◌≡◌, sym, ap, ◌∙◌, refl, subst, []}
 use Rattle.session_core.specs.declared.entry.Entry.TheVariants.{Resumed}
 use Rattle.session_core.specs.Legal.{arriving, progress_of, asked_by}
+use Rattle.session_core.proofs.Progressing.{progress_more}
 use Rattle.session_gate.specs.Facts.{Away}
 use Rattle.session_gate.proofs.Noting.{answered_more, settled_now}
 use Rattle.session_gate.proofs.Going.{may_stay, arriving_room}
@@ -25,3 +26,8 @@ note-requires-clause-owes g c = let i = c.self.inside in
 
 pub invariant_of-result : goal.invariant_of-result
 invariant_of-result g c = settled_now c.self.inside.resident.entries _ (Resumed c.self.inside.from c.self.inside.again) c.note.ensures.noted.2 refl
+
+pub returns-clause-owner : goal.returns-clause-owner
+returns-clause-owner g c = let i = c.self.inside in
+    ap (λ es. (progress_of es).owner) c.note.ensures.noted.2 ∙ ap (λ p. p.owner) (progress_more i.resident.entries (Resumed i.from i.again)) ∙ sym c.self.invariant.from
+    ∙ ap (λ (p : Away g.row.E.Denot g.row.F.Denot). p.from) c.self.view_is

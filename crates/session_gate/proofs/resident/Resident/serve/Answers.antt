@@ -66,7 +66,7 @@ returns-in-Ok-clause-entry g c = let v = c.self.view_is in (
 pub invariant_of-self-in-Err : goal.invariant_of-self-in-Err
 invariant_of-self-in-Err g c = let e = g.E.Engine in let f = g.F.Feed in let i = c.self.inside in let v = c.self.view_is in
     died e.meaning i.hosts (e.stands_for i.engine) (e.stands_for c.run.new.self) (e.host_of i.engine) (e.host_of c.run.new.self) (f.seen i.feed) (f.seen c.run.new.feed) i.dead i.count c.count-count.result
-    i.journal.entries c.push-in-Err.new.self.entries i.ends i.outlet c.owner-host.result c.args.request c.in-Err.fault c.died_by-cause.result c.self.invariant c.if-self.false c.push-in-Err.ensures.entries c.died_by-cause.ensures
+    i.journal.entries c.push-in-Err.new.self.entries i.ends i.outlet c.owner-host.result c.args.request c.in-Err.fault c.cause-cause.result c.self.invariant c.if-self.false c.push-in-Err.ensures.entries c.cause-cause.ensures
     (subst (λ (h : Holds g.row.E.Denot g.row.F.Denot). IsAnswered h.entries h.ends (c.args.request ∷ [])) (sym v) c.requires.owes)
     (ap (λ (h : Holds g.row.E.Denot g.row.F.Denot). (progress_of h.entries).phase) v ∙ c.requires.settled)
     (c.owner-host.ensures ∙ ap (λ (h : Holds g.row.E.Denot g.row.F.Denot). (progress_of h.entries).owner) (sym v))
@@ -75,16 +75,16 @@ invariant_of-self-in-Err g c = let e = g.E.Engine in let f = g.F.Feed in let i =
 pub returns-in-Err-clause-owes : goal.returns-in-Err-clause-owes
 returns-in-Err-clause-owes g c = let i = c.self.inside in let v = c.self.view_is in
     subst (λ es. IsAnswered es i.ends []) (sym c.push-in-Err.ensures.entries)
-    (answered_more i.journal.entries (Died c.owner-host.result c.args.request c.count-count.result c.died_by-cause.result) i.ends (c.args.request ∷ []) refl
+    (answered_more i.journal.entries (Died c.owner-host.result c.args.request c.count-count.result c.cause-cause.result) i.ends (c.args.request ∷ []) refl
     (subst (λ (h : Holds g.row.E.Denot g.row.F.Denot). IsAnswered h.entries h.ends (c.args.request ∷ [])) (sym v) c.requires.owes) refl)
 
 pub returns-in-Err-clause-settled : goal.returns-in-Err-clause-settled
 returns-in-Err-clause-settled g c = let i = c.self.inside in let v = c.self.view_is in
-    settled_more i.journal.entries _ (Died c.owner-host.result c.args.request c.count-count.result c.died_by-cause.result) c.push-in-Err.ensures.entries (ap (λ (h : Holds g.row.E.Denot g.row.F.Denot). (progress_of h.entries).phase) v ∙ c.requires.settled) refl
+    settled_more i.journal.entries _ (Died c.owner-host.result c.args.request c.count-count.result c.cause-cause.result) c.push-in-Err.ensures.entries (ap (λ (h : Holds g.row.E.Denot g.row.F.Denot). (progress_of h.entries).phase) v ∙ c.requires.settled) refl
 
 pub returns-in-Err-clause-entry : goal.returns-in-Err-clause-entry
 returns-in-Err-clause-entry g c = let v = c.self.view_is in (
-  Died c.owner-host.result c.args.request c.count-count.result c.died_by-cause.result,
-  c.push-in-Err.ensures.entries ∙ ap (λ (h : Holds g.row.E.Denot g.row.F.Denot). h.entries ++ Died c.owner-host.result c.args.request c.count-count.result c.died_by-cause.result ∷ []) v,
+  Died c.owner-host.result c.args.request c.count-count.result c.cause-cause.result,
+  c.push-in-Err.ensures.entries ∙ ap (λ (h : Holds g.row.E.Denot g.row.F.Denot). h.entries ++ Died c.owner-host.result c.args.request c.count-count.result c.cause-cause.result ∷ []) v,
   (refl, ap (λ (x : Holds g.row.E.Denot g.row.F.Denot). (progress_of x.entries).dead) (sym v) ∙ (sym c.self.invariant.kept.dead ∙ c.if-self.false), c.owner-host.ensures, refl),
 )

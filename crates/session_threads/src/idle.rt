@@ -1,11 +1,10 @@
 //! The engine that does nothing, for tests and measurements of what is around an engine.
 //!
-//! The contracts leave open when memory runs out, so a run that always answers that it ran out meets them. Therefore the tests
-//! of `session_threads` run it.
-#![tactic(auto)]
+//! The contracts leave open when memory runs out, so a run that always answers that it ran out meets them. Therefore the tests run
+//! it.
 
 ghost use Rattle.std.specs.Prelude.{◌≡◌, []};
-ghost use Rattle.idle_engine.specs.Idling.{no_plan};
+ghost use Rattle.session_threads.specs.Idling.{no_plan};
 
 use graph_model::{Certified, Graph, Plan, Weights};
 use nb_outside::{Feed, draws_add_up};
@@ -22,7 +21,7 @@ pub struct Idle {
 
 impl Engine for Idle {
     ghost use Rattle.std.specs.Prelude.{◌≡◌, []};
-    ghost use Rattle.idle_engine.specs.Idling.{idling};
+    ghost use Rattle.session_threads.specs.Idling.{idling};
 
     ghost meaning = { idling };
 
@@ -70,7 +69,7 @@ impl Engine for Idle {
 
     ghost use Rattle.std.proofs.Common.{◌∙◌, sym, subst};
     ghost use Rattle.graph_model.specs.Faults.{IsGraph};
-    ghost use Rattle.idle_engine.specs.Graphs.{is_graph};
+    ghost use Rattle.session_threads.specs.Graphs.{is_graph};
 
     ghost runs = { λ e served h. tt };
 

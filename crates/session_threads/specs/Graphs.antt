@@ -1,7 +1,7 @@
 -- The graph of the engine that does nothing has no fault.
 use Rattle.std.proofs.Common.{◌≡◌, ℕ, ◌-◌, [], lit<, Some, slice_get}
 use Rattle.graph_model.specs.Faults.{IsGraph}
-use Rattle.idle_engine.specs.Idling.{no_graph}
+use Rattle.session_threads.specs.Idling.{no_graph}
 
 -- nothing is in a list without items
 pub none_at : {X : Type 0} (i : ℕ) (x : X) → slice_get [] i ≡ Some x → ⊥
