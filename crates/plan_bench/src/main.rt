@@ -1,24 +1,40 @@
-//! Plans a graph of n cells of some shape, and prints what its plan costs, or the graph, or how long each step takes.
+//! Plans graphs: in cases that standard input gives, or of n cells of some shape, to be measured.
 //!
-//! The arguments are the shape (session, chain, star, comb, bipartite, layered, random, handles or dense), n, and one of
-//! the words `cost`, `graph` and `times`; `session 100 cost` if there are none. The graph is made by a rule, so it is
-//! checked before it is planned.
+//! If there are arguments, they are the shape (session, chain, star, comb, bipartite, layered, random, handles or dense), n, or
+//! else 100, and one of the words `cost`, `graph` and `times`, or else `cost`. What a plan of that graph costs is printed, or
+//! the graph, or how long each step takes. The graph is made by a rule, so it is checked before it is planned.
+//!
+//! Without arguments each line of standard input is a JSON object, and for each a line is printed.
+//!
+//! - `nodes`, a number, and `arcs`, a list of arcs, each a list of its two nodes and its capacity: the value of a greatest flow
+//!   and the capacity of a least cut; or, if `on` has what each arc carries, the value of that flow, or its fault.
+//! - `ask`, a word, with `cells` (each with `steps`, `drew`, `reads`, `missing`) and `versions` (each with `names`, `writer`,
+//!   `replaced`, `absent`, `handle`, `size`), where what is left out is 0, false or empty. `check`: whether that is a graph, or
+//!   else its fault; that is said also if anything below is asked of what is no graph. `need`: the cells that the version
+//!   `version` needs. `weigh`: whether the four `weights` are admitted, or else their fault, of any cells and versions, and of
+//!   these each `times` times. `network`: how many nodes the plan network has, and its arcs. `plan`: a plan of least cost, with
+//!   its cost and the arcs that show it. `least`: what such a plan costs, or what is stuck. `judge`: what the plan that copies
+//!   `copied` and runs `rerun` again costs, or where it isn't feasible; with `on`, what each arc of the plan network carries,
+//!   whether the plan is best.
+//! - `shape` and `count`: what a plan of the graph of that shape costs, as above.
 #![tactic(auto)]
 
-use anyhow::{Result, anyhow};
-use graph_model::{CellRecord, Certified, Graph, Node, Version};
-use session::make_session;
-use shape::{Shape, make_shape};
+use anyhow::Result;
+use cases::answer_lines;
+use graph_model::{CellRecord, Graph, Version};
 use std::env;
 use std::rt::Env;
-use steps::{Times, planned, timed};
+use steps::{MOST, Times, cost_line, made, timed};
 
+mod cases;
+mod flows;
+mod given;
+mod members;
+mod plans;
 mod session;
 mod shape;
 mod steps;
-
-/// The most cells that are planned.
-const MOST: u32 = 100_000;
+mod words;
 
 /// How often the steps are timed.
 const ROUNDS: u32 = 3;
@@ -31,14 +47,13 @@ struct Wanted {
     shown: String,
 }
 
-/// What the command line asks for, with a default for each word that isn't given.
-fn words_given(rt: &(impl Env + AllocGlobal)) -> Result<Wanted> {
+/// What the command line asks for, with a default for each word that isn't given; none if there are no words.
+fn words_given(rt: &(impl Env + AllocGlobal)) -> Result<Option<Wanted>> {
     let alloc = rt.alloc();
     let mut words = env::args(rt)?;
     let _program = words.next();
-    let shape = match words.next() {
-        Some(word) => word,
-        None => String::from_str(alloc, "session")?,
+    let Some(shape) = words.next() else {
+        return Ok(None);
     };
     let count = match words.next() {
         Some(word) => word.as_str().parse::<u32>()?.min(MOST),
@@ -48,34 +63,11 @@ fn words_given(rt: &(impl Env + AllocGlobal)) -> Result<Wanted> {
         Some(word) => word,
         None => String::from_str(alloc, "cost")?,
     };
-    Ok(Wanted {
+    Ok(Some(Wanted {
         shape,
         count,
         shown,
-    })
-}
-
-/// The graph of that shape.
-fn made(rt: &impl AllocGlobal, shape: &str, count: u32) -> Result<Graph> {
-    let alloc = rt.alloc();
-    if shape == "session" {
-        return Ok(make_session(alloc, count)?);
-    }
-    match Shape::named(shape) {
-        Some(shape) => Ok(make_shape(alloc, shape, count)?),
-        None => Err(anyhow!("no such shape")),
-    }
-}
-
-/// What the arcs from the source carry together.
-fn flow_shown(best: &Certified) -> u128 {
-    let mut sum = 0u128;
-    for arc in best.arcs.as_slice() {
-        if arc.from == Node::Source {
-            sum = sum.saturating_add(u128::from(arc.flow));
-        }
-    }
-    sum
+    }))
 }
 
 /// A line of a cell: its steps, and the versions that it read.
@@ -122,27 +114,31 @@ fn print_times(rt: &HostRuntime, times: &Times) -> Result<()> {
     Ok(())
 }
 
-fn main(rt: HostRuntime) -> Result<()> {
-    let Wanted {
-        shape,
-        count,
-        shown,
-    } = words_given(&rt)?;
-    let graph = made(&rt, shape.as_str(), count)?;
-    match shown.as_str() {
-        "graph" => print_graph(&rt, &graph)?,
+/// Prints what the words ask for.
+fn measure(rt: &HostRuntime, wanted: &Wanted) -> Result<()> {
+    let alloc = rt.alloc();
+    let shape = wanted.shape.as_str();
+    match wanted.shown.as_str() {
+        "graph" => print_graph(rt, &made(alloc, shape, wanted.count)?),
         "times" => {
+            let graph = made(alloc, shape, wanted.count)?;
             for _ in 0..ROUNDS {
-                let times = timed(&rt, &graph)?;
-                print_times(&rt, &times)?;
+                let times = timed(rt, &graph)?;
+                print_times(rt, &times)?;
             }
+            Ok(())
         }
         _ => {
-            let best = planned(&rt, &graph)?;
-            let flow = flow_shown(&best);
-            let cost = best.cost;
-            println!(rt; "cells {count} cost {cost} flow {flow}")?;
+            let line = cost_line(alloc, shape, wanted.count)?;
+            println!(rt; "{line}")?;
+            Ok(())
         }
     }
-    Ok(())
+}
+
+fn main(rt: HostRuntime) -> Result<()> {
+    match words_given(&rt)? {
+        Some(wanted) => measure(&rt, &wanted),
+        None => answer_lines(&rt),
+    }
 }

@@ -1,16 +1,22 @@
 ghost use Rattle.graph_model.specs.Faults.{IsGraph};
 ghost use Rattle.graph_model.specs.Plans.{AreAdmitted};
 
-use anyhow::{Result, anyhow};
+use crate::session::make_session;
+use crate::shape::{Shape, make_shape};
+use anyhow::{Result, anyhow, bail};
 use cut_network::{network_of, plan};
 use flow_arcs::max_flow;
-use graph_model::{Certified, Graph, Plan, Weights};
+use graph_model::{Certified, Graph, Node, Plan, Weights};
 use plan_model::{PlanCheck, check_plan, check_weights, is_plan_of};
+use std::alloc::Global;
 use std::rt::Clock;
 use std::time::Instant;
 
+/// The most cells that are planned.
+pub(crate) const MOST: u32 = 100_000;
+
 /// More cells and versions than are planned.
-const TOO_MANY: usize = 1 << 20;
+pub(crate) const TOO_MANY: usize = 1 << 20;
 
 const WEIGHTS: Weights = Weights {
     copy_base: 1,
@@ -32,9 +38,39 @@ pub(crate) struct Times {
     pub judge: u128,
 }
 
+/// The graph of that shape.
+pub(crate) fn made(alloc: Global, shape: &str, count: u32) -> Result<Graph> {
+    if shape == "session" {
+        return Ok(make_session(alloc, count)?);
+    }
+    match Shape::named(shape) {
+        Some(shape) => Ok(make_shape(alloc, shape, count)?),
+        None => bail!("no such shape"),
+    }
+}
+
+/// What the arcs from the source carry together.
+fn flow_shown(best: &Certified) -> u128 {
+    let mut sum = 0u128;
+    for arc in best.arcs.as_slice() {
+        if arc.from == Node::Source {
+            sum = sum.saturating_add(u128::from(arc.flow));
+        }
+    }
+    sum
+}
+
+/// What a least-cost plan of the graph of that shape costs.
+pub(crate) fn cost_line(alloc: Global, shape: &str, count: u32) -> Result<String> {
+    let graph = made(alloc, shape, count.min(MOST))?;
+    let best = planned(alloc, &graph)?;
+    let flow = flow_shown(&best);
+    let cost = best.cost;
+    Ok(format!(in alloc; "cells {count} cost {cost} flow {flow}")?)
+}
+
 /// A least-cost plan of the graph, which is checked first.
-pub(crate) fn planned(rt: &impl AllocGlobal, graph: &Graph) -> Result<Certified> {
-    let alloc = rt.alloc();
+fn planned(alloc: Global, graph: &Graph) -> Result<Certified> {
     if graph.cells.len() > TOO_MANY || graph.versions.len() > TOO_MANY {
         return Err(anyhow!("too many cells"));
     }
