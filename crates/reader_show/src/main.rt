@@ -1,11 +1,13 @@
 //! Shows how the reader reads texts, for tables of cases and for people.
 //!
-//! Each line of standard input is a JSON array of what is asked and a text. For each, one line of JSON is printed, a text:
+//! Each line of standard input is a JSON array of what is asked and a text, or texts. For each, one line of JSON is printed, a text:
 //!
 //! - `["cell", code]`: the tree of the cell, or what its fault says;
 //! - `["function", source]`: the tree of the one function that the text is, and its locals; or what its fault says;
 //! - `["sources", code]`: the text of each function of the cell, `|` after each;
-//! - `["completeness", code]`: `complete`, `incomplete` and how many spaces the next line begins with, or `invalid`.
+//! - `["completeness", code]`: `complete`, `incomplete` and how many spaces the next line begins with, or `invalid`;
+//! - `["kept", [code, ..], [code, ..]]`: the trees of the first codes are kept, one after the other; for each of the others how
+//!   many statements its kept tree has, or `none` if none is found.
 //!
 //! The fault of a text that ends too early is followed by ` (its end)`.
 #![tactic(auto)]
@@ -13,7 +15,7 @@
 mod shown;
 
 use anyhow::{Result, anyhow, bail};
-use py_reader::{Completeness, ReadError, SyntaxFault, completeness, read_cell, read_def};
+use py_reader::{Completeness, ReadError, SyntaxFault, Trees, completeness, read_cell, read_def};
 use py_tree::{Def, Stmt, locals_of};
 use serde_json::Value;
 use shown::{tree_text, write_function};
@@ -82,9 +84,53 @@ fn completeness_text(alloc: Global, code: &str) -> Result<String, AllocError> {
     }
 }
 
+/// The texts in the list at that place of a line.
+fn texts_at(alloc: Global, request: &Value, place: usize) -> Result<Vec<&str>> {
+    let Some(items) = request.get(place).and_then(|value| value.as_array()) else {
+        bail!("what is asked of kept trees is to be lists of codes")
+    };
+    let mut texts = Vec::new(alloc);
+    for item in items.as_slice() {
+        match item.as_str() {
+            Some(text) => texts.push(text)?,
+            None => bail!("a code is no text"),
+        }
+    }
+    Ok(texts)
+}
+
+/// Reads a code, and keeps its tree.
+fn keep(alloc: Global, trees: &mut Trees, code: &str) {
+    if let Ok(tree) = read_cell(alloc, code) {
+        trees.keep(alloc, code, tree.body);
+    }
+}
+
+fn kept_text(alloc: Global, request: &Value) -> Result<String> {
+    let mut trees = Trees::new(alloc);
+    for code in texts_at(alloc, request, 1)? {
+        keep(alloc, &mut trees, code);
+    }
+    let mut all = String::new(alloc);
+    for code in texts_at(alloc, request, 2)? {
+        let found = match trees.look(alloc, code) {
+            Some(body) => format!(in alloc; "{}", body.len())?,
+            None => String::from_str(alloc, "none")?,
+        };
+        if !all.is_empty() {
+            all.push_str(" ")?;
+        }
+        all.push_str(found.as_str())?;
+    }
+    Ok(all)
+}
+
 /// What is printed for one line.
 fn answer(alloc: Global, line: &str) -> Result<String> {
     let request = Value::from_str(alloc, line)?;
+    if request.get(0).and_then(|asked| asked.as_str()) == Some("kept") {
+        return kept_text(alloc, &request);
+    }
     let (asked, text) = match (request.get(0), request.get(1)) {
         (Some(asked), Some(text)) => (asked, text),
         _ => bail!("a line is no array of what is asked and a text"),
