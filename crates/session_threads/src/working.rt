@@ -99,11 +99,7 @@ where
 }
 
 /// Starts a move. Of what comes of it this is told: it is the same session, owes nothing, and stayed or is sealed.
-fn started<E: Engine, F: Feed>(
-    alloc: Global,
-    lease: Lease<E, F>,
-    request: Request,
-) -> Started<E, F>
+fn started<E: Engine, F: Feed>(alloc: Global, lease: Lease<E, F>, request: Request) -> Started<E, F>
     requires owes { Owes lease request }
     requires spare { 3 ≤ lease.spare }
     requires asked { is_move request.ask ≡ true }
