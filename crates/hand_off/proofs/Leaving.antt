@@ -7,7 +7,7 @@ use Rattle.session_core.specs.Meanings.{Meaning}
 use Rattle.session_core.specs.Legal.{sealed, progress_of}
 use Rattle.session_core.specs.Stepping.{GoesBy}
 use Rattle.session_gate.specs.Facts.{Holds, Away, OwesNone, HasNoted, owner_of}
-use Rattle.hand_off.specs.declared.lib.Started.TheVariants.{Sealed}
+use Rattle.hand_off.specs.declared.moving.Started.TheVariants.{Sealed}
 use Rattle.hand_off.specs.Moves.{HasStarted}
 
 pub left : {E F : Type 0} → (meaning : Meaning) (old : Holds E F) (r again : Request) (to : ℕ) (packed : Packed) (p : Away E F)

@@ -8,8 +8,8 @@ use Rattle.session_core.specs.Meanings.{Served, Meaning}
 use Rattle.session_core.specs.Legal.{sealed, progress_of, IsReason, MayTry}
 use Rattle.session_core.specs.Stepping.{GoesBy}
 use Rattle.session_gate.specs.Facts.{Holds, Away, OwesNone, HasSame, HasNoted, owner_of}
-use Rattle.hand_off.specs.declared.lib.Started.{Started}
-use Rattle.hand_off.specs.declared.lib.Started.TheVariants.{Refused, Resumed, Sealed}
+use Rattle.hand_off.specs.declared.moving.Started.{Started}
+use Rattle.hand_off.specs.declared.moving.Started.TheVariants.{Refused, Resumed, Sealed}
 
 module _ {E F : Type 0} where
   -- What comes of an owed request to move. One entry more is noted, and nothing is owed then.

@@ -7,8 +7,8 @@ use Rattle.session_core.proofs.Progressing.{progress_more}
 use Rattle.session_core.specs.Meanings.{Served, Meaning}
 use Rattle.session_queues.specs.Ends.{Held, FoundNothing, looked_at_both, TookRequest}
 use Rattle.session_gate.specs.Facts.{Holds, Away, HasSame, HasNoted, IsBare}
-use Rattle.hand_off.specs.declared.lib.Started.{Started}
-use Rattle.hand_off.specs.declared.lib.Started.TheVariants.{Refused, Resumed, Sealed}
+use Rattle.hand_off.specs.declared.moving.Started.{Started}
+use Rattle.hand_off.specs.declared.moving.Started.TheVariants.{Refused, Resumed, Sealed}
 use Rattle.hand_off.specs.Moves.{HasStarted, HasArrived, HasStayed}
 use Rattle.session_threads.specs.Served.{IsStarted, HasLists}
 
@@ -20,9 +20,6 @@ took_lists old new r (inl t) = (ap (λ e. e.queues) t.2, ap (λ e. e.main.lists)
 took_lists old new r (inr t) = (ap (λ e. e.queues) t.3, ap (λ v. v.lists) t.1.now, ap (λ v. v.given) t.1.now, ap (λ e. e.control.lists) t.3, ap (λ e. e.control.given) t.3)
 
 -- looks that find nothing
-pub looked_lists : (old new : Held) → new ≡ looked_at_both old → HasLists old new
-looked_lists old new is = subst (HasLists old) (sym is) (refl, refl, refl, refl, refl)
-
 pub looked_nothing : (old new : Held) → new ≡ looked_at_both old → FoundNothing old → FoundNothing new
 looked_nothing old new is h = subst FoundNothing (sym is) (record { of_each = h.0.of_each; later = h.0.later }, record { of_each = h.1.of_each; later = h.1.later })
 

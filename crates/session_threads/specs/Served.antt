@@ -11,8 +11,8 @@ use Rattle.session_queues.specs.Passes.{Producer}
 use Rattle.session_queues.specs.Ends.{Held, FoundNothing}
 use Rattle.session_gate.specs.Answered.{as_main, as_control, IsAnswered}
 use Rattle.session_gate.specs.Facts.{Holds, OwesNone, HasSame}
-use Rattle.hand_off.specs.declared.lib.Started.{Started}
-use Rattle.hand_off.specs.declared.lib.Started.TheVariants.{Refused, Resumed, Sealed}
+use Rattle.hand_off.specs.declared.moving.Started.{Started}
+use Rattle.hand_off.specs.declared.moving.Started.TheVariants.{Refused, Resumed, Sealed}
 
 -- of this frontend the journal answers just these requests, in order, on each of the two lists
 abbrev pub AnswersJust : ℕ → List Entry → List Request → Type 0

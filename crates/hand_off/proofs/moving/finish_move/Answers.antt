@@ -1,6 +1,6 @@
 use Rattle.std.proofs.Common.{◌≡◌, inl, inr, sym, subst}
 use Rattle.session_core.specs.Legal.{progress_of}
-use Rattle.hand_off.proofs.finish_move.Goals as goal
+use Rattle.hand_off.proofs.moving.finish_move.Goals as goal
 
 pub returns-in-Ok-clause-ended : goal.returns-in-Ok-clause-ended
 returns-in-Ok-clause-ended g c =

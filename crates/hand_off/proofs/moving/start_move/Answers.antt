@@ -3,7 +3,7 @@ use Rattle.session_core.specs.declared.engine.Packed.{Packed}
 use Rattle.session_core.specs.Legal.{sealed, progress_of}
 use Rattle.session_core.specs.Stepping.{GoesBy}
 use Rattle.hand_off.proofs.Leaving.{left}
-use Rattle.hand_off.proofs.start_move.Goals as goal
+use Rattle.hand_off.proofs.moving.start_move.Goals as goal
 
 pub returns-in-Refuse : goal.returns-in-Refuse
 returns-in-Refuse g c = ((c.in-Refuse.reason, c.in-Refuse.ensures, c.refuse.ensures.noted), c.refuse.ensures.owes)
