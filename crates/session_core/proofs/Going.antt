@@ -7,7 +7,7 @@ use Rattle.session_core.specs.declared.request.Ask.{Ask}
 use Rattle.session_core.specs.declared.request.Ask.TheVariants.{Execute, Info, Complete, Shutdown, Migrate}
 use Rattle.session_core.specs.declared.request.Request.{Request}
 use Rattle.session_core.specs.declared.entry.MoveRefusal.{MoveRefusal}
-use Rattle.session_core.specs.declared.entry.MoveRefusal.TheVariants.{Stuck, BadWeights}
+use Rattle.session_core.specs.declared.entry.MoveRefusal.TheVariants.{Stuck, SameHost, UnknownHost, BadWeights, DeadKernel}
 use Rattle.session_core.specs.declared.entry.Entry.{Entry}
 use Rattle.session_core.specs.declared.entry.Entry.TheVariants.{Sealed, Moved, Adopted, Refused, Resumed}
 use Rattle.session_core.specs.Asks.{IsMove}
@@ -17,7 +17,7 @@ use Rattle.session_core.specs.declared.engine.PackFault.TheVariants as pack
 use Rattle.session_core.specs.Meanings.{Served, Meaning, HasNoEnd, IsPacked}
 use Rattle.session_core.specs.Engines.{Packs}
 use Rattle.session_core.specs.Legal.{Phase, settled, arriving, Progress, after, progress_of, IsReason, CanGo, MayTry, MayGo, HasPlan, MayCome, MayBeResumed, IsLegal, if_settled, asked_by, asked}
-use Rattle.session_core.specs.Stepping.{HasGone, HasEnded, GoesBy, reason_of}
+use Rattle.session_core.specs.Stepping.{IsEarly, HasGone, HasEnded, GoesBy, reason_of}
 use Rattle.session_core.specs.Feeding.{drawn_by, drawn_in}
 use Rattle.session_core.proofs.Progressing.{progress_more, asked_more, legal_more}
 use Rattle.session_core.proofs.Feeding.{drawn_still}
@@ -74,6 +74,13 @@ module _ (meaning : Meaning) (hosts : ℕ) where
       → IsMove (λ to weights. IsReason meaning hosts (progress_of old) to weights reason) request.ask → HasEnded meaning hosts old new request
   refused old new request reason phase is why =
       ended_by old new (Refused (progress_of old).owner request reason) request is (phase, refl, why) refl phase refl refl refl
+
+  pub early : (p : Progress) (to : ℕ) (weights : Weights) (reason : MoveRefusal) → IsEarly hosts p to reason → IsReason meaning hosts p to weights reason
+  early p to weights DeadKernel h = h
+  early p to weights SameHost h = h
+  early p to weights (UnknownHost host) h = h
+  early p to weights (BadWeights fault) h = absurd h
+  early p to weights (Stuck version cell names) h = absurd h
 
   resumes : (p : Progress) (phase : Phase) (request : Request) → phase ≡ settled → IsMove (MayTry meaning hosts p) request.ask → MayBeResumed meaning hosts p phase p.owner request
   resumes p phase request is h = subst (λ z. MayBeResumed meaning hosts p z p.owner request) (sym is) (refl, h)
