@@ -30,7 +30,7 @@ use Rattle.py_heap.specs.References.{AreLive, value_refs, object_refs}
 use Rattle.py_heap.specs.Reaching.{held_refs}
 use Rattle.part_bytes.specs.declared.part.PartValue.{PartValue}
 use Rattle.checkpoint_reader.specs.PartReading.{stands_after, follows}
-use Rattle.checkpoint_laws.specs.SpelledParts.{counted, IsHeld, ArePairs, IsObject, AreObjects, AreNames, IsClosedPart}
+use Rattle.checkpoint_laws.specs.SpelledParts.{counted, IsHeld, ArePairs, IsObject, AreObjects, AreNames, HasPartText}
 use Rattle.checkpoint_laws.specs.Closed.{TextBelow, IsClosedPart}
 use Rattle.checkpoint_laws.proofs.Offs.{counted_grows, counted_parts}
 use Rattle.checkpoint_laws.proofs.InOrder.{in_order}
@@ -168,7 +168,7 @@ alone : (names : List (List ℕ)) (o : Option Value) → IsHeld (length names ==
 alone names None h e = eqb-true (length names) 1 h
 alone names (Some v) h e = absurd (let no : Some v ≡ None = e in cc)
 
-pub closed_part : (part : PartValue) → IsClosedPart part → IsClosedPart part
+pub closed_part : (part : PartValue) → HasPartText part → IsClosedPart part
 closed_part part h =
     let ordered = ascending [] part.names h.names in
     let each : All IsObject part.objects = All-from_recursion IsObject part.objects (are_objects 0 h.met (length part.objects) part.objects h.objects) in

@@ -16,7 +16,7 @@ use Rattle.checkpoint_reader.specs.declared.part_fault.PartFault.TheVariants.{Ba
 use Rattle.checkpoint_reader.specs.declared.spot.Spot.{Spot}
 use Rattle.checkpoint_reader.specs.PartReads.{Answer, Read, pure, fail, after, more}
 use Rattle.checkpoint_reader.specs.PartReading.{taken, byte, four, follows, name_of, name, names, held, values, objects, part, part_read, with_size, start}
-use Rattle.checkpoint_laws.specs.SpelledParts.{IsHeld, AreNames, IsClosedPart}
+use Rattle.checkpoint_laws.specs.SpelledParts.{IsHeld, AreNames, HasPartText}
 use Rattle.checkpoint_laws.proofs.Numbers.{IsBytes}
 use Rattle.checkpoint_laws.proofs.Offs.{answer, Stands, AllGood}
 use Rattle.checkpoint_laws.proofs.WholeParts.{GoodName, no_refs}
@@ -113,7 +113,7 @@ module _ (bytes : List ℕ) (small : IsBytes bytes) where
       subst (λ (xs : List (Option Value)). ValuesRead n xs s t) (sym m.is) (record { size = m.size; good = held_good (n == 1) [] m.xs m.good; ate = m.ate })
 
   pub record PartRead (p : PartValue) (t : Spot) : Type 0 where
-    pub is : IsClosedPart p
+    pub is : HasPartText p
     pub stands : Stands bytes 0 (bytes_of p)
     pub size : t.at ≡ length (bytes_of p)
 
@@ -140,7 +140,7 @@ module _ (bytes : List ℕ) (small : IsBytes bytes) where
       let stands : Stands bytes 0 ((xs ++ ys) ++ zs) = stands_join bytes 0 q.mid.at (xs ++ ys) zs front.end (front.stands none) (c.stands here) in
       let spelled : (xs ++ ys) ++ zs ≡ bytes_of read = sym (append_assoc (xs ++ ys) (four_bytes (length o.first)) (flat_map object_bytes o.first)) in
       let end : o.mid.at ≡ length ((xs ++ ys) ++ zs) = let one = front.end in let two = c.end in let all = length-append (xs ++ ys) zs in omega (arith, one, two, all) in
-      let is : IsClosedPart read = record {
+      let is : HasPartText read = record {
         some = a.some;
         few = a.few;
         names = a.good;
@@ -162,7 +162,7 @@ bytes_small bytes h = λ k. elim (cases_lt k (length bytes)) [
 ]
 
 pub read_is_text : (bytes : List ℕ) (p : PartValue) (n : ℕ) → All (λ b. b < 256) bytes → part_read bytes ≡ Ok (p, n)
-    → IsClosedPart p × (take n bytes ≡ bytes_of p) × (n ≡ length (bytes_of p))
+    → HasPartText p × (take n bytes ≡ bytes_of p) × (n ≡ length (bytes_of p))
 unfolding part_read
 read_is_text bytes p n h e =
     let r = sized (part bytes start) p n e in

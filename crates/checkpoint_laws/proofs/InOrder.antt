@@ -7,7 +7,7 @@ use Rattle.py_heap.specs.declared.heap.Object.{Object}
 use Rattle.py_heap.specs.References.{value_refs, object_refs}
 use Rattle.py_heap.specs.Reaching.{held_refs, firsts}
 use Rattle.part_bytes.specs.declared.part.PartValue.{PartValue}
-use Rattle.checkpoint_laws.specs.SpelledParts.{counted, AreObjects, IsClosedPart}
+use Rattle.checkpoint_laws.specs.SpelledParts.{counted, AreObjects, HasPartText}
 use Rattle.checkpoint_laws.proofs.Offs.{below, not_below, some_same, counted_grows}
 use Rattle.checkpoint_laws.proofs.Found.{counted_join}
 
@@ -97,7 +97,7 @@ counted_out n met most (o ∷ os) l k h =
       reached = let r = rest.reached in omega (arith, r);
     }
 
-pub in_order : (part : PartValue) → IsClosedPart part → firsts (flat_map (held_refs value_refs) part.values ++ flat_map object_refs part.objects) ≡ range_with_len 0 (length part.objects)
+pub in_order : (part : PartValue) → HasPartText part → firsts (flat_map (held_refs value_refs) part.values ++ flat_map object_refs part.objects) ≡ range_with_len 0 (length part.objects)
 in_order part h =
     let values : List ℕ = flat_map (held_refs value_refs) part.values in
     let objects : List ℕ = flat_map object_refs part.objects in

@@ -7,7 +7,7 @@ use Rattle.std.proofs.lemmas.Str.Ascii.{IsAscii-nil, IsAscii-cons}
 use Rattle.py_names.specs.Names.{is_variable, keywords}
 use Rattle.part_bytes.specs.Texts.{four, bytes_of}
 use Rattle.checkpoint_reader.specs.PartReading.{follows}
-use Rattle.checkpoint_laws.specs.SpelledParts.{IsClosedPart}
+use Rattle.checkpoint_laws.specs.SpelledParts.{HasPartText}
 use Rattle.checkpoint_laws.specs.Examples.{knot, knot_bytes}
 
 variable : is_variable (codes "x") ≡ true
@@ -21,7 +21,7 @@ first = refl
 key : is_utf8 (codes "k") ≡ true
 key = is_utf8-from_IsUtf8 (codes "k") (IsUtf8-from_ascii (codes "k") (IsAscii-cons 107 [] (omega arith) IsAscii-nil))
 
-pub knot_part : IsClosedPart knot
+pub knot_part : HasPartText knot
 knot_part = record {
   some = omega arith;
   few = omega arith;

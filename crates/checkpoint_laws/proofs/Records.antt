@@ -10,7 +10,7 @@ use Rattle.graph_model.specs.declared.plan.Plan.{Plan}
 use Rattle.py_heap.specs.declared.state.State.{State}
 use Rattle.part_bytes.specs.Parts.{part_of as part_in}
 use Rattle.part_bytes.specs.Texts.{four as four_bytes, text_bytes, part_text}
-use Rattle.checkpoint_laws.specs.SpelledParts.{IsClosedPart}
+use Rattle.checkpoint_laws.specs.SpelledParts.{HasPartText}
 use Rattle.checkpoint_bytes.specs.Texts.{truth_byte, lists, names_bytes, cell_head_bytes, cell_bytes, kind_byte, plain_version_bytes, version_bytes, bytes_from}
 use Rattle.checkpoint_reader.specs.declared.fields.Cells.{Cells}
 use Rattle.checkpoint_reader.specs.declared.fields.Versions.{Versions}
@@ -135,7 +135,7 @@ module _ (bytes : List ℕ) where
     abbrev VersionBytes : ℕ → Version → List ℕ
     VersionBytes n x = version_bytes s (lists p.copied n) x
 
-    off_next : (c : Bool) (before : Versions) (x : Version) → IsVersion x → (c ≡ true → IsClosedPart (part_in s x.names)) → Off bytes (next_version bytes before) (version_bytes s c x) (version_after s c before x)
+    off_next : (c : Bool) (before : Versions) (x : Version) → IsVersion x → (c ≡ true → HasPartText (part_in s x.names)) → Off bytes (next_version bytes before) (version_bytes s c x) (version_after s c before x)
     unfolding next_version kept
     off_next true before x h k =
         off_then bytes (version bytes) (λ y. kept bytes before y.0 y.1) (plain_version_bytes true x) (part_text s x.names) (x, true) (version_after s true before x) (off_version true x h)
@@ -147,7 +147,7 @@ module _ (bytes : List ℕ) where
     records_more true before x = refl
     records_more false before x = refl
 
-    pub off_versions : (xs : List Version) (before : Versions) (n : ℕ) → n ≡ length before.records + 1 → AllByRecursion IsVersion xs → AllCopied p (λ y. IsClosedPart (part_in s y.names)) n xs
+    pub off_versions : (xs : List Version) (before : Versions) (n : ℕ) → n ≡ length before.records + 1 → AllByRecursion IsVersion xs → AllCopied p (λ y. HasPartText (part_in s y.names)) n xs
         → Off bytes (turns (next_version bytes) (length xs) before) (bytes_from VersionBytes n xs) (versions_after s p before xs)
     off_versions [] before n e h k = off_pure bytes before
     off_versions (x ∷ xs) before n e h k =
@@ -157,7 +157,7 @@ module _ (bytes : List ℕ) where
         let one = length-append before.records (x ∷ []) in
         let all : length now.records ≡ length (before.records ++ x ∷ []) = ap (λ (ys : List Version). length ys) (records_more (lists p.copied m) before x) in
         omega (arith, one, all) in
-        let parts : AllCopied p (λ y. IsClosedPart (part_in s y.names)) m (x ∷ xs) = subst (λ (k : ℕ). AllCopied p (λ y. IsClosedPart (part_in s y.names)) k (x ∷ xs)) e k in
+        let parts : AllCopied p (λ y. HasPartText (part_in s y.names)) m (x ∷ xs) = subst (λ (k : ℕ). AllCopied p (λ y. HasPartText (part_in s y.names)) k (x ∷ xs)) e k in
         subst (λ (k : ℕ). Off bytes (turns (next_version bytes) (length (x ∷ xs)) before) (bytes_from VersionBytes k (x ∷ xs)) (versions_after s p before (x ∷ xs))) (sym e)
         (off_then bytes (next_version bytes before) (λ after. turns (next_version bytes) (length xs) after) (VersionBytes m x) (bytes_from VersionBytes (m + 1) xs) now (versions_after s p now xs)
         (off_next (lists p.copied m) before x h.0 parts.0) (off_versions xs now (m + 1) size h.1 parts.1))

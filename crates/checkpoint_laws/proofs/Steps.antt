@@ -9,7 +9,7 @@ use Rattle.byteorder.specs.Numbers.{big_number-reads_back, length-bytes_high_fir
 use Rattle.part_bytes.specs.declared.part.PartValue.{PartValue}
 use Rattle.part_bytes.specs.Texts.{four as four_bytes, name_bytes, text_bytes, bytes_of}
 use Rattle.checkpoint_reader.specs.PartReading.{part_read}
-use Rattle.checkpoint_laws.specs.SpelledParts.{IsClosedPart}
+use Rattle.checkpoint_laws.specs.SpelledParts.{HasPartText}
 use Rattle.checkpoint_laws.proofs.Offs.{Stands, stands_first, stands_next}
 use Rattle.checkpoint_laws.proofs.WholeParts.{read_back}
 use Rattle.checkpoint_bytes.specs.Texts.{truth_byte, names_bytes}
@@ -124,6 +124,6 @@ module _ (bytes : List ℕ) where
 
   -- ---- a part
 
-  pub off_part : (p : PartValue) → IsClosedPart p → Off (part bytes) (bytes_of p) (p, length (bytes_of p))
+  pub off_part : (p : PartValue) → HasPartText p → Off (part bytes) (bytes_of p) (p, length (bytes_of p))
   unfolding part
   off_part p h = λ at s. ap (λ r. part_of at r) (ap part_read (later at (bytes_of p) s) ∙ read_back p s.rest h)

@@ -14,7 +14,7 @@ use Rattle.checkpoint_reader.specs.declared.part_fault.PartFault.{PartFault}
 use Rattle.checkpoint_reader.specs.declared.part_fault.PartFault.TheVariants.{BadName}
 use Rattle.checkpoint_reader.specs.PartReads.{Answer, Read, pure, fail, after, more}
 use Rattle.checkpoint_reader.specs.PartReading.{taken, byte, four, follows, name_of, name, names, held, values, objects, part, part_read, with_size, start}
-use Rattle.checkpoint_laws.specs.SpelledParts.{counted, IsHeld, AreNames, IsClosedPart}
+use Rattle.checkpoint_laws.specs.SpelledParts.{counted, IsHeld, AreNames, HasPartText}
 use Rattle.checkpoint_laws.proofs.Offs.{spot, answer, Stands, stands_first, stands_next, Off, off_then, off_end, off_byte, off_taken, off_four, off_more, some_same, AllGood}
 use Rattle.checkpoint_laws.proofs.Values.{off_held, good_held}
 use Rattle.checkpoint_laws.proofs.Objects.{all_objects}
@@ -65,7 +65,7 @@ module _ (bytes : List ℕ) where
     pub next : ℕ
     pub off : part bytes start ≡ answer p (spot (length (bytes_of p)) next (length p.objects))
 
-  pub off_part : (p : PartValue) → IsClosedPart p → Stands bytes 0 (bytes_of p) → PartOff p
+  pub off_part : (p : PartValue) → HasPartText p → Stands bytes 0 (bytes_of p) → PartOff p
   unfolding part
   off_part p h s =
       let n : ℕ = length p.names in
@@ -95,7 +95,7 @@ module _ (bytes : List ℕ) where
             ∙ ap (λ (k : ℕ). answer p (spot k third.next (length p.objects))) end));
       }
 
-pub read_back : (p : PartValue) (rest : List ℕ) → IsClosedPart p → part_read (bytes_of p ++ rest) ≡ Ok (p, length (bytes_of p))
+pub read_back : (p : PartValue) (rest : List ℕ) → HasPartText p → part_read (bytes_of p ++ rest) ≡ Ok (p, length (bytes_of p))
 unfolding part_read
 read_back p rest h =
     let stands : Stands (bytes_of p ++ rest) 0 (bytes_of p) = record { front = []; rest = rest; is = refl; where_ = refl } in
@@ -105,6 +105,6 @@ part_in : PartValue → Result (PartValue × ℕ) PartFault → PartValue
 part_in other (Ok read) = read.0
 part_in other (Err fault) = other
 
-pub one_text : (p q : PartValue) (rest more : List ℕ) → IsClosedPart p → IsClosedPart q → bytes_of p ++ rest ≡ bytes_of q ++ more → p ≡ q
+pub one_text : (p q : PartValue) (rest more : List ℕ) → HasPartText p → HasPartText q → bytes_of p ++ rest ≡ bytes_of q ++ more → p ≡ q
 unfolding part_in
 one_text p q rest more h k e = ap (part_in p) (sym (read_back p rest h) ∙ (ap part_read e ∙ read_back q more k))

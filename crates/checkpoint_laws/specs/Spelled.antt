@@ -11,7 +11,7 @@ use Rattle.py_heap.specs.declared.state.State.{State}
 use Rattle.part_bytes.specs.declared.part.PartValue.{PartValue}
 use Rattle.part_bytes.specs.Parts.{part_of}
 use Rattle.part_bytes.specs.Texts.{part_text}
-use Rattle.checkpoint_laws.specs.SpelledParts.{IsClosedPart}
+use Rattle.checkpoint_laws.specs.SpelledParts.{HasPartText}
 use Rattle.checkpoint_bytes.specs.Texts.{lists}
 use Rattle.checkpoint_reader.specs.declared.checkpoint.Checkpoint.{Checkpoint}
 use Rattle.checkpoint_reader.specs.declared.fields.Cells.{Cells}
@@ -58,7 +58,7 @@ pub record HasText (s : State) (g : Graph) (p : Plan) : Type 0 where
   pub cells : AllByRecursion IsCellRecord g.cells
   pub few_versions : length g.versions < 2 ^ 32
   pub versions : AllByRecursion IsVersion g.versions
-  pub parts : EachCopied g p (λ x. IsClosedPart (part_of s x.names))
+  pub parts : EachCopied g p (λ x. HasPartText (part_of s x.names))
 
 -- ---- what is read from it
 

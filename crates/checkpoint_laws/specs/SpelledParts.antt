@@ -62,7 +62,7 @@ AreNames before [] = Unit {0}
 AreNames before (name ∷ names) = (is_variable name ≡ true) × (follows before name ≡ true) × AreNames (before ++ name ∷ []) names
 
 -- a part that has a text
-pub record IsClosedPart (part : PartValue) : Type 0 where
+pub record HasPartText (part : PartValue) : Type 0 where
   pub some : 0 < length part.names
   pub few : length part.names < 2 ^ 32
   pub names : AreNames [] part.names

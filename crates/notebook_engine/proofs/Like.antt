@@ -19,7 +19,7 @@ use Rattle.run_graph.proofs.Kept.{in_part_value}
 use Rattle.every_history.specs.Reading.{read}
 use Rattle.part_bytes.specs.Parts.{order, number_in, numbered, held_of, part_of}
 use Rattle.part_bytes.specs.Texts.{part_text}
-use Rattle.checkpoint_laws.specs.SpelledParts.{IsClosedPart}
+use Rattle.checkpoint_laws.specs.SpelledParts.{HasPartText}
 use Rattle.checkpoint_reader.specs.Fields.{has_no_value, is_same, is_otherwise}
 use Rattle.checkpoint_laws.specs.Spelled.{EachCopied, IsLike}
 use Rattle.replay_laws.specs.Restored.{HasVersions}
@@ -89,7 +89,7 @@ module _ (entries : List ListedCell) (g : Graph) (s : State) (p : Plan) (stands 
       let size : x.size ≡ length (part_text s x.names) = sizes_so read size_of entries g s stands tells_alike v x active ∙ rw (no_handle_in v x active h, have_all s x.names has) refl in
       rw (e, all, eq-eqb (length (part_text s x.names)) x.size (sym size)) refl
 
-  pub like : EachCopied g p (λ x. IsClosedPart (part_of s x.names)) → EachCopied g p (IsLike s)
+  pub like : EachCopied g p (λ x. HasPartText (part_of s x.names)) → EachCopied g p (IsLike s)
   like parts v x c at =
       let active = active_of v x c at in
       let h = feasible.no_handle v x c at in

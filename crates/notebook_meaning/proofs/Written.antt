@@ -42,7 +42,7 @@ use Rattle.replay_laws.proofs.PartsAlike.{one_part}
 use Rattle.checkpoint_bytes.specs.Texts.{lists, checkpoint_text}
 use Rattle.checkpoint_bytes.specs.Plain.{IsPlainCell, IsPlainVersion, IsPlainCheckpoint}
 use Rattle.checkpoint_laws.proofs.Alike.{one_checkpoint_text}
-use Rattle.checkpoint_laws.specs.SpelledParts.{IsClosedPart as HasPartText}
+use Rattle.checkpoint_laws.specs.SpelledParts.{HasPartText}
 use Rattle.part_copies.specs.Written.{IsWritable, CanBeWritten}
 use Rattle.part_copies.proofs.Written.{part_is}
 use Rattle.checkpoint_laws.specs.Spelled.{IsCode, IsName, IsCellRecord, IsVersion, EachCopied, HasText}

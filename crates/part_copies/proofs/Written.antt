@@ -27,7 +27,7 @@ use Rattle.part_bytes.specs.Parts.{order, number_in, numbered, numbered_object, 
 use Rattle.part_bytes.specs.Plain.{IsPlainIn, IsPlainAt}
 use Rattle.part_bytes.proofs.Orders.{order_lists, order_first}
 use Rattle.part_bytes.proofs.Pieces.{as_many}
-use Rattle.checkpoint_laws.specs.SpelledParts.{counted, IsHeld, AreObjects, IsClosedPart}
+use Rattle.checkpoint_laws.specs.SpelledParts.{counted, IsHeld, AreObjects, HasPartText}
 use Rattle.part_copies.specs.Written.{CanBeWritten}
 use Rattle.part_copies.proofs.Counting.{counts, refs_object, refs_names, in_longer}
 use Rattle.part_copies.proofs.Keeping.{value_kept, object_kept, names_kept}
@@ -160,7 +160,7 @@ module _ (s : State) (names : List Name) (closed : IsClosed s) where
     no_front : met s names [] ≡ Roots
     no_front = append-nil Roots
 
-    pub part_is : IsClosedPart (part_of s names)
+    pub part_is : HasPartText (part_of s names)
     part_is =
         let m = begins [] Found refl in
         let roots : seen_by [] ≡ all_noted [] Roots = ap (λ (ns : List ℕ). all_noted [] ns) no_front in

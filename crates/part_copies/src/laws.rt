@@ -8,7 +8,7 @@ ghost use Rattle.py_laws.specs.Same.{Same};
 ghost use Rattle.part_bytes.specs.Parts.{part_of};
 ghost use Rattle.part_bytes.specs.Texts.{part_text};
 ghost use Rattle.checkpoint_reader.specs.PartReading.{part_read};
-ghost use Rattle.checkpoint_laws.specs.SpelledParts.{IsClosedPart};
+ghost use Rattle.checkpoint_laws.specs.SpelledParts.{HasPartText};
 ghost use Rattle.part_loader.specs.Loading.{state_of};
 ghost use Rattle.part_copies.specs.Written.{CanBeWritten};
 
@@ -21,7 +21,7 @@ pub fn a_part_by_itself_is_a_copy()
 /// If names can be written down, their part has a text. So that text is read as the part, whatever follows it, and the part is a
 /// copy of the state over these names.
 pub fn what_is_written_is_read_as_a_copy()
-    ensures text { (s : State) (names : List Name) → IsClosed s → CanBeWritten s names → IsClosedPart (part_of s names) }
+    ensures text { (s : State) (names : List Name) → IsClosed s → CanBeWritten s names → HasPartText (part_of s names) }
     ensures read { (s : State) (names : List Name) (rest : List ℕ) → IsClosed s → CanBeWritten s names
         → part_read (part_text s names ++ rest) ≡ Ok (part_of s names, length (part_text s names)) }
 {}
