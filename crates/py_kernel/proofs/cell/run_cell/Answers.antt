@@ -1,4 +1,5 @@
-use Rattle.std.proofs.Common.{◌∙◌, ap, Err, Some, refl}
+use Rattle.std.proofs.Common.{◌∙◌, ap, Err, Some, [], refl}
+use Rattle.nb_outside.proofs.Feeding.{fed_none}
 use Rattle.py_machine.specs.Runs.{start}
 use Rattle.py_meaning.specs.Meaning.{cell}
 use Rattle.py_meaning.specs.declared.end.CellError.TheVariants.{Raised}
@@ -6,6 +7,9 @@ use Rattle.py_meaning.proofs.Telling.{failed_rises}
 use Rattle.py_kernel.proofs.Ending.{fed_start, end_is, state_is, uses_up}
 use Rattle.py_kernel.proofs.cell.run_cell.Goals as goal
 use Rattle.py_kernel.proofs.cell.run_cell.Goals.{in-Ok, in-Err-Raised, in-Err-DrawFailed}
+
+pub returns-in_err-machine-clause-taken : goal.returns-in_err-machine-clause-taken
+returns-in_err-machine-clause-taken g c = ([], fed_none (g.F.Feed.seen c.args.feed.now))
 
 pub returns-in-Err-OutOfMemory-clause-taken : goal.returns-in-Err-OutOfMemory-clause-taken
 returns-in-Err-OutOfMemory-clause-taken g c = (c.cell-outcome.new.machine.drawn, c.cell-outcome.ensures.fed (g.F.Feed.seen c.args.feed.now) (fed_start _ _ _ c.in_ok-machine.ensures))
