@@ -47,6 +47,7 @@ fn count_in(state: &State) -> u32
 }
 
 /// Runs the code of a cell, or no statement if it has no tree, and says why it has none. A code whose tree is kept isn't read again.
+#[tactic(auto, using(nb_outside::proofs::Feeding::fed_none))]
 fn run_code<F: Feed>(
     alloc: Global,
     kernel: &mut Kernel,
