@@ -46,7 +46,8 @@ restored_status bytes status (fault.Loose name) is e = ap is_said e
 -- what is said has one of these statuses
 pub said_status : (q : Question) (bytes : List ℕ) (status : ℕ) (text : List ℕ) → Says q bytes status text → is_said status ≡ true
 said_status (Plan w) bytes status text (inl (k, are, inl p)) = ap is_said p.0
-said_status (Plan w) bytes status text (inl (k, are, inr p)) = ap is_said p.0
+said_status (Plan w) bytes status text (inl (k, are, inr (inl p))) = ap is_said p.0
+said_status (Plan w) bytes status text (inl (k, are, inr (inr p))) = ap is_said p.0
 said_status (Plan w) bytes status text (inr p) = ap is_said p.0
 said_status Restore bytes status text (inl (r, are, e, is)) = ap is_said e
 said_status Restore bytes status text (inr (f, are, e, is)) = restored_status bytes status f are e
