@@ -26,8 +26,8 @@ use Rattle.checkpoint_reader.specs.Fields.{is_same, is_otherwise, is_unlike}
 use Rattle.checkpoint_reader.specs.Numbered.{IsCopyAt}
 use Rattle.every_history.specs.Reading.{read}
 use Rattle.replay_laws.specs.Walks.{IsLoaded, Passes, GivesBack, GivesAllBack, goes_on}
-use Rattle.part_loader.specs.Loading.{state_of, loaded}
-use Rattle.part_loader.proofs.Loads.{AreDistinct, never_descending_distinct, part_loaded}
+use Rattle.part_loader.specs.Loading.{state_of, AreDistinct, IsWhole}
+use Rattle.part_loader.proofs.Loads.{never_descending_distinct}
 use Rattle.restore_run.specs.Restoring.{IsSoundCheckpoint, IsWalked, no_part, part_for, copies}
 use Rattle.restore_run.specs.Walking.{CopiedAt, OnCopiedAt, IsBetween, AreLeft}
 use Rattle.restore_run.proofs.Referring.{read_of_itself}
@@ -329,7 +329,7 @@ module _ (k : Checkpoint) (sound : IsSoundCheckpoint k) where
   distinct_names : (v : ℕ) (x : Version) → VersionAt g v x → AreDistinct x.names
   distinct_names v x at = never_descending_distinct x.names (λ none. sound.graph.names v (x, at, inr (inl none)))
 
-  pub given_back : (n v : ℕ) (x : Version) (p : PartValue) (t u : State) → CopiedAt k n v x → slice_get k.parts n ≡ Some p → IsClosed t → (x.absent ≡ false → u ≡ loaded p t)
+  pub given_back : (n v : ℕ) (x : Version) (p : PartValue) (t u : State) → CopiedAt k n v x → slice_get k.parts n ≡ Some p → IsClosed t → (x.absent ≡ false → IsWhole p → IsClosed t → IsLoaded p.names (state_of p) t u)
       → (x.absent ≡ true → (name : Name) → x.names ≡ name ∷ [] → u ≡ without_name t name) → GivesBack copy v x t u × IsClosed u
   given_back n v x p t u at part closed present absent = elim (cases_Bool x.absent) [
     | inl gone ↦
@@ -342,11 +342,10 @@ module _ (k : Checkpoint) (sound : IsSoundCheckpoint k) where
         let like : is_unlike x p c.2.size ≡ false = subst (λ (y : Version). is_unlike y p c.2.size ≡ false) same c.2.agrees in
         let names : p.names ≡ x.names = names_like x p c.2.size like in
         let own = read_of_itself c.2.bytes p c.2.size c.2.was_read in
-        let load = part_loaded p own.values own.objects t closed (subst AreDistinct (sym names) (distinct_names v x at.1)) own.as_many in
+        let distinct : AreDistinct p.names = subst AreDistinct (sym names) (distinct_names v x at.1) in
+        let load = present stays (record { distinct = distinct; as_many = own.as_many; values = own.values; objects = own.objects }) closed in
         let here : state_of p ≡ copy v = ap state_of (sym (part_here cs k.parts n v p sound.names.copied_ascends at.0 part)) in
-        let is = present stays in
-        let whole = subst (λ (s : State). IsLoaded p.names s t (loaded p t)) here load in
-        let named = subst (λ (ns : List Name). IsLoaded ns (copy v) t (loaded p t)) names whole in
-        let done = subst (λ (s : State). IsLoaded x.names (copy v) t s) (sym is) named in
+        let whole = subst (λ (s : State). IsLoaded p.names s t u) here load in
+        let done = subst (λ (ns : List Name). IsLoaded ns (copy v) t u) names whole in
         (inl (stays, done), done.closed)
   ]

@@ -6,10 +6,12 @@
 
 mod again;
 mod fault;
+mod laws;
 mod restored;
 mod run;
 mod walk;
 
 pub use fault::RestoreFault;
+pub use laws::bytes_are_restored_in_one_way;
 pub use restored::Restored;
 pub use run::restore;

@@ -6,8 +6,8 @@ ghost use Rattle.graph_model.specs.declared.graph.Version.{Version};
 ghost use Rattle.graph_model.specs.Graphs.{CellAt, VersionAt};
 ghost use Rattle.graph_model.specs.Faults.{Ascends};
 ghost use Rattle.every_history.specs.Reading as reading;
-ghost use Rattle.replay_laws.specs.Walks.{done_again, Passes, GivesBack, GivesAllBack};
-ghost use Rattle.part_loader.specs.Loading.{loaded};
+ghost use Rattle.replay_laws.specs.Walks.{done_again, Passes, IsLoaded, GivesBack, GivesAllBack};
+ghost use Rattle.part_loader.specs.Loading.{IsWhole, state_of};
 ghost use Rattle.restore_run.specs.Restoring.{IsSoundCheckpoint, copies, IsWalked, DrawsAgain};
 ghost use Rattle.restore_run.specs.Walking.{IsBetween, OnCopiedAt, AreLeft};
 ghost use Rattle.checkpoint_reader.specs.declared.checkpoint.Checkpoint.{Checkpoint};
@@ -67,7 +67,7 @@ fn give(
     version: &Version,
     part: PartValue,
 ) -> Result<(), AllocError>
-    ensures present { version.now.absent ≡ false → OnOk result (state.new ≡ loaded part state.old) }
+    ensures present { version.now.absent ≡ false → OnOk result (IsWhole part → IsClosed state.old → IsLoaded part.names (state_of part) state.old state.new) }
     ensures absent { version.now.absent ≡ true → (name : List ℕ) → version.now.names ≡ name ∷ [] → OnOk result (state.new ≡ without_name state.old name) }
 {
     if !version.absent {

@@ -1,0 +1,13 @@
+pub mod Judging
+pub mod Least
+pub mod Texts
+pub mod Shapes
+pub mod Operating
+pub mod Itemizing
+pub mod Comparing
+pub mod Iterating
+pub mod Methodical
+pub mod Showing
+pub mod Simple
+pub mod Constructs
+pub mod Cells

@@ -1,0 +1,289 @@
+-- Each constant in the tree of a form is in the tokens that the form spells, or the text of a function.
+use Rattle.std.proofs.Common.{ℕ, true, false, List, [], ◌∷◌, ◌++◌, Some, None, FitsSigned, arith}
+use Rattle.std.specs.Int.{w128}
+use Rattle.std.proofs.lemmas.Str.{is_utf8-from_IsUtf8, IsUtf8-nil}
+use Rattle.py_tree.specs.declared.expressions.Literal.TheVariants as literal
+use Rattle.std.specs.List.{AllByRecursion}
+use Rattle.py_tree.specs.declared.expressions.Expr.{Expr}
+use Rattle.py_tree.specs.declared.statements.Stmt.{Stmt}
+use Rattle.py_token.specs.declared.kinds.Kind.{Kind}
+use Rattle.py_token.specs.declared.kinds.Kind.TheVariants as t
+use Rattle.py_grammar.specs.Expressions.{Expression, plain, conditional, Ors, ors_one, ors_more, Ands, ands_one, ands_more, Negation, compared, negated, Compares, compares_one, compares_more, compares_none, compares_not_none, Relational, equal, not_equal, less, at_most, greater, at_least, within, not_within, Sums, sums_one, sums_more, Products, products_one, products_more, Signed, unsigned, signed, Primary, name, number, text, nothing, truth, falsity, group, display, dict, call, index, slice, Callee, function, method, Bound, unbounded, bounded, Args, no_args, args, args_comma, Elements, elements_one, elements_more, Entries, no_entries, entries, entries_comma, Pairs, pairs_one, pairs_more, spell_relational, spell_expression, spell_ors, spell_ands, spell_negation, spell_compares, spell_sums, spell_products, spell_signed, spell_primary, spell_callee, spell_bound, spell_args, spell_elements, spell_entries, spell_pairs}
+use Rattle.py_grammar.specs.Statements.{Target, to_name, to_item, Names, names_one, names_more, pass_, break_, continue_, Simple, word, return_, give, declare, delete, assign, augment, show, spell_target, spell_names, spell_simple, Params, no_params, params, params_comma, Statement, simple, compound, Head, choose, otherwise, while_true, for_each, define, Condition, if_true, else_if, Branches, branches, Block, inline, indented, Statements, statements_one, statements_more, spell_params, spell_statement, spell_head, spell_condition, spell_branches, spell_block, spell_statements}
+use Rattle.py_grammar.specs.Trees.{Source, tree_expression, tree_ors, terms_ors, tree_ands, terms_ands, tree_negation, tree_compares, first_compared, relations, tree_sums, first_summed, summed, tree_products, first_multiplied, multiplied, tree_signed, tree_primary, tree_call, tree_bound, tree_args, tree_elements, tree_entries, tree_pairs, tree_target, tree_simple, tree_statement, tree_compound, arms_before, arms, tree_block, tree_statements, tree_top}
+use Rattle.part_bytes.specs.Plain.{IsText}
+use Rattle.plain_states.specs.Constants.{if_constants, constants_at, constants_of}
+use Rattle.session_texts.proofs.Made as made
+use Rattle.session_texts.proofs.Made.{Pass, Plain, Plains, Stated, Stateds, Arms}
+
+pub push : {X : Type 0} (P : X → Type 0) (xs : List X) (x : X) → AllByRecursion P xs → P x → AllByRecursion P (xs ++ x ∷ [])
+push P [] x h k = (k, tt)
+push P (y ∷ ys) x h k = (h.0, push P ys x h.1 k)
+
+-- a name, a number or a text among the tokens is plain
+abbrev pub IsPlainKind : Kind → Type 0
+IsPlainKind (t.Name n) = IsText n
+IsPlainKind (t.Number n) = FitsSigned w128 n
+IsPlainKind (t.Text written) = IsText written
+IsPlainKind _ = Unit {0}
+
+abbrev pub ArePlainKinds : List Kind → Type 0
+ArePlainKinds = AllByRecursion IsPlainKind
+
+relational : (r : Relational) (rest : List Kind) → ArePlainKinds (spell_relational r rest) → ArePlainKinds rest
+relational equal rest h = h.1
+relational not_equal rest h = h.1
+relational less rest h = h.1
+relational at_most rest h = h.1
+relational greater rest h = h.1
+relational at_least rest h = h.1
+relational within rest h = h.1
+relational not_within rest h = h.1.1
+
+-- ---- trees of chains
+
+ors_tree : (x : Ors) → Plains (terms_ors x) → Plain (tree_ors x)
+ors_tree (ors_one a) h = h.0
+ors_tree (ors_more b a) h = made.of_or _ h
+
+ands_tree : (x : Ands) → Plains (terms_ands x) → Plain (tree_ands x)
+ands_tree (ands_one a) h = h.0
+ands_tree (ands_more b a) h = made.of_and _ h
+
+compares_tree : (x : Compares) → Plain (first_compared x) → made.Relations (relations x) → Plain (tree_compares x)
+compares_tree (compares_one a) h k = h
+compares_tree (compares_more c r a) h k = made.of_compare _ _ h k
+compares_tree (compares_none c) h k = made.of_compare _ _ h k
+compares_tree (compares_not_none c) h k = made.of_compare _ _ h k
+
+sums_tree : (x : Sums) → Plain (first_summed x) → made.Operands (summed x) → Plain (tree_sums x)
+sums_tree (sums_one a) h k = h
+sums_tree (sums_more b s a) h k = made.of_sum _ _ h k
+
+products_tree : (x : Products) → Plain (first_multiplied x) → made.Operands (multiplied x) → Plain (tree_products x)
+products_tree (products_one a) h k = h
+products_tree (products_more b s a) h k = made.of_product _ _ h k
+
+-- ---- expressions: the names of the tree, and the tokens after it
+
+mutual
+  pub expression : (x : Expression) (rest : List Kind) → ArePlainKinds (spell_expression x rest) → Plain (tree_expression x) × ArePlainKinds rest
+  expression (plain a) rest h = let w = ors a rest h in (ors_tree a w.0, w.1)
+  expression (conditional a test b) rest h =
+      let u = ors a _ h in
+      let v = ors test _ u.1.1 in
+      let w = expression b rest v.1.1 in
+      (made.of_conditional _ _ _ (ors_tree test v.0) (ors_tree a u.0) w.0, w.1)
+
+  ors : (x : Ors) (rest : List Kind) → ArePlainKinds (spell_ors x rest) → Plains (terms_ors x) × ArePlainKinds rest
+  ors (ors_one a) rest h = let w = ands a rest h in ((ands_tree a w.0, tt), w.1)
+  ors (ors_more b a) rest h =
+      let u = ors b _ h in
+      let w = ands a rest u.1.1 in
+      (push Plain (terms_ors b) _ u.0 (ands_tree a w.0), w.1)
+
+  ands : (x : Ands) (rest : List Kind) → ArePlainKinds (spell_ands x rest) → Plains (terms_ands x) × ArePlainKinds rest
+  ands (ands_one a) rest h = let w = negation a rest h in ((w.0, tt), w.1)
+  ands (ands_more b a) rest h =
+      let u = ands b _ h in
+      let w = negation a rest u.1.1 in
+      (push Plain (terms_ands b) _ u.0 w.0, w.1)
+
+  negation : (x : Negation) (rest : List Kind) → ArePlainKinds (spell_negation x rest) → Plain (tree_negation x) × ArePlainKinds rest
+  negation (compared a) rest h = let w = compares a rest h in (compares_tree a w.0 w.1, w.2)
+  negation (negated a) rest h = let w = negation a rest h.1 in (made.of_not _ w.0, w.1)
+
+  compares : (x : Compares) (rest : List Kind) → ArePlainKinds (spell_compares x rest) → Plain (first_compared x) × made.Relations (relations x) × ArePlainKinds rest
+  compares (compares_one a) rest h = let w = sums a rest h in (sums_tree a w.0 w.1, tt, w.2)
+  compares (compares_more c r a) rest h =
+      let u = compares c _ h in
+      let w = sums a rest (relational r _ u.2) in
+      (u.0, push made.OfRelation (relations c) _ u.1 (made.of_relation _ _ (sums_tree a w.0 w.1)), w.2)
+  compares (compares_none c) rest h = let u = compares c _ h in (u.0, push made.OfRelation (relations c) _ u.1 made.of_is_none, u.2.1.1)
+  compares (compares_not_none c) rest h = let u = compares c _ h in (u.0, push made.OfRelation (relations c) _ u.1 made.of_is_not_none, u.2.1.1.1)
+
+  sums : (x : Sums) (rest : List Kind) → ArePlainKinds (spell_sums x rest) → Plain (first_summed x) × made.Operands (summed x) × ArePlainKinds rest
+  sums (sums_one a) rest h = let w = products a rest h in (products_tree a w.0 w.1, tt, w.2)
+  sums (sums_more b s a) rest h =
+      let u = sums b _ h in
+      let w = products a rest u.2.1 in
+      (u.0, push made.OfOperand (summed b) _ u.1 (made.of_operand _ _ (products_tree a w.0 w.1)), w.2)
+
+  products : (x : Products) (rest : List Kind) → ArePlainKinds (spell_products x rest) → Plain (first_multiplied x) × made.Operands (multiplied x) × ArePlainKinds rest
+  products (products_one a) rest h = let w = sign a rest h in (w.0, tt, w.1)
+  products (products_more b s a) rest h =
+      let u = products b _ h in
+      let w = sign a rest u.2.1 in
+      (u.0, push made.OfOperand (multiplied b) _ u.1 (made.of_operand _ _ w.0), w.1)
+
+  sign : (x : Signed) (rest : List Kind) → ArePlainKinds (spell_signed x rest) → Plain (tree_signed x) × ArePlainKinds rest
+  sign (unsigned a) rest h = primary a rest h
+  sign (signed s a) rest h = let w = sign a rest h.1 in (made.of_sign _ _ w.0, w.1)
+
+  pub primary : (x : Primary) (rest : List Kind) → ArePlainKinds (spell_primary x rest) → Plain (tree_primary x) × ArePlainKinds rest
+  primary (name n) rest h = (made.of_name n, h.1)
+  primary (number n) rest h = (made.of_literal (literal.Number n) h.0, h.1)
+  primary (text n) rest h = (made.of_literal (literal.Text n) h.0, h.1)
+  primary nothing rest h = (made.of_literal literal.Nothing tt, h.1)
+  primary truth rest h = (made.of_literal (literal.Bool true) tt, h.1)
+  primary falsity rest h = (made.of_literal (literal.Bool false) tt, h.1)
+  primary (group a) rest h = let w = expression a _ h.1 in (w.0, w.1.1)
+  primary (display a) rest h = let w = given a _ h.1 in (made.of_list _ w.0, w.1.1)
+  primary (dict a) rest h = let w = entered a _ h.1 in (made.of_dict _ w.0, w.1.1)
+  primary (call f a) rest h =
+      let u = callee f _ h in
+      let w = given a _ u.1.1 in
+      (u.0 _ w.0, w.1.1)
+  primary (index p a) rest h =
+      let u = primary p _ h in
+      let w = expression a _ u.1.1 in
+      (made.of_index _ _ u.0 w.0, w.1.1)
+  primary (slice p a b) rest h =
+      let u = primary p _ h in
+      let v = bound a _ u.1.1 in
+      let w = bound b _ v.1.1 in
+      (made.of_slice _ _ _ u.0 v.0 w.0, w.1.1)
+
+  callee : (x : Callee) (rest : List Kind) → ArePlainKinds (spell_callee x rest) → ((xs : List Expr) → Plains xs → Plain (tree_call x xs)) × ArePlainKinds rest
+  callee (function p) rest h = let u = primary p _ h in (λ xs k. made.of_call _ xs u.0 k, u.1)
+  callee (method p n) rest h = let u = primary p _ h in (λ xs k. made.of_method _ n xs u.0 k, u.1.1.1)
+
+  bound : (x : Bound) (rest : List Kind) → ArePlainKinds (spell_bound x rest) → Pass (if_constants (tree_bound x)) × ArePlainKinds rest
+  bound unbounded rest h = (tt, h)
+  bound (bounded a) rest h = expression a rest h
+
+  given : (x : Args) (rest : List Kind) → ArePlainKinds (spell_args x rest) → Plains (tree_args x) × ArePlainKinds rest
+  given no_args rest h = (tt, h)
+  given (args es) rest h = elements es rest h
+  given (args_comma es) rest h = let w = elements es _ h in (w.0, w.1.1)
+
+  elements : (x : Elements) (rest : List Kind) → ArePlainKinds (spell_elements x rest) → Plains (tree_elements x) × ArePlainKinds rest
+  elements (elements_one a) rest h = let w = expression a rest h in ((w.0, tt), w.1)
+  elements (elements_more es a) rest h =
+      let u = elements es _ h in
+      let w = expression a rest u.1.1 in
+      (push Plain (tree_elements es) _ u.0 w.0, w.1)
+
+  entered : (x : Entries) (rest : List Kind) → ArePlainKinds (spell_entries x rest) → made.Pairs (tree_entries x) × ArePlainKinds rest
+  entered no_entries rest h = (tt, h)
+  entered (entries ps) rest h = pairs ps rest h
+  entered (entries_comma ps) rest h = let w = pairs ps _ h in (w.0, w.1.1)
+
+  pairs : (x : Pairs) (rest : List Kind) → ArePlainKinds (spell_pairs x rest) → made.Pairs (tree_pairs x) × ArePlainKinds rest
+  pairs (pairs_one a b) rest h =
+      let u = expression a _ h in
+      let w = expression b rest u.1.1 in
+      ((made.of_pair _ _ u.0 w.0, tt), w.1)
+  pairs (pairs_more ps a b) rest h =
+      let v = pairs ps _ h in
+      let u = expression a _ v.1.1 in
+      let w = expression b rest u.1.1 in
+      (push made.OfPair (tree_pairs ps) _ v.0 (made.of_pair _ _ u.0 w.0), w.1)
+
+-- ---- simple statements
+
+target : (x : Target) (rest : List Kind) → ArePlainKinds (spell_target x rest) → Pass (constants_at (tree_target x)) × ArePlainKinds rest
+target (to_name n) rest h = (tt, h.1)
+target (to_item p a) rest h =
+    let u = primary p _ h in
+    let w = expression a _ u.1.1 in
+    (made.both (constants_of (tree_primary p)) (constants_of (tree_expression a)) u.0 w.0, w.1.1)
+
+listed : (x : Names) (rest : List Kind) → ArePlainKinds (spell_names x rest) → ArePlainKinds rest
+listed (names_one n) rest h = h.1
+listed (names_more ns n) rest h = let u = listed ns _ h in u.1.1
+
+taken : (x : Params) (rest : List Kind) → ArePlainKinds (spell_params x rest) → ArePlainKinds rest
+taken no_params rest h = h
+taken (params ns) rest h = listed ns rest h
+taken (params_comma ns) rest h = let w = listed ns _ h in w.1
+
+pub stated : (x : Simple) (rest : List Kind) → ArePlainKinds (spell_simple x rest) → Stated (tree_simple x) × ArePlainKinds rest
+stated (word pass_) rest h = (made.of_pass, h.1)
+stated (word break_) rest h = (made.of_break, h.1)
+stated (word continue_) rest h = (made.of_continue, h.1)
+stated return_ rest h = (made.of_return None tt, h.1)
+stated (give a) rest h = let w = expression a rest h.1 in (made.of_return (Some (tree_expression a)) w.0, w.1)
+stated (declare ns) rest h = let w = listed ns rest h.1 in (made.of_global _, w)
+stated (delete to) rest h = let w = target to rest h.1 in (made.of_delete _ w.0, w.1)
+stated (assign to a) rest h =
+    let u = target to _ h in
+    let w = expression a rest u.1.1 in
+    (made.of_assign _ _ u.0 w.0, w.1)
+stated (augment to by a) rest h =
+    let u = target to _ h in
+    let w = expression a rest u.1.1 in
+    (made.of_augment _ _ _ u.0 w.0, w.1)
+stated (show a) rest h = let w = expression a rest h in (made.of_show _ w.0, w.1)
+
+-- ---- statements
+
+no_text : IsText []
+no_text = (is_utf8-from_IsUtf8 [] IsUtf8-nil, omega arith)
+
+-- what a head makes of the statements of its block
+abbrev Heads : List ℕ → Head → Type 0
+Heads source x = (body : List Stmt) → Stateds body → Stated (tree_compound source x body)
+
+-- the test of a condition
+abbrev test_of : Condition → Expr
+test_of (if_true a) = tree_expression a
+test_of (else_if bs a) = tree_expression a
+
+chosen : (source : List ℕ) (x : Condition) (body : List Stmt) → Arms (arms_before x) → Plain (test_of x) → Stateds body → Stated (tree_compound source (choose x) body)
+chosen source (if_true a) body h k l = made.of_if _ [] (made.of_arm _ body k l, tt) tt
+chosen source (else_if bs a) body h k l = made.of_if _ [] (push made.OfArm (arms bs) _ h (made.of_arm _ body k l)) tt
+
+branch_arms : (x : Condition) (b : Block) → Arms (arms_before x) → Plain (test_of x) → Stateds (tree_block b) → Arms (arms (branches x b))
+branch_arms (if_true a) b h k l = (made.of_arm _ (tree_block b) k l, tt)
+branch_arms (else_if bs a) b h k l = push made.OfArm (arms bs) _ h (made.of_arm _ (tree_block b) k l)
+
+mutual
+  pub statement : (source : List ℕ) (x : Statement) (rest : List Kind) → IsText source → ArePlainKinds (spell_statement x rest) → Stated (tree_statement source x) × ArePlainKinds rest
+  statement source (simple a) rest is h = let w = stated a _ h in (w.0, w.1.1)
+  statement source (compound hd b) rest is h =
+      let u = head source hd _ is h in
+      let w = block b rest u.1 in
+      (u.0 (tree_block b) w.0, w.1)
+
+  pub head : (source : List ℕ) (x : Head) (rest : List Kind) → IsText source → ArePlainKinds (spell_head x rest) → Heads source x × ArePlainKinds rest
+  head source (choose c) rest is h = let w = condition c rest h in (λ body k. chosen source c body w.0 w.1 k, w.2)
+  head source (otherwise bs) rest is h = let w = branched bs _ h in (λ body k. made.of_if _ body w.0 k, w.1.1.1)
+  head source (while_true a) rest is h = let w = expression a _ h.1 in (λ body k. made.of_while _ body w.0 k, w.1.1)
+  head source (for_each n a) rest is h = let w = expression a _ h.1.1.1 in (λ body k. made.of_for n _ body w.0 k, w.1.1)
+  head source (define n ps) rest is h =
+      let w = taken ps _ h.1.1.1 in
+      (λ body k. made.of_function _ (made.of_def n _ body source h.1.0 is k), w.1.1)
+
+  pub condition : (x : Condition) (rest : List Kind) → ArePlainKinds (spell_condition x rest) → Arms (arms_before x) × Plain (test_of x) × ArePlainKinds rest
+  condition (if_true a) rest h = let w = expression a _ h.1 in (tt, w.0, w.1.1)
+  condition (else_if bs a) rest h =
+      let u = branched bs _ h in
+      let w = expression a _ u.1.1 in
+      (u.0, w.0, w.1.1)
+
+  pub branched : (x : Branches) (rest : List Kind) → ArePlainKinds (spell_branches x rest) → Arms (arms x) × ArePlainKinds rest
+  branched (branches c b) rest h =
+      let u = condition c _ h in
+      let w = block b rest u.2 in
+      (branch_arms c b u.0 u.1 w.0, w.1)
+
+  pub block : (x : Block) (rest : List Kind) → ArePlainKinds (spell_block x rest) → Stateds (tree_block x) × ArePlainKinds rest
+  block (inline a) rest h = let w = stated a _ h in ((w.0, tt), w.1.1)
+  block (indented xs) rest h = let w = statements xs _ h.1.1 in (w.0, w.1.1)
+
+  pub statements : (x : Statements) (rest : List Kind) → ArePlainKinds (spell_statements x rest) → Stateds (tree_statements x) × ArePlainKinds rest
+  statements (statements_one a) rest h = let w = statement [] a rest no_text h in ((w.0, tt), w.1)
+  statements (statements_more xs a) rest h =
+      let u = statements xs _ h in
+      let w = statement [] a rest no_text u.1 in
+      (push Stated (tree_statements xs) _ u.0 w.0, w.1)
+
+-- ---- the top of a cell
+
+pub top : (source : Source) (x : Statements) (rest : List Kind) → ((i j : ℕ) → IsText (source i j)) → ArePlainKinds (spell_statements x rest) → Stateds (tree_top source x) × ArePlainKinds rest
+top source (statements_one a) rest are h = let w = statement _ a rest (are _ _) h in ((w.0, tt), w.1)
+top source (statements_more xs a) rest are h =
+    let u = top source xs _ are h in
+    let w = statement _ a rest (are _ _) u.1 in
+    (push Stated (tree_top source xs) _ u.0 w.0, w.1)
