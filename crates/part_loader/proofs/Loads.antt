@@ -1,6 +1,6 @@
 -- A part that is loaded is a copy that is loaded: each of its names is there once, and has a value.
-use Rattle.std.proofs.Common.{◌≡◌, ℕ, ◌<◌, List, [], ◌∷◌, map, length, Option, Some, None, refl, sym, ap, ◌∙◌, subst, inl, inr, arith}
-use Rattle.std.specs.Prelude.{Contains, All}
+use Rattle.std.proofs.Common.{◌≡◌, ℕ, ◌<◌, List, [], ◌∷◌, map, length, Option, Some, None, Result, Ok, Err, refl, sym, ap, ◌∙◌, subst, inl, inr, arith}
+use Rattle.std.specs.Prelude.{Contains, All, OnOk}
 use Rattle.std.specs.List.{AllZip}
 use Rattle.std.specs.FinMap as finite
 use Rattle.std.specs.Ordering.{nat_cmp}
@@ -21,13 +21,9 @@ use Rattle.part_bytes.specs.declared.part.PartValue.{PartValue}
 use Rattle.replay_laws.specs.Copies.{higher_object, put_name, put_names, with_objects, with_copy}
 use Rattle.replay_laws.specs.Walks.{IsLoaded}
 use Rattle.replay_laws.proofs.Copying.{copy_loaded}
-use Rattle.part_loader.specs.Loading.{Globals, globals_of, state_of, put_held, loaded}
+use Rattle.part_loader.specs.Loading.{Globals, globals_of, state_of, AreDistinct, IsWhole, put_held, loaded}
 
 -- ---- names that ascend are distinct
-
-abbrev pub AreDistinct : List Name → Type 0
-AreDistinct [] = Unit {0}
-AreDistinct (x ∷ xs) = (¬ Contains xs x) × AreDistinct xs
 
 above_first : (x : Name) (xs : List Name) → Ascends TextBelow (x ∷ xs) → (y : Name) → Contains xs y → TextBelow x y
 above_first x [] a y c = absurd (none_in y c)
@@ -115,3 +111,10 @@ module _ (p : PartValue) (values : All (λ o. AreLive p.objects (held_refs value
       let same : loaded p t ≡ with_copy (state_of p) p.names t =
       puts_same base (state_of p) p.names p.values (with_objects (map (higher_object base) p.objects) t) (all_in p.names p.values distinct many) in
       subst (λ (u : State). IsLoaded p.names (state_of p) t u) (sym same) (copy_loaded (state_of p) part_closed p.names t closed)
+
+pub whole_loaded : (p : PartValue) (t u : State) → u ≡ loaded p t → IsWhole p → IsClosed t → IsLoaded p.names (state_of p) t u
+whole_loaded p t u is w closed = subst (λ (s : State). IsLoaded p.names (state_of p) t s) (sym is) (part_loaded p w.values w.objects t closed w.distinct w.as_many)
+
+pub loaded_if_ok : {E : Type 0} (p : PartValue) (t u : State) (result : Result (Unit {0}) E) → OnOk result (u ≡ loaded p t) → OnOk result (IsWhole p → IsClosed t → IsLoaded p.names (state_of p) t u)
+loaded_if_ok p t u (Ok done) is = λ w closed. whole_loaded p t u is w closed
+loaded_if_ok p t u (Err e) is = tt

@@ -1,10 +1,12 @@
 -- A part as a state of its own, and a part loaded into a state.
-use Rattle.std.specs.Prelude.{◌≡◌, ℕ, List, [], ◌∷◌, map, length, Contains, Option, Some, None, option_map}
+use Rattle.std.specs.Prelude.{◌≡◌, ℕ, List, [], ◌∷◌, map, length, Contains, All, Option, Some, None, option_map}
 use Rattle.std.specs.Ordering.{nat_cmp}
 use Rattle.std.specs.Cmp.Lexicographic.{slice_cmp}
 use Rattle.std.specs.FinMap as finite
 use Rattle.py_value.specs.declared.value.Value.{Value}
 use Rattle.py_heap.specs.declared.state.State.{State}
+use Rattle.py_heap.specs.References.{value_refs, object_refs, AreLive}
+use Rattle.py_heap.specs.Reaching.{held_refs}
 use Rattle.py_machine.specs.Runs.{Name}
 use Rattle.part_bytes.specs.declared.part.PartValue.{PartValue}
 use Rattle.part_bytes.specs.Parts.{numbered}
@@ -23,6 +25,18 @@ globals_of (x ∷ xs) (Some v ∷ held) = finite.insert (globals_of xs held) x v
 -- the part by itself: its names have their values, and its objects are all that there are
 abbrev pub state_of : PartValue → State
 state_of part = record { globals = globals_of part.names part.values; heap = part.objects; count = 0; meter = 0 }
+
+-- no name stands twice
+abbrev pub AreDistinct : List Name → Type 0
+AreDistinct [] = Unit {0}
+AreDistinct (x ∷ xs) = (¬ Contains xs x) × AreDistinct xs
+
+-- it is whole by itself: each name stands once, beside what it has, and each reference is the number of one of the objects
+pub record IsWhole (part : PartValue) : Type 0 where
+  pub distinct : AreDistinct part.names
+  pub as_many : length part.values ≡ length part.names
+  pub values : All (λ o. AreLive part.objects (held_refs value_refs o)) part.values
+  pub objects : All (λ o. AreLive part.objects (object_refs o)) part.objects
 
 -- the names get these values with addresses that are `base` higher, or lose the value that they have
 abbrev pub put_held : ℕ → List Name → List (Option Value) → State → State

@@ -1,6 +1,8 @@
 ghost use Rattle.std.specs.Prelude.{◌≡◌, ◌++◌, map, length, OnOk};
+ghost use Rattle.py_heap.specs.References.{IsClosed};
 ghost use Rattle.part_bytes.specs.Parts.{numbered_object};
 ghost use Rattle.replay_laws.specs.Copies.{higher_object, put_name, with_objects};
+ghost use Rattle.replay_laws.specs.Walks.{IsLoaded};
 ghost use Rattle.part_loader.specs.Loading as spec;
 
 use crate::moving::{Above, into_moved, moved_value};
@@ -69,9 +71,9 @@ fn put_all(
     Ok(())
 }
 
-/// Loads a part: puts its objects after those that there are, and gives its names what they have in it. An object without
-/// references isn't copied.
-pub fn load(alloc: Global, state: &mut State, part: PartValue) -> Result<(), AllocError>
+/// Puts the objects of a part after those that there are, and gives its names what they have in it. An object without references
+/// isn't copied.
+fn load_after(alloc: Global, state: &mut State, part: PartValue) -> Result<(), AllocError>
     ensures { OnOk result (state.new ≡ spec.loaded part state.old) }
 {
     let PartValue {
@@ -82,4 +84,13 @@ pub fn load(alloc: Global, state: &mut State, part: PartValue) -> Result<(), All
     let above = Above { base: state.len() };
     add_objects(alloc, state, &above, objects)?;
     put_all(alloc, state, &above, names.as_slice(), values.as_slice())
+}
+
+/// Loads a part. If the part is whole and the state is closed, the names of the part are in the state as they are in the part, they share
+/// nothing with what was there, and all else in the state is as before. After want of memory nothing is known of the state, and it is
+/// only dropped.
+pub fn load(alloc: Global, state: &mut State, part: PartValue) -> Result<(), AllocError>
+    ensures { OnOk result (spec.IsWhole part → IsClosed state.old → IsLoaded part.names (spec.state_of part) state.old state.new) }
+{
+    load_after(alloc, state, part)
 }
