@@ -3,6 +3,7 @@ ghost use Rattle.session_core.specs.Asks.{is_move};
 ghost use Rattle.session_core.specs.Legal.{progress_of, arriving};
 ghost use Rattle.session_gate.specs.Facts.{Owes, OwesNone};
 ghost use Rattle.hand_off.specs.Moves.{HasStarted, HasArrived, HasStayed};
+ghost use Rattle.hand_off.specs.Doing.{Starts, Adopts};
 
 use nb_outside::Feed;
 use session_core::{Engine, Request, Verdict};
@@ -29,13 +30,25 @@ pub fn start_move<E: Engine, F: Feed>(
     requires owes { Owes lease request }
     requires spare { 3 ≤ lease.spare }
     requires asked { is_move request.ask ≡ true }
-    ensures { HasStarted E.meaning lease request result }
+    ensures started { HasStarted E.meaning lease request result }
+    ensures does { Starts E.meaning lease result }
 {
+    lease.is_legal();
     match lease.judge(alloc, &request) {
-        Verdict::Refuse(reason) => Started::Refused(lease.refuse(request, reason)),
-        Verdict::Stay => Started::Resumed(lease.resume(request)),
+        Verdict::Refuse(reason) => {
+            let lease = lease.refuse(request, reason);
+            lease.is_legal();
+            Started::Refused(lease)
+        }
+        Verdict::Stay => {
+            let lease = lease.resume(request);
+            lease.is_legal();
+            Started::Resumed(lease)
+        }
         Verdict::Go { again, to, packed } => {
-            Started::Sealed(lease.depart(request, again, to, packed))
+            let parcel = lease.depart(request, again, to, packed);
+            parcel.is_legal();
+            Started::Sealed(parcel)
         }
     }
 }
@@ -45,10 +58,19 @@ pub fn start_move<E: Engine, F: Feed>(
 pub fn finish_move<E: Engine + Drop, F: Feed>(alloc: Global, parcel: Parcel<E, F>) -> Lease<E, F>
     requires { (progress_of parcel.held.entries).phase ≡ arriving parcel.again parcel.to }
     ensures ended { HasArrived E.meaning E.is_image E.host_of E.stands_for parcel result ⊎ HasStayed parcel result }
+    ensures does { Adopts E.meaning parcel result }
     ensures owes { OwesNone result }
 {
     match parcel.unpack(alloc) {
-        Ok((engine, objects)) => parcel.adopt(engine, objects),
-        Err(_) => parcel.resume(),
+        Ok((engine, objects)) => {
+            let lease = parcel.adopt(engine, objects);
+            lease.is_legal();
+            lease
+        }
+        Err(_) => {
+            let lease = parcel.resume();
+            lease.is_legal();
+            lease
+        }
     }
 }

@@ -6,3 +6,4 @@ pub mod Stepping
 pub mod Going
 pub mod Feeding
 pub mod Unmoved
+pub mod Leading

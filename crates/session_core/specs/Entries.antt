@@ -1,4 +1,5 @@
 -- What entries are about.
+use Rattle.std.specs.Prelude.{◌≡◌, ℕ, Bool, true, false}
 use Rattle.session_core.specs.declared.request.Request.{Request}
 use Rattle.session_core.specs.declared.entry.Entry.{Entry}
 use Rattle.session_core.specs.declared.entry.Entry.TheVariants.{Opened, Ran, Died, Dead, Sealed, Moved, Adopted, Refused, Resumed}
@@ -44,3 +45,15 @@ IsArrival (Moved to) = ⊥
 IsArrival (Adopted from to request certified objects) = Unit {0}
 IsArrival (Refused host request reason) = ⊥
 IsArrival (Resumed host request) = Unit {0}
+
+-- the entry says that this request ran at its host, or else that the session died of it there
+abbrev pub RanOrDied : Bool → ℕ → Request → Entry → Type 0
+RanOrDied ran at asked (Opened host request channel) = ⊥
+RanOrDied ran at asked (Ran host request draws reply) = (ran ≡ true) × (host ≡ at) × (request ≡ asked)
+RanOrDied ran at asked (Died host request count cause) = (ran ≡ false) × (host ≡ at) × (request ≡ asked)
+RanOrDied ran at asked (Dead host request count) = ⊥
+RanOrDied ran at asked (Sealed host request to) = ⊥
+RanOrDied ran at asked (Moved to) = ⊥
+RanOrDied ran at asked (Adopted from to request certified objects) = ⊥
+RanOrDied ran at asked (Refused host request reason) = ⊥
+RanOrDied ran at asked (Resumed host request) = ⊥

@@ -9,3 +9,4 @@ pub mod Answering
 pub mod Stepping
 pub mod Aloneness
 pub mod Feeding
+pub mod Reaching

@@ -62,6 +62,21 @@ impl<E: Engine + Drop> Alone<E> {
         })
     }
 
+    /// A session with this engine and this journal, which is legal and settled. `count` is the count of what was served, if the
+    /// session is dead.
+    pub fn of(engine: E, journal: Journal, hosts: u32, dead: bool, count: u32) -> Alone<E>
+        requires { IsAlone E.meaning (E.stands_for engine) (E.host_of engine) hosts dead count journal.entries }
+        ensures { result ≡ record { entries = journal.entries; spare = journal.spare; hosts = hosts } }
+    {
+        Alone {
+            engine,
+            journal,
+            hosts,
+            dead,
+            count,
+        }
+    }
+
     /// The journal of a session is legal.
     pub fn is_legal(&self)
         ensures { IsLegal E.meaning self.now.hosts self.now.entries }

@@ -22,6 +22,7 @@ ghost use Rattle.session_core.specs.declared.entry.MoveRefusal.TheVariants.{Stuc
 ghost use Rattle.session_core.specs.Meanings.{more};
 ghost use Rattle.session_core.specs.Legal.{HasBestPlan, NamesStuck};
 ghost use Rattle.session_core.specs.Answering.{Has};
+ghost use Rattle.session_core.specs.Reaching.{AreAll, BeginsWith, IsReached};
 
 use crate::engine::Engine;
 use plan_model::laws::no_plan_undercuts;
@@ -47,6 +48,15 @@ pub fn each_session_is_one_legal_history<E: Engine>()
     ensures one_host { (s : Session) (a b : ℕ) → HasResident s.seat a → HasResident s.seat b → a ≡ b }
     ensures seated { (hosts host : ℕ) (request : Header) (channel : Channel) (events : List Event) (s : Session) → host < hosts
         → Happen E.meaning hosts (opened_session host request channel) events s → IsSeated s.seat (progress_of s.journal) }
+{}
+
+/// Each legal journal is one that the machine leads to: some events lead from its opening to a session with this journal, whatever was
+/// admitted to the two lists, of which what the journal answers is the first.
+#[tactic(auto, using(crate::proofs::Leading::reached))]
+pub fn each_legal_journal_is_one_of_the_machine<E: Engine>()
+    ensures { (hosts host : ℕ) (request : Header) (channel : Channel) (journal : List Entry) (main control : List Request) → IsLegal E.meaning hosts journal
+        → Has journal [] (Opened host request channel) → BeginsWith main (main_asked journal) → BeginsWith control (control_asked journal)
+        → AreAll is_main main → AreAll is_control control → IsReached E.meaning hosts host request channel journal main control }
 {}
 
 /// The k-th cell is the k-th admitted request. A cell here is any request of the main list. The same holds of the requests of

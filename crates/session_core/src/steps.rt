@@ -3,7 +3,7 @@
 ghost use Rattle.std.specs.Prelude.{◌≡◌, ℕ, ◌+◌, ◌≤◌, ◌<◌, true, false, [], ◌∷◌, ◌++◌, Some};
 ghost use Rattle.session_core.specs.declared.entry.Entry.{Entry};
 ghost use Rattle.session_core.specs.Asks.{IsWork, is_move, is_end};
-ghost use Rattle.session_core.specs.Entries.{IsEnd};
+ghost use Rattle.session_core.specs.Entries.{IsEnd, RanOrDied};
 ghost use Rattle.session_core.specs.Legal.{settled, progress_of};
 ghost use Rattle.session_core.specs.Machine.{IsNoted};
 ghost use Rattle.session_core.specs.Stepping.{IsPackOf, HasGone, HasEnded};
@@ -26,8 +26,8 @@ pub(crate) fn settled_owner(journal: &Journal) -> u32
     journal.owner().unwrap()
 }
 
-/// Serves a request that is no move on a session that is alive: it ran, or the session died. The entry that says so has the
-/// draws that were taken from the feed; only a death for want of memory doesn't say them.
+/// Serves a request that is no move on a session that is alive: it ran (true), or the session died (false). The entry that says so
+/// has the draws that were taken from the feed; only a death for want of memory doesn't say them.
 pub fn serve<E: Engine, F: Feed>(
     alloc: Global,
     journal: &mut Journal,
@@ -41,6 +41,7 @@ pub fn serve<E: Engine, F: Feed>(
     requires alive { (progress_of journal.old.entries).dead ≡ false }
     requires stands { E.stands_for engine.old (progress_of journal.old.entries).served }
     ensures noted { (hosts : ℕ) → (entry : Entry) × IsEnd (λ r. r ≡ request) entry × IsNoted E.meaning hosts journal.old.entries journal.new.entries entry }
+    ensures how { (entry : Entry) × (journal.new.entries ≡ journal.old.entries ++ entry ∷ []) × RanOrDied result (progress_of journal.old.entries).owner request entry }
     ensures stands { result ≡ true → E.stands_for engine.new (progress_of journal.new.entries).served }
     ensures host { result ≡ true → E.host_of engine.new ≡ E.host_of engine.old }
     ensures ends { result ≡ true → (progress_of journal.new.entries).dead ≡ is_end request.ask }
@@ -84,6 +85,7 @@ pub fn answer_dead<E: Engine>(_engine: &E, journal: &mut Journal, count: u32, re
     requires dead { (progress_of journal.old.entries).dead ≡ true }
     requires count { count ≡ E.meaning.count (progress_of journal.old.entries).served }
     ensures noted { (hosts : ℕ) → (entry : Entry) × IsEnd (λ r. r ≡ request) entry × IsNoted E.meaning hosts journal.old.entries journal.new.entries entry }
+    ensures how { journal.new.entries ≡ journal.old.entries ++ Entry.Dead (progress_of journal.old.entries).owner request count ∷ [] }
     ensures spare { journal.old.spare ≡ journal.new.spare + 1 }
 {
     let host = settled_owner(journal);

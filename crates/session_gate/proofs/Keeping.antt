@@ -1,5 +1,7 @@
 -- What is in a slot, and what it is at the end.
-use Rattle.std.proofs.Common.{◌≡◌, ℕ, true, List, ◌++◌, sym, ap, ◌∙◌, subst, eqb-true, Some, Ok, slice_get, arith}
+use Rattle.std.proofs.Common.{◌≡◌, ℕ, true, List, ◌++◌, sym, ap, ◌∙◌, subst, eqb-true, Option, Some, Ok, slice_get, arith}
+use Rattle.nb_outside.specs.declared.feed.Drawn.{Drawn}
+use Rattle.nb_outside.specs.Feeds.{Seen}
 use Rattle.ruled_queue.specs.declared.rule.View.{View}
 use Rattle.ruled_queue.specs.Rule.{joined}
 use Rattle.ruled_queue.proofs.Keeping.{keeps_right}
@@ -26,9 +28,9 @@ module _ {T : Type 0} where
 pub whole : {E F : Type 0} → (h : Holds E F) (pass : Producer) → IsBare h → HoldsAll pass → IsWhole {E = E} {F = F} (record h { ends = gathered h.ends pass })
 whole h pass bare all = (keeps_all h.ends.main pass.main bare.1 all.0, keeps_all h.ends.control pass.control bare.3 all.1)
 
-pub finished : {E F : Type 0} → (hosts : ℕ) (all : List SharedQueues) (queues : SharedQueues) (number : ℕ) (pass : Producer) (h : Holds E F)
-    → slice_get all number ≡ Some queues → h.number ≡ number → IsAtRest hosts all h → IsFinished {E = E} {F = F} hosts queues number pass (record h { ends = gathered h.ends pass })
-finished hosts all queues number pass h listed same rest = let bare = rest.3 in (
+pub finished : {E F : Type 0} → (hosts : ℕ) (all : List SharedQueues) (gives : ℕ → Option (List Drawn)) (seen : F → Seen) (queues : SharedQueues) (number : ℕ) (pass : Producer) (h : Holds E F)
+    → slice_get all number ≡ Some queues → h.number ≡ number → IsAtRest hosts all gives seen h → IsFinished {E = E} {F = F} hosts queues number pass gives seen (record h { ends = gathered h.ends pass })
+finished hosts all gives seen queues number pass h listed same rest = let bare = rest.3 in (
   rest.1,
   rest.2,
   same_queues all h.number number h.ends.queues queues rest.0.0 listed same,
@@ -38,19 +40,20 @@ finished hosts all queues number pass h listed same rest = let bare = rest.3 in 
   (let none = bare.1 in omega arith),
   ap (λ l. l ++ pass.control.lists) bare.2,
   (let none = bare.3 in omega arith),
+  rest.0.2,
 )
 
 module _ {E F : Type 0} where
-  pub whole_here : (hosts : ℕ) (all : List SharedQueues) (pass : Producer) (s : Custody E F) (r : Holds E F) → HasOwner (IsAtRest hosts all) s → Finishes s pass (Ok r) → HoldsAll pass → IsWhole r
-  whole_here hosts all pass Unopened r rest is holds = absurd rest
-  whole_here hosts all pass (In h) r rest is holds =
+  pub whole_here : (hosts : ℕ) (all : List SharedQueues) (gives : ℕ → Option (List Drawn)) (seen : F → Seen) (pass : Producer) (s : Custody E F) (r : Holds E F) → HasOwner (IsAtRest hosts all gives seen) s → Finishes s pass (Ok r) → HoldsAll pass → IsWhole r
+  whole_here hosts all gives seen pass Unopened r rest is holds = absurd rest
+  whole_here hosts all gives seen pass (In h) r rest is holds =
       let now : r ≡ record h { ends = gathered h.ends pass } = cc in
       subst IsWhole (sym now) (whole h pass rest.3 holds)
-  whole_here hosts all pass Out r rest is holds = absurd rest
-  whole_here hosts all pass (Sealed p) r rest is holds = absurd rest
+  whole_here hosts all gives seen pass Out r rest is holds = absurd rest
+  whole_here hosts all gives seen pass (Sealed p) r rest is holds = absurd rest
 
-  pub queues_here : (hosts : ℕ) (all : List SharedQueues) (number : ℕ) (s : Custody E F) → IsInOrder hosts all s → is_of s number ≡ true → HasQueues (λ q. slice_get all number ≡ Some q) s
-  queues_here hosts all number Unopened rest same = tt
-  queues_here hosts all number (In h) rest same = ap (slice_get all) (sym (eqb-true h.number number same)) ∙ rest.0.0
-  queues_here hosts all number Out rest same = tt
-  queues_here hosts all number (Sealed p) rest same = ap (slice_get all) (sym (eqb-true p.held.number number same)) ∙ rest.0.0
+  pub queues_here : (hosts : ℕ) (all : List SharedQueues) (gives : ℕ → Option (List Drawn)) (seen : F → Seen) (number : ℕ) (s : Custody E F) → IsInOrder hosts all gives seen s → is_of s number ≡ true → HasQueues (λ q. slice_get all number ≡ Some q) s
+  queues_here hosts all gives seen number Unopened rest same = tt
+  queues_here hosts all gives seen number (In h) rest same = ap (slice_get all) (sym (eqb-true h.number number same)) ∙ rest.0.0
+  queues_here hosts all gives seen number Out rest same = tt
+  queues_here hosts all gives seen number (Sealed p) rest same = ap (slice_get all) (sym (eqb-true p.held.number number same)) ∙ rest.0.0

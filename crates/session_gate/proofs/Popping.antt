@@ -18,22 +18,22 @@ use Rattle.session_gate.specs.Answered.{opening_by, opening_of, as_main, as_cont
 use Rattle.session_gate.specs.Facts.{IsResident}
 
 -- a legal journal has an opening
-opens : (meaning : Meaning) (hosts : ℕ) (e : Entry) (rest : List MainItem) → IsOpening meaning hosts e → opening_by e ++ rest ≢ []
-opens meaning hosts (Opened host request channel) rest h is = cons_is_not_nil (Opening host request channel) rest is
-opens meaning hosts (Ran host request draws reply) rest h is = h
-opens meaning hosts (Died host request count cause) rest h is = h
-opens meaning hosts (Dead host request count) rest h is = h
-opens meaning hosts (Sealed host request to) rest h is = h
-opens meaning hosts (Moved to) rest h is = h
-opens meaning hosts (Adopted from to request certified objects) rest h is = h
-opens meaning hosts (Refused host request reason) rest h is = h
-opens meaning hosts (Resumed host request) rest h is = h
+opens : (meaning : Meaning) (hosts kernel : ℕ) (e : Entry) (rest : List MainItem) → IsOpening meaning hosts e → opening_by kernel e ++ rest ≢ []
+opens meaning hosts kernel (Opened host request channel) rest h is = cons_is_not_nil (Opening kernel host request channel) rest is
+opens meaning hosts kernel (Ran host request draws reply) rest h is = h
+opens meaning hosts kernel (Died host request count cause) rest h is = h
+opens meaning hosts kernel (Dead host request count) rest h is = h
+opens meaning hosts kernel (Sealed host request to) rest h is = h
+opens meaning hosts kernel (Moved to) rest h is = h
+opens meaning hosts kernel (Adopted from to request certified objects) rest h is = h
+opens meaning hosts kernel (Refused host request reason) rest h is = h
+opens meaning hosts kernel (Resumed host request) rest h is = h
 
-pub begun : (meaning : Meaning) (hosts : ℕ) (es : List Entry) (ends : Held) (owed : List Request) → IsLegal meaning hosts es → IsAnswered es ends owed → ends.main.popped ≢ []
-begun meaning hosts [] ends owed legal h is = legal
-begun meaning hosts (e ∷ es) ends owed legal h is =
-    opens meaning hosts e (opening_of es ++ as_main (asked (e ∷ es) ++ owed)) legal.0
-    (sym (append_assoc (opening_by e) (opening_of es) (as_main (asked (e ∷ es) ++ owed))) ∙ sym h.0 ∙ is)
+pub begun : (meaning : Meaning) (hosts kernel : ℕ) (es : List Entry) (ends : Held) (owed : List Request) → IsLegal meaning hosts es → IsAnswered kernel es ends owed → ends.main.popped ≢ []
+begun meaning hosts kernel [] ends owed legal h is = legal
+begun meaning hosts kernel (e ∷ es) ends owed legal h is =
+    opens meaning hosts kernel e (opening_of kernel es ++ as_main (asked (e ∷ es) ++ owed)) legal.0
+    (sym (append_assoc (opening_by kernel e) (opening_of kernel es) (as_main (asked (e ∷ es) ++ owed))) ∙ sym h.0 ∙ is)
 
 -- ---- one request more
 
@@ -59,38 +59,38 @@ pub as_control_main : (rs : List Request) (r : Request) → is_control r ≡ fal
 as_control_main rs r is = filter_one is_control false rs r is ∙ append-nil (filter is_control rs)
 
 -- what was popped last is owed
-pub popped_owes : (es : List Entry) (old new : Held) (r : Request) → IsAnswered es old [] → TookRequest old r new → IsAnswered es new (r ∷ [])
-popped_owes es old new r h (inl t) =
+pub popped_owes : (kernel : ℕ) (es : List Entry) (old new : Held) (r : Request) → IsAnswered kernel es old [] → TookRequest old r new → IsAnswered kernel es new (r ∷ [])
+popped_owes kernel es old new r h (inl t) =
     let none = append-nil (asked es) in (
-      ap (λ (e : Held). e.main.popped) t.2 ∙ h.0 ∙ ap (λ rs. opening_of es ++ as_main rs) none ∙ ap (λ l. opening_of es ++ l) (sym (as_main_control (asked es) r t.0)),
+      ap (λ (e : Held). e.main.popped) t.2 ∙ h.0 ∙ ap (λ rs. opening_of kernel es ++ as_main rs) none ∙ ap (λ l. opening_of kernel es ++ l) (sym (as_main_control (asked es) r t.0)),
       ap (λ (v : View Request). v.popped) t.1.now ∙ ap (λ l. l ++ r ∷ []) (h.1 ∙ ap as_control none) ∙ sym (as_control_control (asked es) r t.0),
     )
-popped_owes es old new r h (inr t) =
+popped_owes kernel es old new r h (inr t) =
     let none = append-nil (asked es) in (
-      ap (λ (v : View MainItem). v.popped) t.1.now ∙ ap (λ l. l ++ Asked r ∷ []) (h.0 ∙ ap (λ rs. opening_of es ++ as_main rs) none)
-          ∙ append_assoc (opening_of es) (as_main (asked es)) (Asked r ∷ []) ∙ ap (λ l. opening_of es ++ l) (sym (as_main_main (asked es) r t.0)),
+      ap (λ (v : View MainItem). v.popped) t.1.now ∙ ap (λ l. l ++ Asked r ∷ []) (h.0 ∙ ap (λ rs. opening_of kernel es ++ as_main rs) none)
+          ∙ append_assoc (opening_of kernel es) (as_main (asked es)) (Asked r ∷ []) ∙ ap (λ l. opening_of kernel es ++ l) (sym (as_main_main (asked es) r t.0)),
       ap (λ (e : Held). e.control.popped) t.3 ∙ h.1 ∙ ap as_control none ∙ sym (as_control_main (asked es) r t.0),
     )
 
 -- looks that find nothing leave what was popped
-pub looks_answered : (es : List Entry) (old new : Held) → IsAnswered es old [] → new ≡ looked_at_both old → IsAnswered es new []
-looks_answered es old new h is = (ap (λ (e : Held). e.main.popped) is ∙ h.0, ap (λ (e : Held). e.control.popped) is ∙ h.1)
+pub looks_answered : (kernel : ℕ) (es : List Entry) (old new : Held) → IsAnswered kernel es old [] → new ≡ looked_at_both old → IsAnswered kernel es new []
+looks_answered kernel es old new h is = (ap (λ (e : Held). e.main.popped) is ∙ h.0, ap (λ (e : Held). e.control.popped) is ∙ h.1)
 
 -- what a pop tells, with what is owed then
-pub popped_told : (es : List Entry) (old new : Held) (r : Option Request) → IsAnswered es old [] → MatchOption r ((new ≡ looked_at_both old) × FoundNothing old) (λ x. TookRequest old x new)
-    → MatchOption r ((new ≡ looked_at_both old) × FoundNothing old) (λ x. TookRequest old x new × IsAnswered es new (x ∷ []))
-popped_told es old new None h is = is
-popped_told es old new (Some x) h is = (is, popped_owes es old new x h is)
+pub popped_told : (kernel : ℕ) (es : List Entry) (old new : Held) (r : Option Request) → IsAnswered kernel es old [] → MatchOption r ((new ≡ looked_at_both old) × FoundNothing old) (λ x. TookRequest old x new)
+    → MatchOption r ((new ≡ looked_at_both old) × FoundNothing old) (λ x. TookRequest old x new × IsAnswered kernel es new (x ∷ []))
+popped_told kernel es old new None h is = is
+popped_told kernel es old new (Some x) h is = (is, popped_owes kernel es old new x h is)
 
 popped_queues : (old new : Held) (r : Request) → TookRequest old r new → new.queues ≡ old.queues
 popped_queues old new r (inl t) = ap (λ (e : Held). e.queues) t.2
 popped_queues old new r (inr t) = ap (λ (e : Held). e.queues) t.3
 
-module _ (meaning : Meaning) (Stands : List Served → Type 0) (host : ℕ) (seen : Seen) (hosts : ℕ) (dead : Bool) (count : ℕ) (es : List Entry) (out : Outgoing) where
+module _ (meaning : Meaning) (Stands : List Served → Type 0) (host : ℕ) (seen : Seen) (hosts : ℕ) (dead : Bool) (count kernel : ℕ) (es : List Entry) (out : Outgoing) where
   abbrev Is : Held → Type 0
-  Is ends = IsResident meaning Stands host seen hosts dead count es ends out
+  Is ends = IsResident meaning Stands host seen hosts dead count kernel es ends out
 
-  with_ends : (ends new : Held) (owed : List Request) → Is ends → IsAnswered es new owed → new.queues ≡ ends.queues → Is new
+  with_ends : (ends new : Held) (owed : List Request) → Is ends → IsAnswered kernel es new owed → new.queues ≡ ends.queues → Is new
   with_ends ends new owed h answered queues = record {
     kept = h.kept;
     answered = (owed, answered);
@@ -98,9 +98,9 @@ module _ (meaning : Meaning) (Stands : List Served → Type 0) (host : ℕ) (see
     published = (h.published.0 ∙ ap (λ (q : SharedQueues). q.out) (sym queues), h.published.1);
   }
 
-  pub resident_popped : (ends new : Held) (r : Option Request) → Is ends → IsAnswered es ends [] → MatchOption r ((new ≡ looked_at_both ends) × FoundNothing ends) (λ x. TookRequest ends x new) → Is new
-  resident_popped ends new None h answered is = with_ends ends new [] h (looks_answered es ends new answered is.0) (ap (λ (e : Held). e.queues) is.0)
-  resident_popped ends new (Some x) h answered is = with_ends ends new (x ∷ []) h (popped_owes es ends new x answered is) (popped_queues ends new x is)
+  pub resident_popped : (ends new : Held) (r : Option Request) → Is ends → IsAnswered kernel es ends [] → MatchOption r ((new ≡ looked_at_both ends) × FoundNothing ends) (λ x. TookRequest ends x new) → Is new
+  resident_popped ends new None h answered is = with_ends ends new [] h (looks_answered kernel es ends new answered is.0) (ap (λ (e : Held). e.queues) is.0)
+  resident_popped ends new (Some x) h answered is = with_ends ends new (x ∷ []) h (popped_owes kernel es ends new x answered is) (popped_queues ends new x is)
 
   -- steps that pop nothing
   pub resident_same : (ends new : Held) → Is ends → new.main.popped ≡ ends.main.popped → new.control.popped ≡ ends.control.popped → new.queues ≡ ends.queues → Is new

@@ -1,5 +1,7 @@
 -- Where a session's owner is, and what the calls of a slot do.
 use Rattle.std.specs.Prelude.{◌≡◌, ◌≢◌, ◌==◌, [], ◌∷◌, MatchOption, ℕ, cond, Bool, false, List, ⊤, Option, Result, None, Ok, Err}
+use Rattle.nb_outside.specs.declared.feed.Drawn.{Drawn}
+use Rattle.nb_outside.specs.Feeds.{Seen}
 use Rattle.session_core.specs.declared.request.Header.{Header}
 use Rattle.session_core.specs.declared.request.Channel.{Channel}
 use Rattle.session_core.specs.declared.entry.Entry.TheVariants.{Opened, Moved}
@@ -8,7 +10,7 @@ use Rattle.session_queues.specs.declared.items.MainItem.TheVariants.{Opening}
 use Rattle.session_queues.specs.declared.shared.SharedQueues.{SharedQueues}
 use Rattle.session_queues.specs.Passes.{Producer, IsPassOf}
 use Rattle.session_queues.specs.Ends.{opened_ends, nothing_pushed, gathered}
-use Rattle.session_gate.specs.Facts.{Holds, Away, IsIn, IsSettled, OwesNone, IsBare, owner_of, HasNoted}
+use Rattle.session_gate.specs.Facts.{Holds, Away, IsGiven, IsIn, IsSettled, OwesNone, IsBare, owner_of, HasNoted}
 use Rattle.session_gate.specs.declared.slot.Custody.{Custody}
 use Rattle.session_gate.specs.declared.slot.Custody.TheVariants.{Unopened, In, Out, Sealed}
 use Rattle.session_gate.specs.declared.slot.Take.{Take}
@@ -16,18 +18,18 @@ use Rattle.session_gate.specs.declared.slot.Take.TheVariants as take
 
 module _ {E F : Type 0} where
   -- it is a session of the name, settled, and owes nothing; the producers' lists are elsewhere
-  abbrev pub IsAtRest : ℕ → List SharedQueues → Holds E F → Type 0
-  IsAtRest hosts queues h = IsIn hosts queues h × IsSettled h × OwesNone h × IsBare h
+  abbrev pub IsAtRest : ℕ → List SharedQueues → (ℕ → Option (List Drawn)) → (F → Seen) → Holds E F → Type 0
+  IsAtRest hosts queues gives seen h = IsIn hosts queues gives seen h × IsSettled h × OwesNone h × IsBare h
 
   -- the parcel ends with Sealed
-  abbrev pub IsSealedUp : ℕ → List SharedQueues → Away E F → Type 0
-  IsSealedUp hosts queues p = IsIn hosts queues p.held × ((progress_of p.held.entries).phase ≡ sealed p.again p.to) × OwesNone p.held × IsBare p.held
+  abbrev pub IsSealedUp : ℕ → List SharedQueues → (ℕ → Option (List Drawn)) → (F → Seen) → Away E F → Type 0
+  IsSealedUp hosts queues gives seen p = IsIn hosts queues gives seen p.held × ((progress_of p.held.entries).phase ≡ sealed p.again p.to) × OwesNone p.held × IsBare p.held
 
-  abbrev pub IsInOrder : ℕ → List SharedQueues → Custody E F → Type 0
-  IsInOrder hosts queues Unopened = ⊤
-  IsInOrder hosts queues (In h) = IsAtRest hosts queues h
-  IsInOrder hosts queues Out = ⊤
-  IsInOrder hosts queues (Sealed p) = IsSealedUp hosts queues p
+  abbrev pub IsInOrder : ℕ → List SharedQueues → (ℕ → Option (List Drawn)) → (F → Seen) → Custody E F → Type 0
+  IsInOrder hosts queues gives seen Unopened = ⊤
+  IsInOrder hosts queues gives seen (In h) = IsAtRest hosts queues gives seen h
+  IsInOrder hosts queues gives seen Out = ⊤
+  IsInOrder hosts queues gives seen (Sealed p) = IsSealedUp hosts queues gives seen p
 
   -- the session of this number is there, sealed or not
   abbrev pub is_of : Custody E F → ℕ → Bool
@@ -58,14 +60,15 @@ module _ {E F : Type 0} where
   IsPassHere (Sealed p) pass = ⊤
 
   -- the parcel came to its host, and owes nothing; the producers' lists are elsewhere
-  abbrev pub IsCollected : ℕ → List SharedQueues → Away E F → Type 0
-  IsCollected hosts queues p = IsIn hosts queues p.held × ((progress_of p.held.entries).phase ≡ arriving p.again p.to) × OwesNone p.held × IsBare p.held
+  abbrev pub IsCollected : ℕ → List SharedQueues → (ℕ → Option (List Drawn)) → (F → Seen) → Away E F → Type 0
+  IsCollected hosts queues gives seen p = IsIn hosts queues gives seen p.held × ((progress_of p.held.entries).phase ≡ arriving p.again p.to) × OwesNone p.held × IsBare p.held
 
-  -- the owner at the end: it is at rest, of the session with these queues and this number, and has the lists of this pass
-  abbrev pub IsFinished : ℕ → SharedQueues → ℕ → Producer → Holds E F → Type 0
-  IsFinished hosts queues number pass h = IsSettled h × OwesNone h × (h.ends.queues ≡ queues) × (h.number ≡ number) × (h.hosts ≡ hosts)
+  -- the owner at the end: it is at rest, of the session with these queues and this number, has the lists of this pass, and the feed
+  -- of its kernel
+  abbrev pub IsFinished : ℕ → SharedQueues → ℕ → Producer → (ℕ → Option (List Drawn)) → (F → Seen) → Holds E F → Type 0
+  IsFinished hosts queues number pass gives seen h = IsSettled h × OwesNone h × (h.ends.queues ≡ queues) × (h.number ≡ number) × (h.hosts ≡ hosts)
       × (h.ends.main.lists ≡ pass.main.lists) × (h.ends.main.given ≡ pass.main.given)
-      × (h.ends.control.lists ≡ pass.control.lists) × (h.ends.control.given ≡ pass.control.given)
+      × (h.ends.control.lists ≡ pass.control.lists) × (h.ends.control.given ≡ pass.control.given) × IsGiven gives seen h
 
   -- nobody is there
   abbrev pub IsFree : Custody E F → Type 0
@@ -105,11 +108,12 @@ module _ {E F : Type 0} where
   Finishes (Sealed p) pass r = r ≡ Err (Sealed p, pass)
 
 -- a session that was just opened
-pub record IsNew {E F : Type 0} (engine : E) (feed : F) (queues : SharedQueues) (number hosts host : ℕ) (request : Header) (channel : Channel) (h : Holds E F) : Type 0 where
+pub record IsNew {E F : Type 0} (engine : E) (feed : F) (queues : SharedQueues) (number kernel hosts host : ℕ) (request : Header) (channel : Channel) (h : Holds E F) : Type 0 where
   pub engine_is : h.engine ≡ engine
   pub feed_is : h.feed ≡ feed
   pub entries_are : h.entries ≡ Opened host request channel ∷ []
-  pub ends_are : h.ends ≡ opened_ends queues (Opening host request channel)
+  pub ends_are : h.ends ≡ opened_ends queues (Opening kernel host request channel)
   pub out_is : h.out ≡ nothing_pushed queues
   pub number_is : h.number ≡ number
+  pub kernel_is : h.kernel ≡ kernel
   pub hosts_are : h.hosts ≡ hosts

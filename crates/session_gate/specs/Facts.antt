@@ -1,5 +1,6 @@
 -- What contracts see of a Resident, a Lease and a Parcel, and what their types keep.
-use Rattle.std.specs.Prelude.{◌≡◌, ℕ, ◌+◌, ◌≤◌, Bool, true, false, List, [], ◌∷◌, ◌++◌, slice_get, Some, Ok}
+use Rattle.std.specs.Prelude.{◌≡◌, ℕ, ◌+◌, ◌≤◌, Bool, true, false, List, [], ◌∷◌, ◌++◌, slice_get, Option, Some, Ok}
+use Rattle.nb_outside.specs.declared.feed.Drawn.{Drawn}
 use Rattle.nb_outside.specs.Feeds.{Seen}
 use Rattle.graph_model.specs.declared.plan.Certified.{Certified}
 use Rattle.session_core.specs.declared.request.Ask.{Ask}
@@ -17,7 +18,7 @@ use Rattle.session_queues.specs.Ends.{Held, Outgoing, AreFirst}
 use Rattle.session_gate.specs.Answered.{IsAnswered}
 
 -- what a contract sees of a session's owner: engine and feed, the journal with its room, the ends of the queues, the session's
--- number and the number of hosts
+-- number, its kernel and the number of hosts
 pub record Holds (E F : Type 0) : Type 0 where
   pub engine : E
   pub feed : F
@@ -27,6 +28,7 @@ pub record Holds (E F : Type 0) : Type 0 where
   -- what was pushed on out
   pub out : Outgoing
   pub number : ℕ
+  pub kernel : ℕ
   pub hosts : ℕ
 
 -- The journal is legal. While the session is alive the engine stands for what was served, on the owner, or last owner; once it is
@@ -42,9 +44,9 @@ abbrev pub IsPublished : List Entry → Held → Outgoing → Type 0
 IsPublished entries ends out = (out.out_queue ≡ ends.queues.out) × AreFirst out.pushed entries
 
 -- all that a Resident keeps
-pub record IsResident (meaning : Meaning) (Stands : List Served → Type 0) (host : ℕ) (seen : Seen) (hosts : ℕ) (is_dead : Bool) (count : ℕ) (entries : List Entry) (ends : Held) (out : Outgoing) : Type 0 where
+pub record IsResident (meaning : Meaning) (Stands : List Served → Type 0) (host : ℕ) (seen : Seen) (hosts : ℕ) (is_dead : Bool) (count kernel : ℕ) (entries : List Entry) (ends : Held) (out : Outgoing) : Type 0 where
   pub kept : IsKept meaning Stands host hosts is_dead count entries
-  pub answered : (owed : List Request) × IsAnswered entries ends owed
+  pub answered : (owed : List Request) × IsAnswered kernel entries ends owed
   pub fed : HasFed seen.made entries seen
   pub published : IsPublished entries ends out
 
@@ -57,11 +59,11 @@ module _ {E F : Type 0} where
 
   -- every request that was popped is answered
   abbrev pub OwesNone : Holds E F → Type 0
-  OwesNone h = IsAnswered h.entries h.ends []
+  OwesNone h = IsAnswered h.kernel h.entries h.ends []
 
   -- every request that was popped is answered but this one, the last that was popped of its queue
   abbrev pub Owes : Holds E F → Request → Type 0
-  Owes h r = IsAnswered h.entries h.ends (r ∷ [])
+  Owes h r = IsAnswered h.kernel h.entries h.ends (r ∷ [])
 
   -- it holds no producer's lists
   abbrev pub IsBare : Holds E F → Type 0
@@ -71,13 +73,22 @@ module _ {E F : Type 0} where
   abbrev pub IsWhole : Holds E F → Type 0
   IsWhole h = KeepsAll h.ends.main × KeepsAll h.ends.control
 
-  -- it belongs to the queues that the name lists under its number, and has the name's number of hosts
-  abbrev pub IsIn : ℕ → List SharedQueues → Holds E F → Type 0
-  IsIn hosts queues h = (slice_get queues h.number ≡ Some h.ends.queues) × (h.hosts ≡ hosts)
+  -- its feed was made with what the feed of its kernel gives
+  abbrev pub IsGiven : (ℕ → Option (List Drawn)) → (F → Seen) → Holds E F → Type 0
+  IsGiven gives seen h = (seen h.feed).made ≡ gives h.kernel
+
+  -- it belongs to the queues that the name lists under its number, has the name's number of hosts, and the feed of its kernel
+  abbrev pub IsIn : ℕ → List SharedQueues → (ℕ → Option (List Drawn)) → (F → Seen) → Holds E F → Type 0
+  IsIn hosts queues gives seen h = (slice_get queues h.number ≡ Some h.ends.queues) × (h.hosts ≡ hosts) × IsGiven gives seen h
+
+  -- It owes nothing, the producers' lists are elsewhere, and it is of the session with these queues and this number, with this number
+  -- of hosts and the feed of its kernel.
+  abbrev pub IsOurs : SharedQueues × ℕ → ℕ → (ℕ → Option (List Drawn)) → (F → Seen) → Holds E F → Type 0
+  IsOurs session hosts gives seen h = (h.ends.queues ≡ session.0) × (h.number ≡ session.1) × (h.hosts ≡ hosts) × OwesNone h × IsBare h × IsGiven gives seen h
 
   -- the same session with another journal
   abbrev pub HasSame : Holds E F → Holds E F → Type 0
-  HasSame old new = (new.ends ≡ old.ends) × (new.out ≡ old.out) × (new.number ≡ old.number) × (new.hosts ≡ old.hosts)
+  HasSame old new = (new.ends ≡ old.ends) × (new.out ≡ old.out) × (new.number ≡ old.number) × (new.hosts ≡ old.hosts) × (new.kernel ≡ old.kernel)
 
   -- one entry more, and nothing else
   abbrev pub HasNoted : Holds E F → Holds E F → Entry → Type 0

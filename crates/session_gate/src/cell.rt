@@ -4,7 +4,7 @@ ghost use Rattle.session_core.specs.Legal.{progress_of, sealed, arriving};
 ghost use Rattle.session_queues.specs.declared.items.MainItem.{MainItem};
 ghost use Rattle.session_queues.specs.Passes.{IsPassOf, HoldsAll, admitted_by, parted, next_pass, taking_in};
 ghost use Rattle.session_queues.specs.Ends.{first_pass, nothing_on, gathered};
-ghost use Rattle.session_gate.specs.Facts.{OwesNone, IsBare, IsWhole, owner_of};
+ghost use Rattle.session_gate.specs.Facts.{IsOurs, IsWhole, owner_of};
 ghost use Rattle.session_gate.specs.Custodies.{OnTaken, IsFinished};
 
 use crate::lease::Lease;
@@ -50,6 +50,13 @@ impl<E: Engine + Drop, F: Feed, N: Name> SessionCell<E, F, N> {
         })
     }
 
+    /// The name lists its queues under its number.
+    pub fn is_listed(&self)
+        ensures { slice_get N.queues self.now.1 ≡ Some self.now.0 }
+    {
+        let _ = &self.number;
+    }
+
     /// A pass with the next number. Takes no memory.
     pub fn split(&self, pass: &mut Pass) -> Pass
         requires pass { IsPassOf self.now.0 pass.old }
@@ -92,6 +99,7 @@ impl<E: Engine + Drop, F: Feed, N: Name> SessionCell<E, F, N> {
         rt: &R,
         alloc: Global,
         queues: Queues,
+        kernel: u128,
         hosts: u32,
         engine: E,
         feed: F,
@@ -102,9 +110,9 @@ impl<E: Engine + Drop, F: Feed, N: Name> SessionCell<E, F, N> {
         requires name { (queues ≡ self.now.0) × (hosts ≡ N.hosts) }
         requires host { host < hosts }
         requires engine { E.stands_for engine [] × (E.host_of engine ≡ host) }
-        requires feed { HasAll (F.seen feed) }
+        requires feed { HasAll (F.seen feed) × ((F.seen feed).made ≡ N.gives kernel) }
         ensures { MatchResult result
-            (λ made. (made.0 ≡ first_pass queues (MainItem.Opening host request channel)) × (made.1 ≡ nothing_on queues))
+            (λ made. (made.0 ≡ first_pass queues (MainItem.Opening kernel host request channel)) × (made.1 ≡ nothing_on queues))
             (λ back. back ≡ queues) }
     {
         let mut guard = self.slot.lock(rt);
@@ -114,6 +122,7 @@ impl<E: Engine + Drop, F: Feed, N: Name> SessionCell<E, F, N> {
             alloc,
             queues,
             self.number,
+            kernel,
             hosts,
             engine,
             feed,
@@ -126,7 +135,7 @@ impl<E: Engine + Drop, F: Feed, N: Name> SessionCell<E, F, N> {
     /// Takes the session for this host in one hold of the lock. A lease that it gives is this cell's, and this host owns the
     /// session.
     pub fn take<R: Wait>(&self, rt: &R, host: u32) -> Take<E, F>
-        ensures { OnTaken (λ lease. (owner_of lease ≡ host) × (lease.ends.queues ≡ self.now.0) × (lease.number ≡ self.now.1) × (lease.hosts ≡ N.hosts) × OwesNone lease × IsBare lease) result }
+        ensures { OnTaken (λ lease. (owner_of lease ≡ host) × IsOurs self.now N.hosts N.gives F.seen lease) result }
     {
         let mut guard = self.slot.lock(rt);
         let slot = &mut *guard;
@@ -145,7 +154,7 @@ impl<E: Engine + Drop, F: Feed, N: Name> SessionCell<E, F, N> {
 
     /// Puts a lease back in one hold of the lock. No owner of its session is there.
     pub fn give<R: Wait>(&self, rt: &R, lease: Lease<E, F>)
-        requires { (lease.ends.queues ≡ self.now.0) × (lease.number ≡ self.now.1) × (lease.hosts ≡ N.hosts) × OwesNone lease × IsBare lease }
+        requires { IsOurs self.now N.hosts N.gives F.seen lease }
     {
         let _ = &self.number;
         let mut guard = self.slot.lock(rt);
@@ -155,9 +164,8 @@ impl<E: Engine + Drop, F: Feed, N: Name> SessionCell<E, F, N> {
 
     /// Puts a sealed session there in one hold of the lock. No owner of it is there.
     pub fn seal<R: Wait>(&self, rt: &R, parcel: Parcel<E, F>)
-        requires here { (parcel.held.ends.queues ≡ self.now.0) × (parcel.held.number ≡ self.now.1) × (parcel.held.hosts ≡ N.hosts) }
+        requires ours { IsOurs self.now N.hosts N.gives F.seen parcel.held }
         requires sealed { (progress_of parcel.held.entries).phase ≡ sealed parcel.again parcel.to }
-        requires rest { OwesNone parcel.held × IsBare parcel.held }
     {
         let _ = &self.number;
         let mut guard = self.slot.lock(rt);
@@ -169,7 +177,7 @@ impl<E: Engine + Drop, F: Feed, N: Name> SessionCell<E, F, N> {
     /// came there.
     pub fn collect<R: Wait>(&self, rt: &R, host: u32) -> Option<Parcel<E, F>>
         ensures { IfSome result (λ parcel. (parcel.to ≡ host) × ((progress_of parcel.held.entries).phase ≡ arriving parcel.again parcel.to)
-            × (parcel.held.ends.queues ≡ self.now.0) × (parcel.held.number ≡ self.now.1) × (parcel.held.hosts ≡ N.hosts) × OwesNone parcel.held × IsBare parcel.held) }
+            × IsOurs self.now N.hosts N.gives F.seen parcel.held) }
     {
         let mut guard = self.slot.lock(rt);
         let slot = &mut *guard;
@@ -182,7 +190,7 @@ impl<E: Engine + Drop, F: Feed, N: Name> SessionCell<E, F, N> {
     /// Puts back the lease of a session that was collected, and then adopted or resumed, in one hold of the lock. No owner of it
     /// is there.
     pub fn settle<R: Wait>(&self, rt: &R, lease: Lease<E, F>)
-        requires { (lease.ends.queues ≡ self.now.0) × (lease.number ≡ self.now.1) × (lease.hosts ≡ N.hosts) × OwesNone lease × IsBare lease }
+        requires { IsOurs self.now N.hosts N.gives F.seen lease }
     {
         self.give(rt, lease);
     }
@@ -191,7 +199,7 @@ impl<E: Engine + Drop, F: Feed, N: Name> SessionCell<E, F, N> {
     /// back if no owner is there, or it is sealed.
     pub fn finish(self, pass: Pass) -> Result<Resident<E, F>, (SessionCell<E, F, N>, Pass)>
         requires { IsPassOf self.0 pass }
-        ensures finished { MatchResult result (IsFinished N.hosts self.0 self.1 pass) (λ back. (back.0 ≡ self) × (back.1 ≡ pass)) }
+        ensures finished { MatchResult result (IsFinished N.hosts self.0 self.1 pass N.gives F.seen) (λ back. (back.0 ≡ self) × (back.1 ≡ pass)) }
         ensures whole { HoldsAll pass → IfOk result IsWhole }
     {
         let SessionCell {
@@ -212,7 +220,7 @@ impl<E: Engine + Drop, F: Feed, N: Name> SessionCell<E, F, N> {
 
     /// A lease of this cell, with what the pass holds joined into its own: whole if the pass holds all passes.
     pub fn gather<R: Wait>(self, rt: &R, lease: Lease<E, F>, pass: Pass) -> Lease<E, F>
-        requires lease { (lease.ends.queues ≡ self.0) × (lease.number ≡ self.1) × (lease.hosts ≡ N.hosts) × OwesNone lease × IsBare lease }
+        requires lease { IsOurs self N.hosts N.gives F.seen lease }
         requires pass { IsPassOf self.0 pass }
         ensures same { result ≡ record lease { ends = gathered lease.ends pass } }
         ensures whole { HoldsAll pass → IsWhole result }

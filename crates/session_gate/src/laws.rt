@@ -15,12 +15,12 @@ ghost use Rattle.session_gate.specs.Answered.{opening_of, as_main, as_control, I
 /// owner holds number 0, the journal has nothing of a number that wasn't given.
 #[tactic(auto, using(crate::proofs::Gathered::main_all, crate::proofs::Gathered::control_all, crate::proofs::Gathered::main_none, crate::proofs::Gathered::control_none))]
 pub fn each_list_is_its_part_of_the_journal()
-    ensures main { (entries : List Entry) (ends : Held) (n : ℕ) (l : List MainItem) → IsAnswered entries ends [] → FoundNothing ends → Keeps n l ends.main.lists
-        → l ≡ of number_of n (opening_of entries ++ as_main (asked entries)) }
-    ensures control { (entries : List Entry) (ends : Held) (n : ℕ) (l : List Request) → IsAnswered entries ends [] → FoundNothing ends → Keeps n l ends.control.lists
+    ensures main { (kernel : ℕ) (entries : List Entry) (ends : Held) (n : ℕ) (l : List MainItem) → IsAnswered kernel entries ends [] → FoundNothing ends → Keeps n l ends.main.lists
+        → l ≡ of number_of n (opening_of kernel entries ++ as_main (asked entries)) }
+    ensures control { (kernel : ℕ) (entries : List Entry) (ends : Held) (n : ℕ) (l : List Request) → IsAnswered kernel entries ends [] → FoundNothing ends → Keeps n l ends.control.lists
         → l ≡ of frontend_of n (as_control (asked entries)) }
-    ensures no_other_on_main { (entries : List Entry) (ends : Held) (n : ℕ) → IsAnswered entries ends [] → FoundNothing ends → 0 < ends.main.given → ends.main.given ≤ n
-        → of number_of n (opening_of entries ++ as_main (asked entries)) ≡ [] }
-    ensures no_other_on_control { (entries : List Entry) (ends : Held) (n : ℕ) → IsAnswered entries ends [] → FoundNothing ends → 0 < ends.control.given → ends.control.given ≤ n
+    ensures no_other_on_main { (kernel : ℕ) (entries : List Entry) (ends : Held) (n : ℕ) → IsAnswered kernel entries ends [] → FoundNothing ends → 0 < ends.main.given → ends.main.given ≤ n
+        → of number_of n (opening_of kernel entries ++ as_main (asked entries)) ≡ [] }
+    ensures no_other_on_control { (kernel : ℕ) (entries : List Entry) (ends : Held) (n : ℕ) → IsAnswered kernel entries ends [] → FoundNothing ends → 0 < ends.control.given → ends.control.given ≤ n
         → of frontend_of n (as_control (asked entries)) ≡ [] }
 {}

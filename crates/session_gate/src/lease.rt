@@ -4,6 +4,7 @@ ghost use Rattle.session_core.specs.Asks.{IsWork, IsMove, is_move, is_control};
 ghost use Rattle.session_core.specs.Engines.{Packs};
 ghost use Rattle.session_core.specs.Legal.{progress_of, sealed, IsLegal, IsReason, MayTry};
 ghost use Rattle.session_core.specs.Stepping.{GoesBy, IsVerdict};
+ghost use Rattle.session_core.specs.Feeding.{HasFed};
 ghost use Rattle.session_queues.specs.Passes.{IsPassOf};
 ghost use Rattle.session_queues.specs.Ends.{FoundNothing, looked_at_both, TookRequest, admitted_main, admitted_control, gathered, all_of, GoesOn};
 ghost use Rattle.session_gate.specs.Facts.{OwesNone, Owes, IsSettled, IsWhole, IsIn, HasSame, HasNoted, owner_of};
@@ -16,7 +17,9 @@ use crate::served::ServedAs;
 use crate::slot::{Name, Slot};
 use graph_model::Weights;
 use nb_outside::Feed;
-use session_core::{Engine, Entry, Journal, MoveRefusal, PackFault, Packed, Request, Verdict};
+use session_core::{
+    Alone, Engine, Entry, Journal, MoveRefusal, PackFault, Packed, Request, Verdict,
+};
 use session_queues::{Pass, Reader};
 use std::alloc::{AllocError, Global};
 use std::marker::Model;
@@ -62,6 +65,13 @@ impl<E: Engine, F: Feed> Lease<E, F> {
         self.resident.number()
     }
 
+    /// The kernel of its session.
+    pub fn kernel(&self) -> u128
+        ensures { result ≡ self.now.kernel }
+    {
+        self.resident.kernel()
+    }
+
     /// The number of hosts.
     pub fn hosts(&self) -> u32
         ensures { result ≡ self.now.hosts }
@@ -89,6 +99,14 @@ impl<E: Engine, F: Feed> Lease<E, F> {
         ensures { result ≡ (progress_of self.now.entries).dead }
     {
         self.resident.is_dead()
+    }
+
+    /// Its journal is legal and settled.
+    pub fn is_legal(&self)
+        ensures legal { IsLegal E.meaning self.now.hosts self.now.entries }
+        ensures settled { IsSettled self.now }
+    {
+        self.resident.is_legal();
     }
 
     /// What is to be done about a request to move.
@@ -122,7 +140,7 @@ impl<E: Engine, F: Feed> Lease<E, F> {
         requires owes { OwesNone self.old }
         requires spare { 3 ≤ self.old.spare }
         ensures same { (self.new.engine ≡ self.old.engine) × (self.new.feed ≡ self.old.feed) × (self.new.entries ≡ self.old.entries) × (self.new.spare ≡ self.old.spare)
-            × (self.new.out ≡ self.old.out) × (self.new.number ≡ self.old.number) × (self.new.hosts ≡ self.old.hosts) }
+            × (self.new.out ≡ self.old.out) × (self.new.number ≡ self.old.number) × (self.new.hosts ≡ self.old.hosts) × (self.new.kernel ≡ self.old.kernel) }
         ensures popped { MatchOption result ((self.new.ends ≡ looked_at_both self.old.ends) × FoundNothing self.old.ends) (λ request. TookRequest self.old.ends request self.new.ends × Owes self.new request) }
     {
         self.resident.pop(rt)
@@ -135,6 +153,7 @@ impl<E: Engine, F: Feed> Lease<E, F> {
         requires spare { 1 ≤ self.old.spare }
         ensures owes { OwesNone self.new }
         ensures same { HasSame self.old self.new × (self.old.spare ≡ self.new.spare + 1) }
+        ensures made { (F.seen self.new.feed).made ≡ (F.seen self.old.feed).made }
         ensures entry { (entry : Entry) × (self.new.entries ≡ self.old.entries ++ entry ∷ []) × IsServed result (owner_of self.old) request (progress_of self.old.entries).dead entry }
     {
         self.resident.serve(alloc, request)
@@ -250,11 +269,38 @@ impl<E: Engine, F: Feed> Lease<E, F> {
             ends: _,
             outlet: _,
             number: _,
+            kernel: _,
             hosts: _,
             dead: _,
             count: _,
         } = resident;
         journal
+    }
+
+    /// The session on one thread, settled between two requests, and its feed. Just what the journal says was taken from the feed
+    /// since it was made, and after it what was drawn for a request of which the session died for want of memory.
+    pub fn into_alone(self) -> (Alone<E>, F)
+    where
+        E: Drop,
+        requires owes { OwesNone self }
+        ensures alone { (result.0.entries ≡ self.entries) × (result.0.hosts ≡ self.hosts) × (result.0.spare ≡ self.spare) }
+        ensures feed { result.1 ≡ self.feed }
+        ensures fed { HasFed (F.seen self.feed).made self.entries (F.seen self.feed) }
+    {
+        let Lease { resident } = self;
+        let Resident {
+            engine,
+            feed,
+            journal,
+            ends: _,
+            outlet: _,
+            number: _,
+            kernel: _,
+            hosts,
+            dead,
+            count,
+        } = resident;
+        (Alone::of(engine, journal, hosts, dead, count), feed)
     }
 }
 
@@ -262,7 +308,7 @@ impl<E: Engine + Drop, F: Feed> Lease<E, F> {
     /// Makes sure that a slot is free, before the lease is put there. An owner of the lease's session is never in it. If one of
     /// another session is, which it is in no run, it stays there, and the call doesn't return.
     pub(crate) fn make_way<N: Name, R: Wait>(&mut self, rt: &R, slot: &mut Slot<E, F, N>)
-        requires { IsIn N.hosts N.queues self.old }
+        requires { IsIn N.hosts N.queues N.gives F.seen self.old }
         ensures free { IsFree slot.new }
         ensures kept { slot.new ≡ slot.old }
         ensures same { self.new ≡ self.old }

@@ -19,6 +19,7 @@ impl<E: Engine + Drop, F: Feed> Resident<E, F> {
         alloc: Global,
         queues: Queues,
         number: u32,
+        kernel: u128,
         hosts: u32,
         engine: E,
         feed: F,
@@ -30,7 +31,7 @@ impl<E: Engine + Drop, F: Feed> Resident<E, F> {
         requires engine { E.stands_for engine [] × (E.host_of engine ≡ host) }
         requires feed { HasAll (F.seen feed) }
         ensures { MatchResult result
-            (λ made. IsNew engine feed queues number hosts host request channel made.0 × (made.1 ≡ first_pass queues (MainItem.Opening host request channel)) × (made.2 ≡ nothing_on queues))
+            (λ made. IsNew engine feed queues number kernel hosts host request channel made.0 × (made.1 ≡ first_pass queues (MainItem.Opening kernel host request channel)) × (made.2 ≡ nothing_on queues))
             (λ back. back ≡ queues) }
     {
         let Ok(copy) = request.copy(alloc) else {
@@ -39,8 +40,8 @@ impl<E: Engine + Drop, F: Feed> Resident<E, F> {
         let Ok(journal) = Journal::opened(alloc, host, copy, channel) else {
             return Err(queues);
         };
-        match queues.open(rt, host, request, channel) {
-            Ok(opened) => Ok(begin(opened, journal, number, hosts, engine, feed)),
+        match queues.open(rt, kernel, host, request, channel) {
+            Ok(opened) => Ok(begin(opened, journal, number, kernel, hosts, engine, feed)),
             Err(queues) => Err(queues),
         }
     }
@@ -51,12 +52,13 @@ fn begin<E: Engine, F: Feed>(
     opened: Opened,
     journal: Journal,
     number: u32,
+    kernel: u128,
     hosts: u32,
     engine: E,
     feed: F,
 ) -> (Resident<E, F>, Pass, Reader)
-    requires new { IsResident E.meaning (E.stands_for engine) (E.host_of engine) (F.seen feed) hosts false 0 journal.entries opened.ends opened.outlet }
-    ensures resident { result.0 ≡ record { engine = engine; feed = feed; entries = journal.entries; spare = journal.spare; ends = opened.ends; out = opened.outlet; number = number; hosts = hosts } }
+    requires new { IsResident E.meaning (E.stands_for engine) (E.host_of engine) (F.seen feed) hosts false 0 kernel journal.entries opened.ends opened.outlet }
+    ensures resident { result.0 ≡ record { engine = engine; feed = feed; entries = journal.entries; spare = journal.spare; ends = opened.ends; out = opened.outlet; number = number; kernel = kernel; hosts = hosts } }
     ensures pass { result.1 ≡ opened.pass }
     ensures reader { result.2 ≡ opened.reader }
 {
@@ -73,6 +75,7 @@ fn begin<E: Engine, F: Feed>(
         ends,
         outlet,
         number,
+        kernel,
         hosts,
         dead: false,
         count: 0,

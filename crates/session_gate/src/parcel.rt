@@ -1,6 +1,6 @@
 ghost use Rattle.std.specs.Prelude.{◌≡◌, ◌≤◌, ◌+◌, [], ◌∷◌, ◌++◌, false, IfOk};
 ghost use Rattle.session_core.specs.declared.entry.Entry.{Entry};
-ghost use Rattle.session_core.specs.Legal.{progress_of, sealed, arriving};
+ghost use Rattle.session_core.specs.Legal.{progress_of, sealed, arriving, IsLegal};
 ghost use Rattle.session_gate.specs.Facts.{OwesNone, IsIn, HasSame, HasNoted, owner_of};
 ghost use Rattle.session_gate.specs.Custodies.{is_of, IsFree};
 
@@ -49,6 +49,13 @@ impl<E: Engine, F: Feed> Parcel<E, F> {
         ensures { result ≡ self.now.to }
     {
         self.to
+    }
+
+    /// Its journal is legal.
+    pub fn is_legal(&self)
+        ensures { IsLegal E.meaning self.now.held.hosts self.now.held.entries }
+    {
+        self.resident.is_legal();
     }
 
     /// Notes that the parcel came to its host.
@@ -151,7 +158,7 @@ impl<E: Engine + Drop, F: Feed> Parcel<E, F> {
     /// Makes sure that a slot is free, before the parcel is put there. An owner of the parcel's session is never in it. If one of
     /// another session is, which it is in no run, it stays there, and the call doesn't return.
     pub(crate) fn make_way<N: Name, R: Wait>(&mut self, rt: &R, slot: &mut Slot<E, F, N>)
-        requires { IsIn N.hosts N.queues self.old.held }
+        requires { IsIn N.hosts N.queues N.gives F.seen self.old.held }
         ensures free { IsFree slot.new }
         ensures kept { slot.new ≡ slot.old }
         ensures same { self.new ≡ self.old }

@@ -2,7 +2,7 @@ ghost use Rattle.std.specs.Prelude.{◌≡◌, ◌≢◌, ◌<◌, ◌≤◌, �
 ghost use Rattle.session_core.specs.declared.entry.Entry.{Entry};
 ghost use Rattle.session_core.specs.Asks.{IsWork, is_move, is_control};
 ghost use Rattle.session_core.specs.Engines.{Packs};
-ghost use Rattle.session_core.specs.Legal.{progress_of, after, MayCome};
+ghost use Rattle.session_core.specs.Legal.{progress_of, after, MayCome, IsLegal};
 ghost use Rattle.session_core.specs.Stepping.{IsVerdict};
 ghost use Rattle.session_queues.specs.Passes.{IsPassOf, KeepsAll};
 ghost use Rattle.session_queues.specs.Ends.{FoundNothing, looked_at_both, TookRequest, gathered, admitted_main, admitted_control, all_of, GoesOn};
@@ -12,7 +12,8 @@ ghost use Rattle.session_gate.specs.Slots.{IsQuiet, IsStill, IsServed};
 use crate::served::ServedAs;
 use graph_model::Weights;
 use nb_outside::Feed;
-use session_core::{Done, Engine, Entry, Journal, PackFault, Packed, Request, Verdict, judge};
+use session_core::steps::{answer_dead, serve};
+use session_core::{Engine, Entry, Journal, PackFault, Packed, Request, Verdict, judge};
 use session_queues::{Ends, Outlet, Pass, Reader};
 use std::alloc::{AllocError, Global};
 use std::marker::Model;
@@ -27,6 +28,7 @@ pub struct Resident<E: Engine, F: Feed> {
     pub(crate) ends: Ends,
     pub(crate) outlet: Outlet,
     pub(crate) number: u32,
+    pub(crate) kernel: u128,
     pub(crate) hosts: u32,
     pub(crate) dead: bool,
     /// The count of what was served, once the session is dead.
@@ -38,9 +40,9 @@ impl<E: Engine, F: Feed> Model for Resident<E, F> {
 
     ghost Value = { Holds E F };
 
-    ghost view = { λ r. record { engine = r.engine; feed = r.feed; entries = r.journal.entries; spare = r.journal.spare; ends = r.ends; out = r.outlet; number = r.number; hosts = r.hosts } };
+    ghost view = { λ r. record { engine = r.engine; feed = r.feed; entries = r.journal.entries; spare = r.journal.spare; ends = r.ends; out = r.outlet; number = r.number; kernel = r.kernel; hosts = r.hosts } };
 
-    ghost invariant = { λ r. IsResident E.meaning (E.stands_for r.engine) (E.host_of r.engine) (F.seen r.feed) r.hosts r.dead r.count r.journal.entries r.ends r.outlet };
+    ghost invariant = { λ r. IsResident E.meaning (E.stands_for r.engine) (E.host_of r.engine) (F.seen r.feed) r.hosts r.dead r.count r.kernel r.journal.entries r.ends r.outlet };
 }
 
 impl<E: Engine, F: Feed> Resident<E, F> {
@@ -59,6 +61,13 @@ impl<E: Engine, F: Feed> Resident<E, F> {
         self.number
     }
 
+    /// The kernel of its session.
+    pub(crate) fn kernel(&self) -> u128
+        ensures { result ≡ self.now.kernel }
+    {
+        self.kernel
+    }
+
     /// The number of hosts.
     pub(crate) fn hosts(&self) -> u32
         ensures { result ≡ self.now.hosts }
@@ -71,6 +80,13 @@ impl<E: Engine, F: Feed> Resident<E, F> {
         ensures { result ≡ (progress_of self.now.entries).dead }
     {
         self.dead
+    }
+
+    /// Its journal is legal.
+    pub(crate) fn is_legal(&self)
+        ensures { IsLegal E.meaning self.now.hosts self.now.entries }
+    {
+        let _ = &self.journal;
     }
 
     /// While the session is alive its engine stands for what was served.
@@ -118,7 +134,7 @@ impl<E: Engine, F: Feed> Resident<E, F> {
     pub(crate) fn pop<R: Wait>(&mut self, rt: &R) -> Option<Request>
         requires { OwesNone self.old }
         ensures same { (self.new.engine ≡ self.old.engine) × (self.new.feed ≡ self.old.feed) × (self.new.entries ≡ self.old.entries) × (self.new.spare ≡ self.old.spare)
-            × (self.new.out ≡ self.old.out) × (self.new.number ≡ self.old.number) × (self.new.hosts ≡ self.old.hosts) }
+            × (self.new.out ≡ self.old.out) × (self.new.number ≡ self.old.number) × (self.new.hosts ≡ self.old.hosts) × (self.new.kernel ≡ self.old.kernel) }
         ensures popped { MatchOption result ((self.new.ends ≡ looked_at_both self.old.ends) × FoundNothing self.old.ends) (λ request. TookRequest self.old.ends request self.new.ends × Owes self.new request) }
     {
         self.ends.pop(rt)
@@ -146,47 +162,29 @@ impl<E: Engine, F: Feed> Resident<E, F> {
         ensures owes { OwesNone self.new }
         ensures settled { IsSettled self.new }
         ensures same { HasSame self.old self.new × (self.old.spare ≡ self.new.spare + 1) }
+        ensures made { (F.seen self.new.feed).made ≡ (F.seen self.old.feed).made }
         ensures entry { (entry : Entry) × (self.new.entries ≡ self.old.entries ++ entry ∷ []) × IsServed result (owner_of self.old) request (progress_of self.old.entries).dead entry }
     {
-        let host = self.owner();
         if self.dead {
-            let count = self.count;
-            self.note(Entry::Dead {
-                host,
-                request,
-                count,
-            });
+            answer_dead(&self.engine, &mut self.journal, self.count, request);
             return ServedAs::Dead;
         }
-        let count = self.engine.count();
+        let before = self.engine.count();
         let is_end = request.ask.is_end();
-        match self.engine.run(alloc, &request.ask, &mut self.feed) {
-            Ok(done) => {
-                let Done { reply, draws } = done;
-                self.journal.push(Entry::Ran {
-                    host,
-                    request,
-                    draws,
-                    reply,
-                });
-                let after = self.engine.count();
-                self.dead = is_end;
-                self.count = after;
-                ServedAs::Ran
-            }
-            Err(fault) => {
-                let cause = fault.cause();
-                self.journal.push(Entry::Died {
-                    host,
-                    request,
-                    count,
-                    cause,
-                });
-                self.dead = true;
-                self.count = count;
-                ServedAs::Died
-            }
+        if !serve(
+            alloc,
+            &mut self.journal,
+            &mut self.engine,
+            &mut self.feed,
+            request,
+        ) {
+            self.dead = true;
+            self.count = before;
+            return ServedAs::Died;
         }
+        self.count = self.engine.count();
+        self.dead = is_end;
+        ServedAs::Ran
     }
 
     /// Notes that the session goes on with another engine, which stands for what was served, on the host of the entry.

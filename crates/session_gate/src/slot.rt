@@ -17,22 +17,29 @@ use std::marker::{Brand, Model, PhantomData};
 use std::sync::Wait;
 use std::{mem, thread};
 
-/// The sessions of one run, which are known before its locks are made: the number of hosts, and the queues of each session.
+/// The sessions of one run, which are known before its locks are made: the number of hosts, the queues of each session, and what
+/// the feed of each kernel gives.
 pub trait Name {
-    ghost use Rattle.std.specs.Prelude.{ℕ, List};
+    ghost use Rattle.std.specs.Prelude.{ℕ, List, Option};
+    ghost use Rattle.nb_outside.specs.declared.feed.Drawn.{Drawn};
     ghost use Rattle.session_queues.specs.declared.shared.SharedQueues.{SharedQueues};
 
     ghost hosts: { ℕ };
 
     ghost queues: { List SharedQueues };
+
+    // What the feed of each kernel's session is made with, if that is told.
+    ghost gives: { ℕ → Option (List Drawn) };
 }
 
 impl Name for Brand {
-    ghost use Rattle.std.specs.Prelude.{[]};
+    ghost use Rattle.std.specs.Prelude.{[], None};
 
     ghost hosts = { 0 };
 
     ghost queues = { [] };
+
+    ghost gives = { λ kernel. None };
 }
 
 /// What taking a session gives.
@@ -71,7 +78,7 @@ impl<E: Engine, F: Feed, N: Name> Model for Slot<E, F, N> {
 
     ghost view = { λ s. s.state };
 
-    ghost invariant = { λ s. IsInOrder N.hosts N.queues s.state };
+    ghost invariant = { λ s. IsInOrder N.hosts N.queues N.gives F.seen s.state };
 }
 
 impl<E: Engine, F: Feed, N: Name> Slot<E, F, N> {
@@ -84,7 +91,7 @@ impl<E: Engine, F: Feed, N: Name> Slot<E, F, N> {
 
     /// A slot with this in it.
     fn of(state: Custody<E, F>) -> Slot<E, F, N>
-        requires { IsInOrder N.hosts N.queues state }
+        requires { IsInOrder N.hosts N.queues N.gives F.seen state }
         ensures { result ≡ state }
     {
         Slot {
@@ -96,7 +103,7 @@ impl<E: Engine, F: Feed, N: Name> Slot<E, F, N> {
     /// Takes the session for this host, if it is there and the host owns it. Takes no memory.
     pub fn take(&mut self, host: u32) -> Take<E, F>
         ensures answer { (result, self.new) ≡ took self.old host }
-        ensures ours { OnTaken (λ lease. IsAtRest N.hosts N.queues lease × (owner_of lease ≡ host)) result }
+        ensures ours { OnTaken (λ lease. IsAtRest N.hosts N.queues N.gives F.seen lease × (owner_of lease ≡ host)) result }
     {
         match mem::replace(&mut self.state, Custody::Out) {
             Custody::In(resident) => {
@@ -124,7 +131,7 @@ impl<E: Engine, F: Feed, N: Name> Slot<E, F, N> {
     /// Puts a lease that owes nothing in a free slot.
     fn put_lease(&mut self, lease: Lease<E, F>)
         requires free { IsFree self.old }
-        requires ours { IsIn N.hosts N.queues lease × OwesNone lease × IsBare lease }
+        requires ours { IsIn N.hosts N.queues N.gives F.seen lease × OwesNone lease × IsBare lease }
         ensures { self.new ≡ In lease }
     {
         let Lease { resident } = lease;
@@ -134,7 +141,7 @@ impl<E: Engine, F: Feed, N: Name> Slot<E, F, N> {
     /// Puts a sealed session in a free slot.
     fn put_parcel(&mut self, parcel: Parcel<E, F>)
         requires free { IsFree self.old }
-        requires ours { IsSealedUp N.hosts N.queues parcel }
+        requires ours { IsSealedUp N.hosts N.queues N.gives F.seen parcel }
         ensures { self.new ≡ Sealed parcel }
     {
         put(&mut self.state, Custody::Sealed(parcel));
@@ -163,7 +170,7 @@ impl<E: Engine, F: Feed, N: Name> Slot<E, F, N> {
     pub fn finish(self, pass: Pass) -> Result<Resident<E, F>, (Slot<E, F, N>, Pass)>
         requires { IsPassHere self pass }
         ensures finishes { Finishes self pass result }
-        ensures rest { IfOk result (λ _. HasOwner (IsAtRest N.hosts N.queues) self) }
+        ensures rest { IfOk result (λ _. HasOwner (IsAtRest N.hosts N.queues N.gives F.seen) self) }
     {
         let Slot { state, name: _ } = self;
         match state {
@@ -181,7 +188,7 @@ impl<E: Engine, F: Feed, N: Name> Slot<E, F, N> {
     /// Hands a sealed session to the host that it is for, and notes that it came there. Takes no memory.
     pub fn collect(&mut self, host: u32) -> Option<Parcel<E, F>>
         ensures collects { Collects self.old host result self.new }
-        ensures ours { IfSome result (λ parcel. IsCollected N.hosts N.queues parcel) }
+        ensures ours { IfSome result (λ parcel. IsCollected N.hosts N.queues N.gives F.seen parcel) }
     {
         match mem::replace(&mut self.state, Custody::Out) {
             Custody::Sealed(parcel) => {
@@ -221,7 +228,7 @@ impl<E: Engine + Drop, F: Feed, N: Name> Slot<E, F, N> {
     /// Puts a lease that owes nothing here. An owner of its session never is here. If one of another session is, which it is in no
     /// run, it stays, and the call doesn't return. Takes no memory.
     pub fn give<R: Wait>(&mut self, rt: &R, lease: Lease<E, F>)
-        requires { IsIn N.hosts N.queues lease × OwesNone lease × IsBare lease }
+        requires { IsIn N.hosts N.queues N.gives F.seen lease × OwesNone lease × IsBare lease }
         ensures free { IsFree self.old }
         ensures here { self.new ≡ In lease }
     {
@@ -232,7 +239,7 @@ impl<E: Engine + Drop, F: Feed, N: Name> Slot<E, F, N> {
 
     /// Puts a sealed session here, as `give` does a lease. Takes no memory.
     pub fn seal<R: Wait>(&mut self, rt: &R, parcel: Parcel<E, F>)
-        requires { IsSealedUp N.hosts N.queues parcel }
+        requires { IsSealedUp N.hosts N.queues N.gives F.seen parcel }
         ensures free { IsFree self.old }
         ensures here { self.new ≡ Sealed parcel }
     {
@@ -243,7 +250,7 @@ impl<E: Engine + Drop, F: Feed, N: Name> Slot<E, F, N> {
 
     /// Puts the lease of a session that was collected, and then adopted or resumed, here, as `give` does. Takes no memory.
     pub fn settle<R: Wait>(&mut self, rt: &R, lease: Lease<E, F>)
-        requires { IsIn N.hosts N.queues lease × OwesNone lease × IsBare lease }
+        requires { IsIn N.hosts N.queues N.gives F.seen lease × OwesNone lease × IsBare lease }
         ensures free { IsFree self.old }
         ensures here { self.new ≡ In lease }
     {
@@ -258,6 +265,7 @@ impl<E: Engine + Drop, F: Feed, N: Name> Slot<E, F, N> {
         alloc: Global,
         queues: Queues,
         number: u32,
+        kernel: u128,
         hosts: u32,
         engine: E,
         feed: F,
@@ -268,16 +276,16 @@ impl<E: Engine + Drop, F: Feed, N: Name> Slot<E, F, N> {
         requires name { (slice_get N.queues number ≡ Some queues) × (hosts ≡ N.hosts) }
         requires host { host < hosts }
         requires engine { E.stands_for engine [] × (E.host_of engine ≡ host) }
-        requires feed { HasAll (F.seen feed) }
+        requires feed { HasAll (F.seen feed) × ((F.seen feed).made ≡ N.gives kernel) }
         ensures free { IsFree self.old }
         ensures opened { MatchResult result
-            (λ made. HasOwner (IsNew engine feed queues number hosts host request channel) self.new × (made.0 ≡ first_pass queues (MainItem.Opening host request channel)) × (made.1 ≡ nothing_on queues))
+            (λ made. HasOwner (IsNew engine feed queues number kernel hosts host request channel) self.new × (made.0 ≡ first_pass queues (MainItem.Opening kernel host request channel)) × (made.1 ≡ nothing_on queues))
             (λ back. (back ≡ queues) × (self.new ≡ self.old)) }
     {
         let mut queues = queues;
         self.make_way_for(rt, &mut queues, number);
         self.open_free(
-            rt, alloc, queues, number, hosts, engine, feed, host, request, channel,
+            rt, alloc, queues, number, kernel, hosts, engine, feed, host, request, channel,
         )
     }
 
@@ -288,6 +296,7 @@ impl<E: Engine + Drop, F: Feed, N: Name> Slot<E, F, N> {
         alloc: Global,
         queues: Queues,
         number: u32,
+        kernel: u128,
         hosts: u32,
         engine: E,
         feed: F,
@@ -299,13 +308,13 @@ impl<E: Engine + Drop, F: Feed, N: Name> Slot<E, F, N> {
         requires name { (slice_get N.queues number ≡ Some queues) × (hosts ≡ N.hosts) }
         requires host { host < hosts }
         requires engine { E.stands_for engine [] × (E.host_of engine ≡ host) }
-        requires feed { HasAll (F.seen feed) }
+        requires feed { HasAll (F.seen feed) × ((F.seen feed).made ≡ N.gives kernel) }
         ensures { MatchResult result
-            (λ made. HasOwner (IsNew engine feed queues number hosts host request channel) self.new × (made.0 ≡ first_pass queues (MainItem.Opening host request channel)) × (made.1 ≡ nothing_on queues))
+            (λ made. HasOwner (IsNew engine feed queues number kernel hosts host request channel) self.new × (made.0 ≡ first_pass queues (MainItem.Opening kernel host request channel)) × (made.1 ≡ nothing_on queues))
             (λ back. (back ≡ queues) × (self.new ≡ self.old)) }
     {
         match Resident::open(
-            rt, alloc, queues, number, hosts, engine, feed, host, request, channel,
+            rt, alloc, queues, number, kernel, hosts, engine, feed, host, request, channel,
         ) {
             Ok((resident, pass, reader)) => {
                 put(&mut self.state, Custody::In(resident));
@@ -318,7 +327,7 @@ impl<E: Engine + Drop, F: Feed, N: Name> Slot<E, F, N> {
     /// Makes sure that nobody is here, before this owner, or a parcel with it, is put here. An owner of its session never is. If
     /// one of another session is, which it is in no run, it stays, and the call doesn't return.
     pub(crate) fn make_way<R: Wait>(&mut self, rt: &R, resident: &mut Resident<E, F>)
-        requires { IsIn N.hosts N.queues resident.old }
+        requires { IsIn N.hosts N.queues N.gives F.seen resident.old }
         ensures free { IsFree self.new }
         ensures kept { self.new ≡ self.old }
         ensures same { resident.new ≡ resident.old }
@@ -428,6 +437,7 @@ fn ends_of<E: Engine + Drop, F: Feed>(resident: Resident<E, F>) -> Ends
         ends,
         outlet: _,
         number: _,
+        kernel: _,
         hosts: _,
         dead: _,
         count: _,

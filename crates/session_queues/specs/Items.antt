@@ -8,16 +8,16 @@ use Rattle.session_queues.specs.declared.items.MainItem.TheVariants.{Opening, As
 
 -- the opening has the number 0, a request that of its frontend
 abbrev pub number_of : MainItem → ℕ
-number_of (Opening host request channel) = 0
+number_of (Opening kernel host request channel) = 0
 number_of (Asked request) = request.frontend
 
 abbrev pub is_opening : MainItem → Bool
-is_opening (Opening host request channel) = true
+is_opening (Opening kernel host request channel) = true
 is_opening (Asked request) = false
 
 -- no request of the control list is in the main queue
 abbrev pub IsForMain : MainItem → Type 0
-IsForMain (Opening host request channel) = ⊤
+IsForMain (Opening kernel host request channel) = ⊤
 IsForMain (Asked request) = is_control request ≡ false
 
 abbrev pub frontend_of : Request → ℕ

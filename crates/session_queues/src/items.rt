@@ -4,8 +4,9 @@ use session_core::{Channel, Entry, Header, Request};
 /// What waits in the main queue.
 #[derive(Debug, Drop)]
 pub enum MainItem {
-    /// The session is opened on that host. It only comes first.
+    /// The session of this kernel is opened on that host. It only comes first.
     Opening {
+        kernel: u128,
         host: u32,
         request: Header,
         channel: Channel,

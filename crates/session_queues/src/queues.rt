@@ -96,11 +96,12 @@ impl Queues {
     pub fn open<R: Wait>(
         self,
         rt: &R,
+        kernel: u128,
         host: u32,
         request: Header,
         channel: Channel,
     ) -> Result<Opened, Queues>
-        ensures { MatchResult result (λ opened. (opened.ends ≡ opened_ends self (MainItem.Opening host request channel)) × (opened.pass ≡ first_pass self (MainItem.Opening host request channel)) × (opened.outlet ≡ nothing_pushed self) × (opened.reader ≡ nothing_on self)) (λ queues. queues ≡ self) }
+        ensures { MatchResult result (λ opened. (opened.ends ≡ opened_ends self (MainItem.Opening kernel host request channel)) × (opened.pass ≡ first_pass self (MainItem.Opening kernel host request channel)) × (opened.outlet ≡ nothing_pushed self) × (opened.reader ≡ nothing_on self)) (λ queues. queues ≡ self) }
     {
         let Queues {
             shared,
@@ -109,6 +110,7 @@ impl Queues {
             out,
         } = self;
         let opening = MainItem::Opening {
+            kernel,
             host,
             request,
             channel,

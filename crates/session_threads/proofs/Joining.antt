@@ -24,7 +24,7 @@ if_some_more P Q None h f = tt
 
 module _ (q : SharedQueues) (host : ℕ) (request : Header) (channel : Channel) where
   abbrev start : Producer
-  start = first_pass q (Opening host request channel)
+  start = first_pass q (Opening 0 host request channel)
 
   -- the two passes that were split off, and the first one then
   pub record Splits (p0 p1 p2 one two : Producer) : Type 0 where
@@ -53,7 +53,7 @@ module _ (q : SharedQueues) (host : ℕ) (request : Header) (channel : Channel) 
   pub both_joined : (p0 p1 p2 one0 two0 one two p3 p4 : Producer) (first second : List Request) (ends : Held) → Splits p0 p1 p2 one0 two0
       → HasAdmitted q one0.number first one → HasAdmitted q two0.number second two → p3 ≡ taking_in p2 one → p4 ≡ taking_in p3 two
       → ends.main.lists ≡ p4.main.lists → ends.main.given ≡ p4.main.given → ends.control.lists ≡ p4.control.lists → ends.control.given ≡ p4.control.given
-      → HasThree (Opening host request channel) first second ends
+      → HasThree (Opening 0 host request channel) first second ends
   both_joined p0 p1 p2 one0 two0 one two p3 p4 first second ends h a b e3 e4 main given control also =
       let n1 = (first_fresh p0 p1 p2 one0 two0 h).1 in
       let n2 = (second_fresh p0 p1 p2 one0 two0 h).1 in
@@ -62,7 +62,7 @@ module _ (q : SharedQueues) (host : ℕ) (request : Header) (channel : Channel) 
       let two_main = b.3 ∙ ap (λ n. knows false [] ((n, as_main second) ∷ []) 0) n2 in
       let one_control = a.4 ∙ ap (λ n. knows false [] ((n, as_control first) ∷ []) 0) n1 in
       let two_control = b.4 ∙ ap (λ n. knows false [] ((n, as_control second) ∷ []) 0) n2 in record {
-        opens = opening_alone host request channel;
+        opens = opening_alone 0 host request channel;
         main = main ∙ ap (λ p. p.main.lists) all ∙ ap (λ v. (start.main.lists ++ v.lists) ++ two.main.lists) one_main ∙ ap (λ v. (start.main.lists ++ (1, as_main first) ∷ []) ++ v.lists) two_main;
         control = control ∙ ap (λ p. p.control.lists) all ∙ ap (λ v. (start.control.lists ++ v.lists) ++ two.control.lists) one_control ∙ ap (λ v. (start.control.lists ++ (1, as_control first) ∷ []) ++ v.lists) two_control;
         given = (
@@ -78,12 +78,12 @@ module _ (q : SharedQueues) (host : ℕ) (request : Header) (channel : Channel) 
   parts here p0 p1 p2 one0 two0 one two p3 p4 first second es kept same h a b e3 e4 s is =
       let a_here = subst (λ z. HasAdmitted z one0.number first one) same a in
       let b_here = subst (λ z. HasAdmitted z two0.number second two) same b in
-      let o = Opening host request channel in
-      let three = both_joined p0 p1 p2 one0 two0 one two p3 p4 first second s.0 h a_here b_here e3 e4 s.3 s.4 s.5 s.6 in
+      let o = Opening 0 host request channel in
+      let three = both_joined p0 p1 p2 one0 two0 one two p3 p4 first second s.1 h a_here b_here e3 e4 s.4 s.5 s.6 s.7 in
       subst (λ z. AnswersJust 1 z first × AnswersJust 2 z second × ((n : ℕ) → n ≢ 1 → n ≢ 2 → AnswersJust n z [])) (sym is) (
-        first_answered es s.0 o first second three s.1 s.2,
-        second_answered es s.0 o first second three s.1 s.2,
-        no_other_answered es s.0 o first second three s.1 s.2,
+        first_answered s.0 es s.1 o first second three s.2 s.3,
+        second_answered s.0 es s.1 o first second three s.2 s.3,
+        no_other_answered s.0 es s.1 o first second three s.2 s.3,
       )
 
   -- the journal that is kept begins with the opening, once all is answered
@@ -93,7 +93,7 @@ module _ (q : SharedQueues) (host : ℕ) (request : Header) (channel : Channel) 
   opens here p0 p1 p2 one0 two0 one two p3 p4 first second es kept same h a b e3 e4 s is meaning hosts legal =
       let a_here = subst (λ z. HasAdmitted z one0.number first one) same a in
       let b_here = subst (λ z. HasAdmitted z two0.number second two) same b in
-      let o = Opening host request channel in
-      let three = both_joined p0 p1 p2 one0 two0 one two p3 p4 first second s.0 h a_here b_here e3 e4 s.3 s.4 s.5 s.6 in
+      let o = Opening 0 host request channel in
+      let three = both_joined p0 p1 p2 one0 two0 one two p3 p4 first second s.1 h a_here b_here e3 e4 s.4 s.5 s.6 s.7 in
       subst (λ z. (more : List Entry) × (z ≡ Opened host request channel ∷ more)) (sym is)
-      (opening_first es s.0 o first second three s.1 s.2 meaning hosts host request channel refl legal)
+      (opening_first s.0 es s.1 o first second three s.2 s.3 meaning hosts 0 host request channel refl legal)

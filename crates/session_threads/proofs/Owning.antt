@@ -1,6 +1,8 @@
 -- What an owner keeps that takes in the first pass and admits a request itself.
 use Rattle.std.proofs.Common.{◌≡◌, ℕ, zero, suc, ◌<◌, Bool, true, false, cond, List, [], ◌∷◌, ◌+◌, ◌++◌, refl, sym, ap, ◌∙◌, subst, inl, Option, Result, MatchOption, MatchResult, arith}
 use Rattle.std.specs.Prelude.{Some, None, Ok, Err}
+use Rattle.nb_outside.specs.declared.feed.Drawn.{Drawn}
+use Rattle.nb_outside.specs.Feeds.{Seen}
 use Rattle.ruled_queue.specs.Rule.{Keeps}
 use Rattle.session_core.specs.declared.entry.Entry.{Entry}
 use Rattle.session_core.specs.declared.request.Request.{Request}
@@ -9,7 +11,7 @@ use Rattle.session_queues.specs.declared.items.MainItem.{MainItem}
 use Rattle.session_queues.specs.declared.shared.SharedQueues.{SharedQueues}
 use Rattle.session_queues.specs.Passes.{Producer, IsPassOf, HoldsAll}
 use Rattle.session_queues.specs.Ends.{OnOut, Outgoing, first_pass, gathered, admitted_main, admitted_control}
-use Rattle.session_gate.specs.Facts.{Holds, OwesNone, IsBare}
+use Rattle.session_gate.specs.Facts.{Holds, OwesNone, IsOurs}
 
 -- a reader that reads stays on its queue
 pub reader_still : (old new : OnOut) (r : Option Entry)
@@ -51,11 +53,9 @@ module _ {E F : Type 0} where
       second ∙ ap (λ (h : Holds E F). record h { out = o }) first ∙ ap (λ (x : Outgoing). record old { out = x }) (sym (ap (λ h. h.out) second))
 
   -- what was pushed on out since then changes nothing of what a cell asks of a lease
-  pub may_gather : (queues : SharedQueues) (number hosts : ℕ) (old new : Holds E F)
-      → old.ends.queues ≡ queues → old.number ≡ number → old.hosts ≡ hosts → OwesNone old → IsBare old → new ≡ record old { out = new.out }
-      → (new.ends.queues ≡ queues) × (new.number ≡ number) × (new.hosts ≡ hosts) × OwesNone new × IsBare new
-  may_gather queues number hosts old new q n h owes bare is =
-      subst (λ (x : Holds E F). (x.ends.queues ≡ queues) × (x.number ≡ number) × (x.hosts ≡ hosts) × OwesNone x × IsBare x) (sym is) (q, n, h, owes, bare)
+  pub may_gather : (session : SharedQueues × ℕ) (hosts : ℕ) (gives : ℕ → Option (List Drawn)) (seen : F → Seen) (old new : Holds E F)
+      → IsOurs session hosts gives seen old → new ≡ record old { out = new.out } → IsOurs session hosts gives seen new
+  may_gather session hosts gives seen old new h is = subst (λ (x : Holds E F). IsOurs session hosts gives seen x) (sym is) h
 
   -- whoever owes nothing owes nothing with a pass more
   pub owes_gathered : (old new : Holds E F) (p : Producer) → OwesNone old → new ≡ record old { ends = gathered old.ends p } → OwesNone new

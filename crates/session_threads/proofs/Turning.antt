@@ -6,7 +6,7 @@ use Rattle.session_core.specs.Legal.{progress_of, sealed, arriving, moved}
 use Rattle.session_core.proofs.Progressing.{progress_more}
 use Rattle.session_core.specs.Meanings.{Served, Meaning}
 use Rattle.session_queues.specs.Ends.{Held, FoundNothing, looked_at_both, TookRequest}
-use Rattle.session_gate.specs.Facts.{Holds, Away, HasSame, HasNoted, IsBare}
+use Rattle.session_gate.specs.Facts.{Holds, Away, HasSame, HasNoted}
 use Rattle.hand_off.specs.declared.moving.Started.{Started}
 use Rattle.hand_off.specs.declared.moving.Started.TheVariants.{Refused, Resumed, Sealed}
 use Rattle.hand_off.specs.Moves.{HasStarted, HasArrived, HasStayed}
@@ -35,11 +35,11 @@ module _ {E F : Type 0} where
 
   -- what is told of a move that set out, and of one that ended
   pub same_started : (meaning : Meaning) (old : Holds E F) (r : Request) (s : Started E F) → HasStarted meaning old r s → IsStarted old s
-  same_started meaning old r (Refused h) told = (told.1, told.0.2.4)
-  same_started meaning old r (Resumed h) told = (told.2, told.1.4)
-  same_started meaning old r (Sealed p) told = (told.4, told.5, told.1.4)
+  same_started meaning old r (Refused h) told = (told.1, told.0.2.4, told.0.2.1)
+  same_started meaning old r (Resumed h) told = (told.2, told.1.4, told.1.1)
+  same_started meaning old r (Sealed p) told = (told.4, told.5, told.1.4, told.1.1)
 
   pub same_ended : (meaning : Meaning) (IsImage : E → List ℕ → ℕ → Type 0) (host_of : E → ℕ) (Stands : E → List Served → Type 0) (p : Away E F) (h : Holds E F)
-      → HasArrived meaning IsImage host_of Stands p h ⊎ HasStayed p h → HasSame p.held h
-  same_ended meaning IsImage host_of Stands p h (inl told) = told.same.0
-  same_ended meaning IsImage host_of Stands p h (inr told) = told.0.4
+      → HasArrived meaning IsImage host_of Stands p h ⊎ HasStayed p h → HasSame p.held h × (h.feed ≡ p.held.feed)
+  same_ended meaning IsImage host_of Stands p h (inl told) = (told.same.0, told.same.1)
+  same_ended meaning IsImage host_of Stands p h (inr told) = (told.0.4, told.0.1)

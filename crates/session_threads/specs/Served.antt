@@ -42,12 +42,12 @@ HasLists old new = (new.queues ≡ old.queues) × (new.main.lists ≡ old.main.l
 
 -- all that the pass admitted, joined with what it took in, is answered: an owner with its lists owes nothing, and nothing waits
 abbrev pub IsServed : List Entry → Producer → Type 0
-IsServed entries p = (ends : Held) × IsAnswered entries ends [] × FoundNothing ends × (ends.main.lists ≡ p.main.lists) × (ends.main.given ≡ p.main.given)
+IsServed entries p = (kernel : ℕ) × (ends : Held) × IsAnswered kernel entries ends [] × FoundNothing ends × (ends.main.lists ≡ p.main.lists) × (ends.main.given ≡ p.main.given)
     × (ends.control.lists ≡ p.control.lists) × (ends.control.given ≡ p.control.given)
 
 module _ {E F : Type 0} where
   -- it is the same session and owes nothing: it stayed, or is sealed for its host
   abbrev pub IsStarted : Holds E F → Started E F → Type 0
-  IsStarted old (Refused h) = OwesNone h × HasSame old h
-  IsStarted old (Resumed h) = OwesNone h × HasSame old h
-  IsStarted old (Sealed p) = ((progress_of p.held.entries).phase ≡ sealed p.again p.to) × OwesNone p.held × HasSame old p.held
+  IsStarted old (Refused h) = OwesNone h × HasSame old h × (h.feed ≡ old.feed)
+  IsStarted old (Resumed h) = OwesNone h × HasSame old h × (h.feed ≡ old.feed)
+  IsStarted old (Sealed p) = ((progress_of p.held.entries).phase ≡ sealed p.again p.to) × OwesNone p.held × HasSame old p.held × (p.held.feed ≡ old.feed)

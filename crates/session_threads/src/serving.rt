@@ -137,7 +137,7 @@ where
     R: Threads + Wait + Sync,
     requires name { (N.queues ≡ queues ∷ []) × (N.hosts ≡ hosts) × (0 < hosts) }
     requires engine { E.stands_for engine [] × (E.host_of engine ≡ 0) }
-    requires feed { HasAll (F.seen feed) }
+    requires feed { HasAll (F.seen feed) × ((F.seen feed).made ≡ N.gives 0) }
     requires first { All (λ r. r.frontend ≡ 1) first.now }
     requires second { All (λ r. r.frontend ≡ 2) second.now }
     ensures legal { IfSome result (λ journal. IsLegal E.meaning hosts journal.entries) }
@@ -177,14 +177,16 @@ where
     R: Wait,
     requires name { (N.queues ≡ queues ∷ []) × (N.hosts ≡ hosts) × (0 < hosts) }
     requires engine { E.stands_for engine [] × (E.host_of engine ≡ 0) }
-    requires feed { HasAll (F.seen feed) }
-    ensures { IfSome result (λ made. (made.0 ≡ (queues, 0)) × (made.1 ≡ first_pass queues (MainItem.Opening 0 opening.0 opening.1))) }
+    requires feed { HasAll (F.seen feed) × ((F.seen feed).made ≡ N.gives 0) }
+    ensures { IfSome result (λ made. (made.0 ≡ (queues, 0)) × (made.1 ≡ first_pass queues (MainItem.Opening 0 0 opening.0 opening.1))) }
 {
     let (header, channel) = opening;
     let Ok(cell) = SessionCell::<E, F, N>::new(&queues, 0) else {
         return None;
     };
-    match cell.open(rt, alloc, queues, hosts, engine, feed, 0, header, channel) {
+    match cell.open(
+        rt, alloc, queues, 0, hosts, engine, feed, 0, header, channel,
+    ) {
         Ok((pass, _reader)) => Some((cell, pass)),
         Err(_queues) => {
             cell.discard();

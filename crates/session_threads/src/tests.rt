@@ -1,23 +1,14 @@
-//! Two threads admit while each host's thread answers; and an owner alone reads, closes the reader, gathers and admits. The tests
-//! end by themselves.
+//! Two threads admit while each host's thread answers. The tests end by themselves.
 
-ghost use Rattle.std.specs.Prelude.{◌≡◌, ◌<◌, [], ◌∷◌, IfOk, IfSome, All};
-ghost use Rattle.session_queues.specs.declared.items.MainItem.{MainItem};
-ghost use Rattle.session_queues.specs.Ends.{first_pass};
-ghost use Rattle.session_core.specs.declared.request.Channel.{Channel};
-ghost use Rattle.session_gate.specs.Facts.{OwesNone, IsWhole};
+ghost use Rattle.std.specs.Prelude.{◌≡◌, ◌<◌, IfOk, All};
 
 use crate::idle::Idle;
 use crate::serve_here;
-use crate::working::drain;
 use graph_model::Weights;
 use nb_outside::NoFeed;
 use plain_data::Text;
-use session_core::{Ask, Channel, Engine, Entry, Header, Journal, Request};
-use session_gate::{Lease, Name, SessionCell, Take};
-use session_queues::{Pass, Queues, Reader};
+use session_core::{Ask, Channel, Engine, Entry, Header, Request};
 use std::alloc::{AllocError, Global};
-use std::marker::Brand;
 use std::sync::Wait;
 use std::test::Fail;
 use std::thread::Threads;
@@ -174,137 +165,5 @@ fn a_session_moves_while_two_threads_admit(rt: HostRuntime) -> Result<(), Fail> 
     assert_eq!(&rt; (seen.ran, seen.others), (199, 1));
     assert_eq!(&rt; (seen.sealed, seen.moved, seen.adopted), (1, 1, 1));
     assert!(&rt; seen.in_order);
-    Ok(())
-}
-
-/// A cell with its session open on host 0, the first pass and the one reader. None for want of memory alone.
-fn opened<N: Name, R: Wait>(
-    rt: &R,
-    alloc: Global,
-    queues: Queues,
-    opening: Header,
-) -> Option<(SessionCell<Idle, NoFeed, N>, Pass, Reader)>
-    requires { (N.queues ≡ queues ∷ []) × (N.hosts ≡ 1) }
-    ensures cell { IfSome result (λ made. made.0 ≡ (queues, 0)) }
-    ensures pass { IfSome result (λ made. made.1 ≡ first_pass queues (MainItem.Opening 0 opening Channel.Shell)) }
-    ensures reader { IfSome result (λ made. made.2.out_queue ≡ queues.out) }
-{
-    let Ok(cell) = SessionCell::<Idle, NoFeed, N>::new(&queues, 0) else {
-        return None;
-    };
-    let engine = Idle::opened(alloc, 0);
-    let channel = Channel::Shell;
-    match cell.open(
-        rt,
-        alloc,
-        queues,
-        1,
-        engine,
-        NoFeed::new(),
-        0,
-        opening,
-        channel,
-    ) {
-        Ok((pass, reader)) => Some((cell, pass, reader)),
-        Err(_queues) => {
-            cell.discard();
-            None
-        }
-    }
-}
-
-/// Whether the reader takes the opening once the journal is published, and how many entries it took once it is closed.
-fn read_and_closed<N: Name, R: Wait>(
-    rt: &R,
-    alloc: Global,
-    cell: &SessionCell<Idle, NoFeed, N>,
-    lease: Lease<Idle, NoFeed>,
-    reader: Reader,
-) -> (Lease<Idle, NoFeed>, bool, u32)
-    requires lease { lease.ends.queues ≡ cell.now.0 }
-    requires reader { reader.out_queue ≡ cell.now.0.out }
-    ensures { result.0 ≡ record lease { out = result.0.out } }
-{
-    let mut lease = lease;
-    let mut reader = reader;
-    let _ = lease.publish(rt, alloc);
-    let first = cell.read(rt, &mut reader);
-    let is_opening = matches!(&first, Some(Entry::Opened { .. }));
-    let taken = lease.close_reader(rt, reader);
-    (lease, is_opening, taken)
-}
-
-/// The journal once the owner, who is alone, admits a request and answers it.
-fn admitted_and_answered<R: Wait>(
-    rt: &R,
-    alloc: Global,
-    lease: Lease<Idle, NoFeed>,
-    request: Request,
-) -> Journal
-    requires whole { IsWhole lease }
-    requires owes { OwesNone lease }
-    requires given { request.frontend < lease.ends.main.given }
-{
-    let mut lease = lease;
-    let _ = lease.admit(rt, request);
-    let (lease, _all) = drain(rt, alloc, lease);
-    lease.into_journal()
-}
-
-/// What a session by hand comes to: whether its opening was read, how many entries were read, and what its journal has.
-fn by_hand<N: Name, R: Wait>(
-    rt: &R,
-    alloc: Global,
-    queues: Queues,
-    opening: Header,
-    request: Request,
-) -> Option<(bool, u32, Counts)>
-    requires name { (N.queues ≡ queues ∷ []) × (N.hosts ≡ 1) }
-    requires frontend { request.frontend ≡ 0 }
-{
-    let (cell, pass, reader) = opened::<N, R>(rt, alloc, queues, opening)?;
-    match cell.take(rt, 0) {
-        Take::Taken(lease) => {
-            let (lease, is_opening, taken) = read_and_closed(rt, alloc, &cell, lease, reader);
-            let lease = cell.gather(rt, lease, pass);
-            let journal = admitted_and_answered(rt, alloc, lease, request);
-            Some((is_opening, taken, counted(journal.entries())))
-        }
-        Take::Elsewhere(_) | Take::Unopened | Take::Out | Take::Sealed(_) => {
-            cell.discard();
-            None
-        }
-    }
-}
-
-/// The same for queues that are made first, from which the name is picked.
-fn by_hand_here<R: Wait>(
-    rt: &R,
-    alloc: Global,
-    opening: Header,
-    request: Request,
-) -> Option<(bool, u32, Counts)>
-    requires { request.frontend ≡ 0 }
-{
-    let queues = Queues::new(alloc).ok()?;
-    by_hand::<Brand, R>(rt, alloc, queues, opening, request)
-}
-
-#[test]
-fn an_owner_reads_closes_and_admits(rt: HostRuntime) -> Result<(), Fail> {
-    let alloc = rt.alloc();
-    let request = Request {
-        header: header(alloc, "x")?,
-        channel: Channel::Shell,
-        frontend: 0,
-        ask: Ask::Info,
-    };
-    let Some((is_opening, taken, seen)) = by_hand_here(&rt, alloc, header(alloc, "o")?, request)
-    else {
-        assert!(&rt; false, "not opened");
-        return Ok(());
-    };
-    assert!(&rt; is_opening);
-    assert_eq!(&rt; (taken, seen.ran, seen.others), (1, 1, 1));
     Ok(())
 }

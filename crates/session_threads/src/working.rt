@@ -2,7 +2,7 @@ ghost use Rattle.std.specs.Prelude.{◌≡◌, ◌≤◌, true};
 ghost use Rattle.session_queues.specs.Ends.{FoundNothing};
 ghost use Rattle.session_core.specs.Asks.{is_move};
 ghost use Rattle.session_core.specs.Legal.{progress_of, arriving};
-ghost use Rattle.session_gate.specs.Facts.{Owes, OwesNone, IsBare, HasSame};
+ghost use Rattle.session_gate.specs.Facts.{Owes, OwesNone, IsOurs, HasSame};
 ghost use Rattle.session_threads.specs.Served.{IsStarted, HasLists};
 ghost use Rattle.session_threads.specs.declared.working.Found.{Found};
 
@@ -73,7 +73,7 @@ where
     F: Feed,
     N: Name,
     R: Wait,
-    requires { (lease.ends.queues ≡ cell.now.0) × (lease.number ≡ cell.now.1) × (lease.hosts ≡ N.hosts) × OwesNone lease × IsBare lease }
+    requires { IsOurs cell.now N.hosts N.gives F.seen lease }
 {
     let mut lease = lease;
     if lease.reserve(3).is_err() {
@@ -112,7 +112,7 @@ fn started<E: Engine, F: Feed>(alloc: Global, lease: Lease<E, F>, request: Reque
 fn finished<E: Engine + Drop, F: Feed>(alloc: Global, parcel: Parcel<E, F>) -> Lease<E, F>
     requires { (progress_of parcel.held.entries).phase ≡ arriving parcel.again parcel.to }
     ensures owes { OwesNone result }
-    ensures same { HasSame parcel.held result }
+    ensures same { HasSame parcel.held result × (result.feed ≡ parcel.held.feed) }
 {
     finish_move(alloc, parcel)
 }

@@ -73,3 +73,9 @@ returns-in-Err-clause-fed g c =
       drew_at_fault c.in-Err.fault cause host c.args.request count _ _ c.in-Err.ensures.drawn c.cause-cause.ensures,
       λ ran. let never : false ≡ true = ran in cc,
     )
+
+pub returns-in-Ok-clause-how : goal.returns-in-Ok-clause-how
+returns-in-Ok-clause-how g c = (Ran c.settled_owner-host.result c.args.request c.in-Ok.done.draws c.in-Ok.done.reply, c.push.ensures.entries, (refl, c.settled_owner-host.ensures, refl))
+
+pub returns-in-Err-clause-how : goal.returns-in-Err-clause-how
+returns-in-Err-clause-how g c = (Died c.settled_owner-host.result c.args.request c.count-count.result c.cause-cause.result, c.push-in-Err.ensures.entries, (refl, c.settled_owner-host.ensures, refl))

@@ -12,8 +12,8 @@ returns-in-Sealed-clause-same g c =
     let p = c.pop.new.self.ends in
     let f = c.finished.result.ends in (
       both_lists a r f (same_lists a r c.reserve.ensures.same.3.0)
-          (both_lists r p f (took_lists r p c.in-Some.request c.in-Some.ensures.popped.0) (same_lists p f (c.finished.ensures.same.0 ∙ c.arrive.ensures.noted.4.0 ∙ c.in-Sealed.ensures.2.0))),
-      c.finished.ensures.same.3 ∙ c.arrive.ensures.noted.4.3 ∙ c.in-Sealed.ensures.2.3 ∙ c.in-Some.ensures.same.6 ∙ c.reserve.ensures.same.3.3,
+          (both_lists r p f (took_lists r p c.in-Some.request c.in-Some.ensures.popped.0) (same_lists p f (c.finished.ensures.same.0.0 ∙ c.arrive.ensures.noted.4.0 ∙ c.in-Sealed.ensures.2.0))),
+      c.finished.ensures.same.0.3 ∙ c.arrive.ensures.noted.4.3 ∙ c.in-Sealed.ensures.2.3 ∙ c.in-Some.ensures.same.6 ∙ c.reserve.ensures.same.3.3,
     )
 
 pub returns-in_default-clause-nothing : goal.returns-in_default-clause-nothing

@@ -18,7 +18,7 @@ note-requires-clause-quiet g c = (refl, refl, refl, refl)
 
 pub note-requires-clause-owes : goal.note-requires-clause-owes
 note-requires-clause-owes g c = let r = c.self.inside.resident in
-    answered_more r.entries (Resumed c.owner-host.result c.args.request) r.ends (c.args.request ∷ []) refl (subst (λ (h : Holds g.row.E.Denot g.row.F.Denot). IsAnswered h.entries h.ends (c.args.request ∷ [])) (sym c.self.view_is) c.requires.owes) (ap (λ z. if_settled z c.args.request) c.self.invariant)
+    answered_more r.kernel r.entries (Resumed c.owner-host.result c.args.request) r.ends (c.args.request ∷ []) refl (subst (λ (h : Holds g.row.E.Denot g.row.F.Denot). IsAnswered h.kernel h.entries h.ends (c.args.request ∷ [])) (sym c.self.view_is) c.requires.owes) (ap (λ z. if_settled z c.args.request) c.self.invariant)
 
 pub invariant_of-result : goal.invariant_of-result
 invariant_of-result g c = settled_more c.self.inside.resident.entries _ (Resumed c.owner-host.result c.args.request) c.note.ensures.noted.2 c.self.invariant (sym c.self.invariant)

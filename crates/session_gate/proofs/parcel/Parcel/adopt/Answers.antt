@@ -22,7 +22,7 @@ adopt-requires-clause-still g c = (refl, refl, refl)
 
 pub adopt-requires-clause-owes : goal.adopt-requires-clause-owes
 adopt-requires-clause-owes g c = let i = c.self.inside in
-    answered_more i.resident.entries (Adopted i.from i.to i.again i.certified c.args.objects) i.resident.ends [] refl c.self.invariant.owes refl
+    answered_more i.resident.kernel i.resident.entries (Adopted i.from i.to i.again i.certified c.args.objects) i.resident.ends [] refl c.self.invariant.owes refl
 
 pub adopt-requires-clause-stands : goal.adopt-requires-clause-stands
 adopt-requires-clause-stands g c = let v = c.self.view_is in

@@ -20,7 +20,7 @@ pub note-requires-clause-quiet : goal.note-requires-clause-quiet
 note-requires-clause-quiet g c = (refl, refl, refl, refl)
 
 pub note-requires-clause-owes : goal.note-requires-clause-owes
-note-requires-clause-owes g c = let i = c.self.inside in answered_more i.resident.entries (Moved i.to) i.resident.ends [] refl c.self.invariant.owes refl
+note-requires-clause-owes g c = let i = c.self.inside in answered_more i.resident.kernel i.resident.entries (Moved i.to) i.resident.ends [] refl c.self.invariant.owes refl
 
 pub invariant_of-result : goal.invariant_of-result
 invariant_of-result g c =

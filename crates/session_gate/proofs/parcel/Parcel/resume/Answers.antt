@@ -21,7 +21,7 @@ note-requires-clause-quiet g c = (refl, refl, refl, refl)
 
 pub note-requires-clause-owes : goal.note-requires-clause-owes
 note-requires-clause-owes g c = let i = c.self.inside in
-    answered_more i.resident.entries (Resumed i.from i.again) i.resident.ends [] refl c.self.invariant.owes
+    answered_more i.resident.kernel i.resident.entries (Resumed i.from i.again) i.resident.ends [] refl c.self.invariant.owes
     (ap (λ z. asked_by z (Resumed i.from i.again)) (subst (λ (p : Away g.row.E.Denot g.row.F.Denot). (progress_of p.held.entries).phase ≡ arriving p.again p.to) (sym c.self.view_is) c.requires))
 
 pub invariant_of-result : goal.invariant_of-result

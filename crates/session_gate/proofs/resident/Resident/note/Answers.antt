@@ -8,12 +8,12 @@ use Rattle.session_gate.proofs.resident.Resident.note.Goals as goal
 
 pub invariant_of-self : goal.invariant_of-self
 invariant_of-self g c = let e = g.E.Engine in let v = c.self.view_is in let i = c.self.inside in let r = c.requires in
-    noted e.meaning i.hosts (e.stands_for i.engine) (e.host_of i.engine) (g.F.Feed.seen i.feed) i.dead i.count i.journal.entries c.push.new.self.entries i.ends i.outlet c.args.entry c.self.invariant c.push.ensures.entries
+    noted e.meaning i.hosts (e.stands_for i.engine) (e.host_of i.engine) (g.F.Feed.seen i.feed) i.dead i.count i.kernel i.journal.entries c.push.new.self.entries i.ends i.outlet c.args.entry c.self.invariant c.push.ensures.entries
     (subst (λ (h : Holds g.row.E.Denot g.row.F.Denot). MayCome e.meaning h.hosts (progress_of h.entries) c.args.entry) (sym v) r.may)
     (subst (λ (h : Holds g.row.E.Denot g.row.F.Denot). IsQuiet (progress_of h.entries) c.args.entry) (sym v) r.quiet)
-    (subst (λ (h : Holds g.row.E.Denot g.row.F.Denot). IsAnswered (h.entries ++ c.args.entry ∷ []) h.ends []) (sym v) r.owes)
+    (subst (λ (h : Holds g.row.E.Denot g.row.F.Denot). IsAnswered h.kernel (h.entries ++ c.args.entry ∷ []) h.ends []) (sym v) r.owes)
 
 pub returns-clause-owes : goal.returns-clause-owes
 returns-clause-owes g c = let v = c.self.view_is in
-    subst (λ es. IsAnswered es c.self.inside.ends []) (sym c.push.ensures.entries)
-    (subst (λ (h : Holds g.row.E.Denot g.row.F.Denot). IsAnswered (h.entries ++ c.args.entry ∷ []) h.ends []) (sym v) c.requires.owes)
+    subst (λ es. IsAnswered c.self.inside.kernel es c.self.inside.ends []) (sym c.push.ensures.entries)
+    (subst (λ (h : Holds g.row.E.Denot g.row.F.Denot). IsAnswered h.kernel (h.entries ++ c.args.entry ∷ []) h.ends []) (sym v) c.requires.owes)

@@ -1,0 +1,4 @@
+mod Answering
+mod Leaving
+mod Holding
+mod Numbering
