@@ -1,15 +1,11 @@
 -- Sessions that are apart, and requests that are put to them.
-use Rattle.std.proofs.Common.{◌≡◌, ℕ, zero, suc, ◌+◌, ◌<◌, false, List, [], ◌∷◌, ◌++◌, length, get_or, drop, Some, None, Result, Ok, Err, refl, sym, ap, ◌∙◌, subst, inl, inr}
-use Rattle.std.specs.Prelude.{◌==◌, map, slice_get, slice_set, option_map, OnOk, OnErr}
-use Rattle.std.proofs.lemmas.List.{drop_more}
-use Rattle.std.proofs.lemmas.Option.{slice_get_read, slice_get-map}
+use Rattle.std.proofs.Common.{◌≡◌, ◌≢◌, ℕ, zero, suc, ◌+◌, ◌<◌, false, List, [], ◌∷◌, ◌++◌, length, drop, Some, None, refl, sym, ap, ◌∙◌, subst, inl, inr, arith}
+use Rattle.std.specs.Prelude.{◌==◌, map, slice_get, slice_set}
 use Rattle.std.proofs.lemmas.Bool.{eq-eqb, ne_eqb}
 use Rattle.std.proofs.lemmas.Bool.Decides.{eqb_tells}
 use Rattle.session_core.specs.declared.request.Request.{Request}
-use Rattle.reply_frames.specs.declared.node.NodeError.{NodeError}
-use Rattle.node_intake.specs.Intake.{Taken, Node, session_of, with_request}
-use Rattle.node_intake.specs.declared.session.Session.{Session}
-use Rattle.node_intake.specs.Sessions.{taken_of, AreApart, IsAt}
+use Rattle.node_intake.specs.Intake.{Taken, session_of, with_request}
+use Rattle.node_intake.specs.Sessions.{AreApart, IsAt, with_more}
 
 -- ---- one request
 
@@ -20,36 +16,30 @@ others_stay k r (x ∷ xs) none = elim (eqb_tells x.kernel k) [
   | inr not ↦ rw not.0 (ap (λ zs. x ∷ zs) (others_stay k r xs (rw not.0 at none)))
 ]
 
-never_none : (k : ℕ) (xs : List Session) (at : ℕ) (s : Session) → slice_get xs at ≡ Some s → s.kernel ≡ k → session_of k (map taken_of xs) ≡ None → ⊥
+never_none : (k : ℕ) (xs : List Taken) (at : ℕ) (s : Taken) → slice_get xs at ≡ Some s → s.kernel ≡ k → session_of k xs ≡ None → ⊥
 never_none k [] at s there of none = cc
 never_none k (x ∷ xs) zero s there of none = elim (eqb_tells x.kernel k) [
-  | inl is ↦ let some : Some (taken_of x) ≡ None = rw is.0 at none in cc
-  | inr not ↦ let same : x ≡ s = cc in not.1 (ap (λ (z : Session). z.kernel) same ∙ of)
+  | inl is ↦ let some : Some x ≡ None = rw is.0 at none in cc
+  | inr not ↦ let same : x ≡ s = cc in not.1 (ap (λ (z : Taken). z.kernel) same ∙ of)
 ]
 never_none k (x ∷ xs) (suc at) s there of none = elim (eqb_tells x.kernel k) [
-  | inl is ↦ let some : Some (taken_of x) ≡ None = rw is.0 at none in cc
+  | inl is ↦ let some : Some x ≡ None = rw is.0 at none in cc
   | inr not ↦ never_none k xs at s there of (rw not.0 at none)
 ]
 
 -- the request that is put to the session at an index goes to the session of its kernel
-pub request_at : (k : ℕ) (r : Request) (xs : List Session) (at : ℕ) (s : Session) → AreApart (map taken_of xs) → slice_get xs at ≡ Some s → s.kernel ≡ k
-    → map taken_of (slice_set xs at (record s { requests = s.requests ++ r ∷ [] })) ≡ map (with_request k r) (map taken_of xs)
+pub request_at : (k : ℕ) (r : Request) (xs : List Taken) (at : ℕ) (s : Taken) → AreApart xs → slice_get xs at ≡ Some s → s.kernel ≡ k
+    → slice_set xs at (with_more s r) ≡ map (with_request k r) xs
 request_at k r [] at s apart there of = cc
 request_at k r (x ∷ xs) zero s apart there of =
     let same : x ≡ s = cc in
-    let own : x.kernel ≡ k = ap (λ (z : Session). z.kernel) same ∙ of in
-    let rest : map (with_request k r) (map taken_of xs) ≡ map taken_of xs = others_stay k r (map taken_of xs) (subst (λ j. session_of j (map taken_of xs) ≡ None) own apart.0) in
-    rw (eq-eqb x.kernel k own, rest) (ap (λ (z : Session). taken_of (record z { requests = z.requests ++ r ∷ [] }) ∷ map taken_of xs) (sym same))
+    let own : x.kernel ≡ k = ap (λ (z : Taken). z.kernel) same ∙ of in
+    let rest : map (with_request k r) xs ≡ xs = others_stay k r xs (subst (λ j. session_of j xs ≡ None) own apart.0) in
+    rw (eq-eqb x.kernel k own, rest) (ap (λ (z : Taken). with_more z r ∷ xs) (sym same))
 request_at k r (x ∷ xs) (suc at) s apart there of = elim (eqb_tells x.kernel k) [
-  | inl is ↦ absurd (never_none k xs at s there of (subst (λ j. session_of j (map taken_of xs) ≡ None) is.1 apart.0))
-  | inr not ↦ rw not.0 (ap (λ zs. taken_of x ∷ zs) (request_at k r xs at s apart.1 there of))
+  | inl is ↦ absurd (never_none k xs at s there of (subst (λ j. session_of j xs ≡ None) is.1 apart.0))
+  | inr not ↦ rw not.0 (ap (λ zs. x ∷ zs) (request_at k r xs at s apart.1 there of))
 ]
-
--- what is at an index of the sessions
-pub there_in : (xs : List Session) (at : ℕ) (t : Taken) → slice_get (map taken_of xs) at ≡ Some t → (s : Session) × (slice_get xs at ≡ Some s) × (taken_of s ≡ t)
-there_in [] at t there = cc
-there_in (x ∷ xs) zero t there = (x, refl, cc)
-there_in (x ∷ xs) (suc at) t there = there_in xs at t there
 
 -- ---- apart they stay
 
@@ -84,46 +74,47 @@ apart_with k r (x ∷ xs) apart =
 
 -- ---- indices
 
-pub found_at : (k : ℕ) (xs : List Session) (at : ℕ) (x : Session) → at < length xs → x ≡ get_or xs at x → x.kernel ≡ k
-    → session_of k (map taken_of xs) ≡ session_of k (map taken_of (drop at xs)) → IsAt xs k at
-found_at k xs at x within is own so_far =
-    let next : session_of k (map taken_of (x ∷ drop (at + 1) xs)) ≡ Some (taken_of x) = rw (eq-eqb x.kernel k own) refl in record {
-      session = x;
-      is_there = slice_get_read xs (length xs) at x refl within is;
-      is_of = own;
-      is_found = so_far ∙ ap (λ zs. session_of k (map taken_of zs)) (drop_more xs at x within ∙ ap (λ z. z ∷ drop (at + 1) xs) (sym is)) ∙ next;
+drop_suc : (xs : List Taken) (at : ℕ) (s : Taken) → slice_get xs at ≡ Some s → drop at xs ≡ s ∷ drop (suc at) xs
+drop_suc [] at s there = cc
+drop_suc (x ∷ xs) zero s there = let same : x ≡ s = cc in ap (λ (z : Taken). z ∷ xs) same
+drop_suc (x ∷ xs) (suc at) s there = drop_suc xs at s there
+
+drop_there : (xs : List Taken) (at : ℕ) (s : Taken) → slice_get xs at ≡ Some s → drop at xs ≡ s ∷ drop (at + 1) xs
+drop_there xs at s there = let next : suc at ≡ at + 1 = omega arith in drop_suc xs at s there ∙ ap (λ n. s ∷ drop n xs) next
+
+there_at : (xs : List Taken) (at : ℕ) → at < length xs → (s : Taken) × (slice_get xs at ≡ Some s)
+there_at [] at within = absurd (omega (arith, within))
+there_at (x ∷ xs) zero within = (x, refl)
+there_at (x ∷ xs) (suc at) within = there_at xs at (omega (arith, within))
+
+-- the kernel of the session at an index
+abbrev pub IsKernelAt : List Taken → ℕ → ℕ → Type 0
+IsKernelAt xs at kernel = (s : Taken) → slice_get xs at ≡ Some s → kernel ≡ s.kernel
+
+pub found_at : (k kernel : ℕ) (xs : List Taken) (at : ℕ) → at < length xs → IsKernelAt xs at kernel → kernel ≡ k → session_of k xs ≡ session_of k (drop at xs) → IsAt xs k at
+found_at k kernel xs at within is own so_far =
+    let there = there_at xs at within in
+    let s = there.0 in
+    let of : s.kernel ≡ k = sym (is s there.1) ∙ own in
+    let next : session_of k (s ∷ drop (at + 1) xs) ≡ Some s = rw (eq-eqb s.kernel k of) refl in record {
+      session = s;
+      is_there = there.1;
+      is_of = of;
+      is_found = so_far ∙ ap (session_of k) (drop_there xs at s there.1) ∙ next;
     }
 
-pub at_taken : (k : ℕ) (xs items : List Session) (at : ℕ) (node : Node) → xs ≡ items → map taken_of items ≡ node.sessions → IsAt xs k at
-    → (t : Taken) × (slice_get node.sessions at ≡ Some t) × (t.kernel ≡ k)
-at_taken k xs items at node same view is = (
-  taken_of is.session,
-  ap (λ zs. slice_get zs at) (sym (ap (map taken_of) same ∙ view)) ∙ slice_get-map taken_of xs at ∙ ap (option_map taken_of) is.is_there,
-  is.is_of,
-)
+pub passed_at : (k kernel : ℕ) (xs : List Taken) (at : ℕ) → at < length xs → IsKernelAt xs at kernel → kernel ≢ k → session_of k xs ≡ session_of k (drop at xs) → session_of k xs ≡ session_of k (drop (at + 1) xs)
+passed_at k kernel xs at within is other so_far =
+    let there = there_at xs at within in
+    let s = there.0 in
+    let not : (s.kernel == k) ≡ false = ne_eqb s.kernel k (λ e. other (is s there.1 ∙ e)) in
+    let next : session_of k (s ∷ drop (at + 1) xs) ≡ session_of k (drop (at + 1) xs) = rw not refl in
+    so_far ∙ ap (session_of k) (drop_there xs at s there.1) ∙ next
 
--- where the request was put, or nothing was changed
-pub admitted_at : (k : ℕ) (r : Request) (xs items new now : List Session) (at : ℕ) (node : Node) → (t : Taken) × (slice_get node.sessions at ≡ Some t) × (t.kernel ≡ k) → AreApart (map taken_of items)
-    → xs ≡ items → map taken_of items ≡ node.sessions → now ≡ new → ((s : Session) → slice_get xs at ≡ Some s → new ≡ slice_set xs at (record s { requests = s.requests ++ r ∷ [] }))
-    → map taken_of now ≡ map (with_request k r) node.sessions
-admitted_at k r xs items new now at node (t, there, own) apart same view then put =
-    let in_xs : map taken_of xs ≡ node.sessions = ap (map taken_of) same ∙ view in
-    let found = there_in xs at t (ap (λ zs. slice_get zs at) in_xs ∙ there) in
-    let own_k : found.0.kernel ≡ k = ap (λ (z : Taken). z.kernel) found.2 ∙ own in
-    ap (map taken_of) (then ∙ put found.0 found.1) ∙ request_at k r xs at found.0 (subst (λ zs. AreApart (map taken_of zs)) (sym same) apart) found.1 own_k ∙ ap (map (with_request k r)) in_xs
+within : (xs : List Taken) (at : ℕ) (s : Taken) → slice_get xs at ≡ Some s → at < length xs
+within [] at s there = cc
+within (x ∷ xs) zero s there = omega arith
+within (x ∷ xs) (suc at) s there = let h = within xs at s there in omega (arith, h)
 
-pub either_way : {A E : Type 0} {P Q G : Type 0} (r : Result A E) → OnOk r P → OnErr r Q → (P → G) → (Q → G) → G
-either_way (Ok x) p q f g = f p
-either_way (Err e) p q f g = g q
-
-pub map_ok : {A E : Type 0} {P Q : Type 0} (r : Result A E) → (P → Q) → OnOk r P → OnOk r Q
-map_ok (Ok a) f h = f h
-map_ok (Err e) f h = tt
-
-pub map_err : {A E : Type 0} {P Q : Type 0} (r : Result A E) → (P → Q) → OnErr r P → OnErr r Q
-map_err (Ok a) f h = tt
-map_err (Err e) f h = f h
-
--- a node by its two lists
-pub two : (ss ts : List Taken) (es fs : List NodeError) → ss ≡ ts → es ≡ fs → ◌≡◌ {A = Node} (record { sessions = ss; errors = es }) (record { sessions = ts; errors = fs })
-two ss ts es fs p q = ap (λ (zs : List Taken). let n : Node = record { sessions = zs; errors = es } in n) p ∙ ap (λ (zs : List NodeError). let n : Node = record { sessions = ts; errors = zs } in n) q
+pub at_within : (k : ℕ) (xs : List Taken) (at : ℕ) → IsAt xs k at → at < length xs
+at_within k xs at is = within xs at is.session is.is_there

@@ -10,10 +10,9 @@ use Rattle.jupyter_messages.specs.Reading.{message_in}
 use Rattle.jupyter_frames.specs.Framing.{frame, IsBody, IsRest, place_after, Held}
 use Rattle.jupyter_frames.specs.Turns.{nothing_held}
 use Rattle.node_intake.specs.Intake.{Node, no_sessions, with_frames, with_message}
-use Rattle.node_intake.specs.declared.session.TakenIn.{TakenIn}
 use Rattle.node_intake.specs.declared.session.IntakeEnd.{IntakeEnd}
 use Rattle.node_intake.specs.declared.session.IntakeEnd.TheVariants.{End, Failed, TooMany}
-use Rattle.node_intake.specs.Taking.{node_in, IsTakenIn, EndsSo, TookSoFar, IsPlaceOf}
+use Rattle.node_intake.specs.Taking.{HasTaken, EndsSo, TookSoFar, IsPlaceOf}
 
 -- ---- frames
 
@@ -37,27 +36,24 @@ place_more p q n bodies body is size after =
     let l = ap length (frames_more bodies body) ∙ length-append (flat_map frame bodies) (frame body) in
     omega (arith, is, size, after, l, frame_length body)
 
-pub nothing_taken : (hosts : ℕ) → TookSoFar hosts [] nothing_held no_sessions
-nothing_taken hosts = record { bodies = []; are_bodies = tt; is_stream = refl; place = refl; is_node = refl }
-
-pub from_nothing : (hosts : ℕ) (held : Held) (node : Node) → held ≡ nothing_held → node ≡ no_sessions → TookSoFar hosts [] held node
-from_nothing hosts held node none empty = subst (λ (h : Held). TookSoFar hosts [] h node) (sym none) (subst (λ (n : Node). TookSoFar hosts [] nothing_held n) (sym empty) (nothing_taken hosts))
+pub from_nothing : (hosts : ℕ) (held : Held) (IsNode : Node → Type 0) → held ≡ nothing_held → IsNode no_sessions → TookSoFar hosts [] held IsNode
+from_nothing hosts held IsNode none is = subst (λ (h : Held). TookSoFar hosts [] h IsNode) (sym none) (record { bodies = []; are_bodies = tt; is_stream = refl; place = refl; is_node = is })
 
 -- a frame is taken in
-pub one_more : (hosts : ℕ) (bytes body : List ℕ) (held new : Held) (node then : Node) → IsBody body → held.bytes ≡ frame body ++ new.bytes → new.place ≡ place_after held.place (4 + length body)
-    → then ≡ with_message hosts node (message_in body) → TookSoFar hosts bytes held node → TookSoFar hosts bytes new then
-one_more hosts bytes body held new node then is parts place takes t = record {
+pub one_more : (hosts : ℕ) (bytes body : List ℕ) (held new : Held) (IsNode IsThen : Node → Type 0) → IsBody body → held.bytes ≡ frame body ++ new.bytes → new.place ≡ place_after held.place (4 + length body)
+    → ((node : Node) → IsNode node → IsThen (with_message hosts node (message_in body))) → TookSoFar hosts bytes held IsNode → TookSoFar hosts bytes new IsThen
+one_more hosts bytes body held new IsNode IsThen is parts place takes t = record {
   bodies = t.bodies ++ body ∷ [];
   are_bodies = bodies_more t.bodies body t.are_bodies is;
   is_stream = t.is_stream ∙ ap (λ z. flat_map frame t.bodies ++ z) parts ∙ sym (append_assoc (flat_map frame t.bodies) (frame body) new.bytes)
       ∙ ap (λ z. z ++ new.bytes) (sym (frames_more t.bodies body));
   place = place_more held.place new.place (4 + length body) t.bodies body t.place refl place;
-  is_node = takes ∙ ap (λ z. with_message hosts z (message_in body)) t.is_node ∙ sym (frame_more hosts no_sessions t.bodies body);
+  is_node = subst IsThen (sym (frame_more hosts no_sessions t.bodies body)) (takes (with_frames hosts no_sessions t.bodies) t.is_node);
 }
 
 -- a piece comes
-pub piece_more : (hosts : ℕ) (bytes piece : List ℕ) (held new : Held) (node : Node) → new ≡ record held { bytes = held.bytes ++ piece } → TookSoFar hosts bytes held node → TookSoFar hosts (bytes ++ piece) new node
-piece_more hosts bytes piece held new node is t = subst (λ (h : Held). TookSoFar hosts (bytes ++ piece) h node) (sym is) (record {
+pub piece_more : (hosts : ℕ) (bytes piece : List ℕ) (held new : Held) (IsNode : Node → Type 0) → new ≡ record held { bytes = held.bytes ++ piece } → TookSoFar hosts bytes held IsNode → TookSoFar hosts (bytes ++ piece) new IsNode
+piece_more hosts bytes piece held new IsNode is t = subst (λ (h : Held). TookSoFar hosts (bytes ++ piece) h IsNode) (sym is) (record {
   bodies = t.bodies;
   are_bodies = t.are_bodies;
   is_stream = ap (λ z. z ++ piece) t.is_stream ∙ append_assoc (flat_map frame t.bodies) held.bytes piece;
@@ -88,30 +84,30 @@ risen_by_one_more n a b c (inl h) (inr k) = inr k
 risen_by_one_more n a b c (inr h) (inr k) = inr k
 
 -- of what comes in these pieces all is taken in that was, and the new frames
-pub record GoesOn (hosts : ℕ) (old new : Option (List ℕ)) (held then : Held) (node taken : Node) : Type 0 where
+pub record GoesOn (hosts : ℕ) (old new : Option (List ℕ)) (held then : Held) (IsNode IsThen : Node → Type 0) : Type 0 where
   pub bytes : List ℕ
   pub takes : Takes old new bytes
-  pub took : (before : List ℕ) → TookSoFar hosts before held node → TookSoFar hosts (before ++ bytes) then taken
+  pub took : (before : List ℕ) → TookSoFar hosts before held IsNode → TookSoFar hosts (before ++ bytes) then IsThen
 
-pub stays : (hosts : ℕ) (left : Option (List ℕ)) (held : Held) (node : Node) → GoesOn hosts left left held held node node
-stays hosts left held node = record {
+pub stays : (hosts : ℕ) (left : Option (List ℕ)) (held : Held) (IsNode : Node → Type 0) → GoesOn hosts left left held held IsNode IsNode
+stays hosts left held IsNode = record {
   bytes = [];
   takes = Takes-none left;
-  took = λ before t. subst (λ (z : List ℕ). TookSoFar hosts z held node) (sym (append-nil before)) t;
+  took = λ before t. subst (λ (z : List ℕ). TookSoFar hosts z held IsNode) (sym (append-nil before)) t;
 }
 
-pub took_both : (hosts : ℕ) (a b : List ℕ) (h i j : Held) (x y z : Node)
-    → ((before : List ℕ) → TookSoFar hosts before h x → TookSoFar hosts (before ++ a) i y)
-    → ((before : List ℕ) → TookSoFar hosts before i y → TookSoFar hosts (before ++ b) j z)
-    → (before : List ℕ) → TookSoFar hosts before h x → TookSoFar hosts (before ++ (a ++ b)) j z
-took_both hosts a b h i j x y z p q before t = subst (λ (w : List ℕ). TookSoFar hosts w j z) (append_assoc before a b) (q (before ++ a) (p before t))
+pub took_both : (hosts : ℕ) (a b : List ℕ) (h i j : Held) (X Y Z : Node → Type 0)
+    → ((before : List ℕ) → TookSoFar hosts before h X → TookSoFar hosts (before ++ a) i Y)
+    → ((before : List ℕ) → TookSoFar hosts before i Y → TookSoFar hosts (before ++ b) j Z)
+    → (before : List ℕ) → TookSoFar hosts before h X → TookSoFar hosts (before ++ (a ++ b)) j Z
+took_both hosts a b h i j X Y Z p q before t = subst (λ (w : List ℕ). TookSoFar hosts w j Z) (append_assoc before a b) (q (before ++ a) (p before t))
 
-pub goes_on : (hosts : ℕ) (old mid new : Option (List ℕ)) (h i j : Held) (x y z : Node) (b : List ℕ) → GoesOn hosts old mid h i x y → Takes mid new b
-    → ((before : List ℕ) → TookSoFar hosts before i y → TookSoFar hosts (before ++ b) j z) → GoesOn hosts old new h j x z
-goes_on hosts old mid new h i j x y z b g t took = record {
+pub goes_on : (hosts : ℕ) (old mid new : Option (List ℕ)) (h i j : Held) (X Y Z : Node → Type 0) (b : List ℕ) → GoesOn hosts old mid h i X Y → Takes mid new b
+    → ((before : List ℕ) → TookSoFar hosts before i Y → TookSoFar hosts (before ++ b) j Z) → GoesOn hosts old new h j X Z
+goes_on hosts old mid new h i j X Y Z b g t took = record {
   bytes = g.bytes ++ b;
   takes = Takes-both old mid new g.bytes b g.takes t;
-  took = took_both hosts g.bytes b h i j x y z g.took took;
+  took = took_both hosts g.bytes b h i j X Y Z g.took took;
 }
 
 -- ---- the end
@@ -127,17 +123,17 @@ broken_is : (held : Held) (place : ℕ) (broken : Option ℕ) → held.place ≡
 broken_is held place None is none = inl (none, refl)
 broken_is held place (Some p) is some = inr (some.0, ap Some (some.1 ∙ is))
 
-pub all_taken : (hosts : ℕ) (bytes : List ℕ) (held : Held) (node : Node) (t : TakenIn) (end : IntakeEnd) (left : Option (List ℕ)) → TookSoFar hosts bytes held node → node_in t ≡ node → IsPlaceOf held t.broken
-    → EndsSo end left held.bytes → (taken : IsTakenIn hosts bytes t) × EndsSo end left taken.rest
-all_taken hosts bytes held node t end left took same place ends = (
+pub all_taken : (hosts : ℕ) (bytes : List ℕ) (held : Held) (IsNode IsThen : Node → Type 0) (broken : Option ℕ) (end : IntakeEnd) (left : Option (List ℕ)) → TookSoFar hosts bytes held IsNode
+    → ((node : Node) → IsNode node → IsThen node) → IsPlaceOf held broken → EndsSo end left held.bytes → (has : HasTaken hosts bytes IsThen broken) × EndsSo end left has.rest
+all_taken hosts bytes held IsNode IsThen broken end left took then place ends = (
   record {
     bodies = took.bodies;
     rest = held.bytes;
     are_bodies = took.are_bodies;
     is_rest = ends_rest end left held.bytes ends;
     is_stream = took.is_stream;
-    node = same ∙ took.is_node;
-    broken = broken_is held _ t.broken took.place place;
+    node = then _ took.is_node;
+    broken = broken_is held _ broken took.place place;
   },
   ends,
 )

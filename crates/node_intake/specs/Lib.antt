@@ -1,3 +1,4 @@
 pub mod Sessions
+pub mod Standing
 pub mod Taking
 pub mod Intake

@@ -1,10 +1,27 @@
 -- Sessions, as the definition of an intake has them.
-use Rattle.std.specs.Prelude.{◌≡◌, ℕ, List, [], ◌∷◌, map, slice_get, Some, None}
+use Rattle.std.specs.Prelude.{◌≡◌, ℕ, zero, suc, ◌<◌, length, List, [], ◌∷◌, ◌++◌, slice_get, Some, None}
+use Rattle.session_core.specs.declared.request.Header.{Header}
+use Rattle.session_core.specs.declared.request.Channel.{Channel}
+use Rattle.session_core.specs.declared.request.Request.{Request}
 use Rattle.node_intake.specs.Intake.{Taken, session_of}
 use Rattle.node_intake.specs.declared.session.Session.{Session}
 
 abbrev pub taken_of : Session → Taken
 taken_of s = record { kernel = s.kernel; host = s.host; request = s.request; channel = s.channel; requests = s.requests }
+
+-- how many requests the session at this index has
+abbrev pub asked_of : List Session → ℕ → ℕ
+asked_of [] at = 0
+asked_of (s ∷ sessions) zero = length s.requests
+asked_of (s ∷ sessions) (suc at) = asked_of sessions at
+
+-- a session of which nothing was asked yet
+abbrev pub new_session : ℕ → ℕ → Header → Channel → Taken
+new_session kernel host request channel = record { kernel = kernel; host = host; request = request; channel = channel; requests = [] }
+
+-- the request is put after the others
+abbrev pub with_more : Taken → Request → Taken
+with_more s r = record s { requests = s.requests ++ r ∷ [] }
 
 -- no two sessions are of one kernel
 abbrev pub AreApart : List Taken → Type 0
@@ -12,8 +29,12 @@ AreApart [] = Unit {0}
 AreApart (s ∷ more) = (session_of s.kernel more ≡ None) × AreApart more
 
 -- the session of this kernel, and that it is at that index
-pub record IsAt (sessions : List Session) (kernel at : ℕ) : Type 0 where
-  pub session : Session
+pub record IsAt (sessions : List Taken) (kernel at : ℕ) : Type 0 where
+  pub session : Taken
   pub is_there : slice_get sessions at ≡ Some session
   pub is_of : session.kernel ≡ kernel
-  pub is_found : session_of kernel (map taken_of sessions) ≡ Some (taken_of session)
+  pub is_found : session_of kernel sessions ≡ Some session
+
+-- on each of so many hosts a session can be opened
+abbrev pub HasHosts : (ℕ → Type 0) → ℕ → Type 0
+HasHosts IsHost hosts = (host : ℕ) → host < hosts → IsHost host

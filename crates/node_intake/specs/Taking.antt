@@ -13,15 +13,18 @@ use Rattle.node_intake.specs.Sessions.{taken_of}
 abbrev pub node_in : TakenIn → Node
 node_in t = record { sessions = map taken_of t.sessions; errors = t.errors }
 
--- This was taken in of these bytes: all whole frames up to the first place where no whole frame begins, and that place.
-pub record IsTakenIn (hosts : ℕ) (bytes : List ℕ) (t : TakenIn) : Type 0 where
+-- Of these bytes this node was taken in: all whole frames up to the first place where no whole frame begins, and that place.
+pub record HasTaken (hosts : ℕ) (bytes : List ℕ) (IsNode : Node → Type 0) (broken_at : Option ℕ) : Type 0 where
   pub bodies : List (List ℕ)
   pub rest : List ℕ
   pub are_bodies : AllByRecursion IsBody bodies
   pub is_rest : IsRest rest
   pub is_stream : bytes ≡ stream bodies rest
-  pub node : node_in t ≡ with_frames hosts no_sessions bodies
-  pub broken : ((rest ≡ []) × (t.broken ≡ None)) ⊎ ((rest ≢ []) × (t.broken ≡ Some (place_after 0 (length (flat_map frame bodies)))))
+  pub node : IsNode (with_frames hosts no_sessions bodies)
+  pub broken : ((rest ≡ []) × (broken_at ≡ None)) ⊎ ((rest ≢ []) × (broken_at ≡ Some (place_after 0 (length (flat_map frame bodies)))))
+
+abbrev pub IsTakenIn : ℕ → List ℕ → TakenIn → Type 0
+IsTakenIn hosts bytes t = HasTaken hosts bytes (λ node. node_in t ≡ node) t.broken
 
 -- How taking in ended, with this left in the source, and this not taken in of what came: at the end of the input or at a bad
 -- length, or before either.
@@ -32,13 +35,13 @@ EndsSo TooMany left rest = IsBegun rest
 
 -- ---- on the way
 
--- of these bytes the whole frames were taken in, and the others are held
-pub record TookSoFar (hosts : ℕ) (bytes : List ℕ) (held : Held) (node : Node) : Type 0 where
+-- of these bytes the whole frames were taken in, as this node, and the others are held
+pub record TookSoFar (hosts : ℕ) (bytes : List ℕ) (held : Held) (IsNode : Node → Type 0) : Type 0 where
   pub bodies : List (List ℕ)
   pub are_bodies : AllByRecursion IsBody bodies
   pub is_stream : bytes ≡ stream bodies held.bytes
   pub place : held.place ≡ place_after 0 (length (flat_map frame bodies))
-  pub is_node : node ≡ with_frames hosts no_sessions bodies
+  pub is_node : IsNode (with_frames hosts no_sessions bodies)
 
 -- no whole frame is held, and a bad length only if no more may come
 abbrev pub Stands : Bool → List ℕ → Type 0

@@ -1,22 +1,26 @@
 //! The frames that are held, taken in one after the other.
 
 ghost use Rattle.std.specs.Prelude.{◌≡◌, ℕ, List, IfOk, OnOk};
-ghost use Rattle.node_intake.specs.Taking.{TookSoFar, Stands, IsPlaceOf, node_in};
+ghost use Rattle.node_intake.specs.Sessions.{HasHosts};
+ghost use Rattle.node_intake.specs.Standing.{StandsFor};
+ghost use Rattle.node_intake.specs.Taking.{TookSoFar, Stands, IsPlaceOf};
 
+use crate::desk::Desk;
 use crate::node::Intake;
-use crate::session::TakenIn;
+use crate::session::Handed;
 use jupyter_frames::{Framer, Next};
 use plain_data::Items;
 use std::alloc::{AllocError, Global};
 
 /// Takes in the whole frames that are held, and gives whether more may come: none may after a bad length.
-pub fn take_frames(
+pub fn take_frames<D: Desk>(
     alloc: Global,
     hosts: u32,
     framer: &mut Framer,
-    node: &mut Intake,
+    node: &mut Intake<D>,
 ) -> Result<bool, AllocError>
-    ensures took { OnOk result ((bytes : List ℕ) → TookSoFar hosts bytes framer.old node.old → TookSoFar hosts bytes framer.new node.new) }
+    requires hosts { HasHosts D.is_host hosts }
+    ensures took { OnOk result ((bytes : List ℕ) → TookSoFar hosts bytes framer.old (StandsFor D.holds node.old) → TookSoFar hosts bytes framer.new (StandsFor D.holds node.new)) }
     ensures stands { IfOk result (λ more. Stands more framer.new.bytes) }
 {
     loop {
@@ -37,13 +41,14 @@ fn broken_at(framer: &Framer) -> Option<u64>
 }
 
 /// What was taken in, when no more comes.
-pub fn taken_in(framer: &Framer, node: Intake) -> TakenIn
-    ensures node { node_in result ≡ node }
+pub fn taken_in<D: Desk>(framer: &Framer, node: Intake<D>) -> Handed<D>
+    ensures desk { result.desk ≡ node.desk }
+    ensures errors { result.errors ≡ node.errors.items }
     ensures broken { IsPlaceOf framer.now result.broken }
 {
-    let Intake { sessions, errors } = node;
-    TakenIn {
-        sessions: Items::from_vec(sessions),
+    let Intake { desk, errors } = node;
+    Handed {
+        desk,
         errors: Items::from_vec(errors),
         broken: broken_at(framer),
     }

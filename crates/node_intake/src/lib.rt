@@ -7,11 +7,15 @@
 //! tables of cases run `take_in`, through the program.
 #![tactic(auto)]
 
+mod desk;
 mod frames;
 pub mod laws;
+mod listed;
 mod node;
 mod pieces;
 mod session;
 
-pub use pieces::{read_room, take_in};
-pub use session::{IntakeEnd, Session, TakenIn};
+pub use desk::Desk;
+pub use listed::take_in;
+pub use pieces::{read_room, take_in_at};
+pub use session::{Handed, IntakeEnd, Session, TakenIn};

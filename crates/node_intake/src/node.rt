@@ -1,38 +1,25 @@
 //! What was taken in so far, and one message more.
 
-ghost use Rattle.std.specs.Prelude.{◌≡◌, ◌<◌, [], ◌∷◌, ◌++◌, length, map, nat_le, slice_get, slice_set, Some, None, true, Ok, MatchOption, OnOk, OnErr};
+ghost use Rattle.std.specs.Prelude.{◌≡◌, ◌<◌, List, [], ◌∷◌, ◌++◌, length, map, nat_le, slice_get, Some, None, true, Ok, MatchOption, OnOk};
 ghost use Rattle.jupyter_messages.specs.Outcomes.{is_told};
 ghost use Rattle.jupyter_messages.specs.Reading.{message_in};
 ghost use Rattle.node_intake.specs.Intake as spec;
-ghost use Rattle.node_intake.specs.Intake.{Taken};
-ghost use Rattle.node_intake.specs.Sessions.{taken_of, IsAt};
-ghost use Rattle.node_intake.specs.declared.session.Session.{Session as Opened};
+ghost use Rattle.node_intake.specs.Intake.{Taken, Node};
+ghost use Rattle.node_intake.specs.Sessions.{IsAt, HasHosts, new_session};
+ghost use Rattle.node_intake.specs.Standing.{StandsFor, Becomes};
 
-use crate::session::Session;
+use crate::desk::Desk;
 use jupyter_messages::{Message, MessageFault, MessageKind, read_message};
-use plain_data::{Items, Text};
+use plain_data::Text;
 use reply_frames::{About, NodeError, NodeErrorKind};
 use session_core::{Ask, Channel, Header, Request};
 use std::alloc::{AllocError, Global};
-use std::marker::Model;
 
-/// The sessions and the errors so far.
+/// The desk with its sessions, and the errors so far.
 #[derive(Drop)]
-pub struct Intake {
-    pub sessions: Vec<Session>,
+pub struct Intake<D> {
+    pub desk: D,
     pub errors: Vec<NodeError>,
-}
-
-impl Model for Intake {
-    ghost use Rattle.std.specs.Prelude.{map};
-    ghost use Rattle.node_intake.specs.Intake.{Node};
-    ghost use Rattle.node_intake.specs.Sessions.{taken_of, AreApart};
-
-    ghost Value = { Node };
-
-    ghost view = { λ n. record { sessions = map taken_of n.sessions.items; errors = n.errors.items } };
-
-    ghost invariant = { λ n. AreApart (map taken_of n.sessions.items) };
 }
 
 /// The most sessions of a node.
@@ -42,11 +29,12 @@ const MOST_SESSIONS: usize = 256;
 const MOST_REQUESTS: usize = 65_536;
 
 /// The index of this kernel's session, if there is one.
-fn index_of(sessions: &[Session], kernel: u128) -> Option<usize>
-    ensures { MatchOption result (spec.session_of kernel (map taken_of sessions.now) ≡ None) (λ at. IsAt sessions.now kernel at) }
+fn index_of<D: Desk>(desk: &D, kernel: u128) -> Option<usize>
+    ensures { MatchOption result ((ts : List Taken) → D.holds desk.now ts → spec.session_of kernel ts ≡ None)
+        (λ at. (at < D.count desk.now) × ((ts : List Taken) → D.holds desk.now ts → IsAt ts kernel at)) }
 {
-    for (at, session) in sessions.iter().enumerate() {
-        if session.kernel == kernel {
+    for at in 0..desk.sessions() {
+        if desk.kernel(at) == kernel {
             return Some(at);
         }
     }
@@ -54,37 +42,28 @@ fn index_of(sessions: &[Session], kernel: u128) -> Option<usize>
 }
 
 /// Whether the session at that index has as many requests as it may have.
-fn is_full(sessions: &[Session], at: usize) -> bool
-    requires { at < length sessions.now }
-    ensures { (s : Opened) → slice_get sessions.now at ≡ Some s → result ≡ nat_le spec.most_requests (length s.requests) }
+fn is_full<D: Desk>(desk: &D, at: usize) -> bool
+    requires { at < D.count desk.now }
+    ensures full { result ≡ nat_le spec.most_requests (D.asked desk.now at) }
+    ensures asked { (ts : List Taken) (s : Taken) → D.holds desk.now ts → slice_get ts at ≡ Some s → length s.requests ≡ D.asked desk.now at }
 {
-    MOST_REQUESTS <= sessions[at].requests.len()
+    MOST_REQUESTS <= desk.requests(at)
 }
 
-/// Puts a request at the end of those of the session at that index. After an error nothing is changed.
-fn push_request(sessions: &mut [Session], at: usize, request: Request) -> Result<(), AllocError>
-    requires { at < length sessions.old }
-    ensures ok { OnOk result ((s : Opened) → slice_get sessions.old at ≡ Some s
-        → sessions.new ≡ slice_set sessions.old at (record s { requests = s.requests ++ request ∷ [] })) }
-    ensures err { OnErr result (sessions.new ≡ sessions.old) }
-{
-    sessions[at].requests.push(request)
-}
-
-impl Intake {
+impl<D: Desk> Intake<D> {
     /// Nothing was taken in.
-    pub fn new(alloc: Global) -> Intake
-        ensures { result ≡ spec.no_sessions }
+    pub fn new(alloc: Global, desk: D) -> Intake<D>
+        requires { D.holds desk [] }
+        ensures { StandsFor D.holds result spec.no_sessions }
     {
         Intake {
-            sessions: Vec::new(alloc),
+            desk,
             errors: Vec::new(alloc),
         }
     }
 
     fn fail(&mut self, kind: NodeErrorKind, about: Option<About>) -> Result<(), AllocError>
-        ensures ok { OnOk result (self.new ≡ spec.failed self.old kind about) }
-        ensures err { OnErr result (self.new ≡ self.old) }
+        ensures { OnOk result (Becomes D.holds (λ node. spec.failed node kind about) self.old self.new) }
     {
         self.errors.push(NodeError { kind, about })?;
         Ok(())
@@ -97,23 +76,29 @@ impl Intake {
         kernel: u128,
         header: Header,
     ) -> Result<(), AllocError>
-        ensures ok { OnOk result (self.new ≡ spec.failed self.old kind (Some (record { kernel = kernel; header = header }))) }
-        ensures err { OnErr result (self.new ≡ self.old) }
+        ensures { OnOk result (Becomes D.holds (λ node. spec.failed node kind (Some (record { kernel = kernel; header = header }))) self.old self.new) }
     {
         self.fail(kind, Some(About { kernel, header }))
     }
 
-    /// Adds a session, of a kernel that has none.
-    fn begin(&mut self, session: Session) -> Result<(), AllocError>
-        requires { spec.session_of session.kernel self.old.sessions ≡ None }
-        ensures ok { OnOk result (self.new ≡ record self.old { sessions = self.old.sessions ++ taken_of session ∷ [] }) }
-        ensures err { OnErr result (self.new ≡ self.old) }
+    /// Opens a session on a host that is there, if its kernel has none.
+    fn begin(
+        &mut self,
+        alloc: Global,
+        kernel: u128,
+        host: u32,
+        header: Header,
+        channel: Channel,
+    ) -> Result<(), AllocError>
+        requires host { D.is_host host }
+        requires room { D.count self.old.desk < spec.most_sessions }
+        ensures { OnOk result ((node : Node) → StandsFor D.holds self.old node → spec.session_of kernel node.sessions ≡ None
+            → StandsFor D.holds self.new (record node { sessions = node.sessions ++ new_session kernel host header channel ∷ [] })) }
     {
-        self.sessions.push(session)?;
-        Ok(())
+        self.desk.open(alloc, kernel, host, header, channel)
     }
 
-    /// Opens a session of a kernel that has none, if the host is there and less than 256 sessions are open.
+    /// Opens a session, if its kernel has none, the host is there and less than 256 sessions are open.
     fn open_new(
         &mut self,
         alloc: Global,
@@ -123,24 +108,17 @@ impl Intake {
         header: Header,
         channel: Channel,
     ) -> Result<(), AllocError>
-        requires { spec.session_of kernel self.old.sessions ≡ None }
-        ensures ok { OnOk result (self.new ≡ spec.opening hosts self.old
-            (record { header = header; channel = channel; kernel = kernel; kind = MessageKind.Open host }) host None) }
-        ensures err { OnErr result (self.new ≡ self.old) }
+        requires hosts { HasHosts D.is_host hosts }
+        ensures { OnOk result ((node : Node) → StandsFor D.holds self.old node → spec.session_of kernel node.sessions ≡ None
+            → StandsFor D.holds self.new (spec.opening hosts node (record { header = header; channel = channel; kernel = kernel; kind = MessageKind.Open host }) host None)) }
     {
         if u64::from(hosts) <= host {
             return self.fail_about(NodeErrorKind::UnknownHost(host), kernel, header);
         }
-        if MOST_SESSIONS <= self.sessions.len() {
+        if MOST_SESSIONS <= self.desk.sessions() {
             return self.fail_about(NodeErrorKind::TooManySessions, kernel, header);
         }
-        self.begin(Session {
-            kernel,
-            host: host as u32,
-            request: header,
-            channel,
-            requests: Items::new(alloc),
-        })
+        self.begin(alloc, kernel, host as u32, header, channel)
     }
 
     fn open(
@@ -152,11 +130,11 @@ impl Intake {
         header: Header,
         channel: Channel,
     ) -> Result<(), AllocError>
-        ensures ok { OnOk result (self.new ≡ spec.opening hosts self.old
-            (record { header = header; channel = channel; kernel = kernel; kind = MessageKind.Open host }) host (spec.session_of kernel self.old.sessions)) }
-        ensures err { OnErr result (self.new ≡ self.old) }
+        requires hosts { HasHosts D.is_host hosts }
+        ensures { OnOk result (Becomes D.holds (λ node. spec.opening hosts node
+            (record { header = header; channel = channel; kernel = kernel; kind = MessageKind.Open host }) host (spec.session_of kernel node.sessions)) self.old self.new) }
     {
-        match index_of(&self.sessions, kernel) {
+        match index_of(&self.desk, kernel) {
             Some(_) => self.fail_about(NodeErrorKind::OpenedTwice, kernel, header),
             None => self.open_new(alloc, hosts, host, kernel, header, channel),
         }
@@ -164,11 +142,13 @@ impl Intake {
 
     /// Puts a request to the session of its kernel, which is at that index.
     fn admit(&mut self, at: usize, kernel: u128, request: Request) -> Result<(), AllocError>
-        requires { (s : Taken) × (slice_get self.old.sessions at ≡ Some s) × (s.kernel ≡ kernel) }
-        ensures ok { OnOk result (self.new ≡ record self.old { sessions = map (spec.with_request kernel request) self.old.sessions }) }
-        ensures err { OnErr result (self.new ≡ self.old) }
+        requires at { at < D.count self.old.desk }
+        requires frontend { request.frontend ≡ 0 }
+        requires few { D.asked self.old.desk at < spec.most_requests }
+        ensures { OnOk result ((node : Node) → StandsFor D.holds self.old node → IsAt node.sessions kernel at
+            → StandsFor D.holds self.new (record node { sessions = map (spec.with_request kernel request) node.sessions })) }
     {
-        push_request(&mut self.sessions, at, request)
+        self.desk.admit(at, request)
     }
 
     fn ask(
@@ -178,14 +158,13 @@ impl Intake {
         channel: Channel,
         ask: Ask,
     ) -> Result<(), AllocError>
-        ensures ok { OnOk result (self.new ≡ spec.asking self.old
-            (record { header = header; channel = channel; kernel = kernel; kind = MessageKind.Ask ask }) ask (spec.session_of kernel self.old.sessions)) }
-        ensures err { OnErr result (self.new ≡ self.old) }
+        ensures { OnOk result (Becomes D.holds (λ node. spec.asking node
+            (record { header = header; channel = channel; kernel = kernel; kind = MessageKind.Ask ask }) ask (spec.session_of kernel node.sessions)) self.old self.new) }
     {
-        let Some(at) = index_of(&self.sessions, kernel) else {
+        let Some(at) = index_of(&self.desk, kernel) else {
             return self.fail_about(NodeErrorKind::UnknownKernel, kernel, header);
         };
-        if is_full(&self.sessions, at) {
+        if is_full(&self.desk, at) {
             return self.fail_about(NodeErrorKind::TooManyRequests, kernel, header);
         }
         self.admit(
@@ -206,8 +185,8 @@ impl Intake {
         hosts: u32,
         message: Message,
     ) -> Result<(), AllocError>
-        ensures ok { OnOk result (self.new ≡ spec.with_message hosts self.old (Ok message)) }
-        ensures err { OnErr result (self.new ≡ self.old) }
+        requires hosts { HasHosts D.is_host hosts }
+        ensures { OnOk result (Becomes D.holds (λ node. spec.with_message hosts node (Ok message)) self.old self.new) }
     {
         let Message {
             header,
@@ -224,8 +203,7 @@ impl Intake {
     /// A body that isn't read as a message.
     fn take_fault(&mut self, alloc: Global, fault: MessageFault) -> Result<(), AllocError>
         ensures told { OnOk result (is_told fault ≡ true) }
-        ensures node { OnOk result (self.new ≡ spec.unread self.old fault) }
-        ensures err { OnErr result (self.new ≡ self.old) }
+        ensures node { OnOk result (Becomes D.holds (λ node. spec.unread node fault) self.old self.new) }
     {
         match fault {
             MessageFault::OutOfMemory => Err(AllocError),
@@ -241,10 +219,10 @@ impl Intake {
         }
     }
 
-    /// Takes in one frame more, with this body. After an error nothing is changed.
+    /// Takes in one frame more, with this body.
     pub fn take_body(&mut self, alloc: Global, hosts: u32, body: &[u8]) -> Result<(), AllocError>
-        ensures ok { OnOk result (self.new ≡ spec.with_message hosts self.old (message_in body.now)) }
-        ensures err { OnErr result (self.new ≡ self.old) }
+        requires hosts { HasHosts D.is_host hosts }
+        ensures { OnOk result (Becomes D.holds (λ node. spec.with_message hosts node (message_in body.now)) self.old self.new) }
     {
         match read_message(alloc, body) {
             Ok(message) => self.take_message(alloc, hosts, message),

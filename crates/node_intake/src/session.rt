@@ -24,6 +24,17 @@ pub struct TakenIn {
     pub broken: Option<u64>,
 }
 
+/// What was taken in at a desk.
+#[derive(Drop)]
+pub struct Handed<D> {
+    /// Where the sessions were opened and the requests were handed in.
+    pub desk: D,
+    /// The errors, in order. The error that the stream is broken isn't one of them.
+    pub errors: Items<NodeError>,
+    /// Where the stream stops being frames, as for `TakenIn`.
+    pub broken: Option<u64>,
+}
+
 /// How taking in ended.
 #[derive(Clone, Copy, Debug, PartialEq, Eq)]
 pub enum IntakeEnd {

@@ -1,8 +1,6 @@
-use Rattle.std.proofs.Common.{◌≡◌, drop}
-use Rattle.std.specs.Prelude.{map}
-use Rattle.node_intake.specs.Intake.{session_of}
-use Rattle.node_intake.specs.Sessions.{taken_of}
+use Rattle.std.proofs.Common.{◌≡◌, List, drop}
+use Rattle.node_intake.specs.Intake.{Taken, session_of}
 use Rattle.node_intake.proofs.node.index_of.Given as goal
 
 abbrev pub invariant-loop-at : goal.invariant-loop-at
-invariant-loop-at l = session_of l.kernel (map taken_of l.sessions) ≡ session_of l.kernel (map taken_of (drop l.at l.sessions))
+invariant-loop-at g l = (ts : List Taken) → g.D.Desk.holds l.desk ts → session_of l.kernel ts ≡ session_of l.kernel (drop l.at ts)
