@@ -170,9 +170,10 @@ def new_session():
     return session
 
 
-def history(codes):
-    """A session after these cells, with the records of its cells and its versions."""
-    session, records, versions, kept_alive = new_session(), [], [], []
+def history(codes, session=None):
+    """A session after these cells, with the records of its cells and its versions; of a new session, or of this one."""
+    session = session or new_session()
+    records, versions, kept_alive = [], [], []
     before = []
     for number, code in enumerate(codes, 1):
         meter = session.meter
