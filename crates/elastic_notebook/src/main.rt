@@ -3,16 +3,14 @@
 //! The contract of `run::top` is what the program does; everything else here is below it. `main` makes the real source,
 //! sink and feeds, calls it, and ends with its status.
 //!
-//! The contract leaves open when memory runs out, so a body that always answers 5 meets it. Therefore the tests run each command
-//! on its happy path.
+//! The contract leaves open when memory runs out, so a body that always answers 5 meets it. Therefore the tables of cases run each
+//! command on its happy path. The tests here are of what no table can give the program: a source, a sink or a feed that fails.
 #![tactic(auto)]
 
 #[cfg(test)]
-mod cell_tests;
+mod draw_tests;
 #[cfg(test)]
-mod checkpoint_tests;
-#[cfg(test)]
-mod move_tests;
+mod fault_tests;
 pub mod run;
 mod say;
 mod streams;
