@@ -1,13 +1,9 @@
 //! The desk of a run: sessions are opened in their cells, and requests are admitted to them, while workers run.
 
-ghost use Rattle.std.specs.Prelude.{◌≡◌, ◌+◌, ◌<◌, List, [], ◌∷◌, ◌++◌, length, slice_get, slice_set, Some, OnOk, OnErr, MatchResult};
-ghost use Rattle.nb_outside.specs.Feeds.{HasAll};
-ghost use Rattle.session_queues.specs.declared.items.MainItem.{MainItem};
-ghost use Rattle.session_queues.specs.Passes.{admitted_by};
-ghost use Rattle.session_queues.specs.Ends.{first_pass};
+ghost use Rattle.std.specs.Prelude.{◌≡◌, ◌<◌, [], cond, length, slice_get, Some, OnOk, OnErr};
+ghost use Rattle.session_queues.specs.Passes.{IsPassOf, admitted_by};
 ghost use Rattle.node_intake.specs.Intake.{most_requests};
-ghost use Rattle.node_run.specs.Admitted.{AreSeated, admitted_at, with_request};
-ghost use Rattle.node_run.specs.declared.open_session.OpenSession.{OpenSession};
+ghost use Rattle.node_run.specs.Admitted.{AreSeated, admitted_at, HasAdmitted};
 
 use crate::open_session::OpenSession;
 use host_workers::Hosts;
@@ -15,7 +11,7 @@ use nb_outside::{Feed, Feeds};
 use node_intake::Desk;
 use session_core::{Channel, Engine, Header, Request};
 use session_gate::{Name, SessionCell, Take};
-use session_queues::{Queues, Reader};
+use session_queues::{Pass, Queues, Reader};
 use std::alloc::{AllocError, Global};
 use std::marker::Model;
 use std::sync::Wait;
@@ -76,7 +72,7 @@ impl<'a, E: Engine + Drop, Q: Feeds, N: Name, R> AdmissionDesk<'a, E, Q, N, R> {
 
     /// The sessions that are open.
     pub fn into_sessions(self) -> Vec<OpenSession>
-        ensures sessions { result.items ≡ self }
+        ensures sessions { result.items ≡ self.entry }
         ensures seated { AreSeated result.items N.queues }
     {
         let AdmissionDesk {
@@ -130,11 +126,12 @@ impl<'a, E: Engine + Drop, Q: Feeds, N: Name, R: Wait> Desk for AdmissionDesk<'a
             unreachable!()
         };
         let engine = E::opened(alloc, host);
-        match self.node.cell(number).open(
+        let cell = self.node.cell(number);
+        match cell.open(
             self.rt, alloc, queues, kernel, self.hosts, engine, feed, host, request, channel,
         ) {
             Ok((pass, reader)) => {
-                close_reader(self.rt, self.node.cell(number), host, reader);
+                close_reader(self.rt, cell, host, reader);
                 self.sessions.push_reserved(OpenSession {
                     kernel,
                     host,
@@ -151,14 +148,10 @@ impl<'a, E: Engine + Drop, Q: Feeds, N: Name, R: Wait> Desk for AdmissionDesk<'a
     }
 
     fn admit(&mut self, at: usize, request: Request) -> Result<(), AllocError> {
-        let host = admit_to(
-            self.rt,
-            self.node.cell(at as u32),
-            &mut self.sessions,
-            at,
-            request,
-        )?;
-        self.node.wake(self.rt, host, at as u32);
+        let node = self.node;
+        let number = at as u32;
+        let host = admit_to(self.rt, node.cell(number), &mut self.sessions, at, request)?;
+        node.wake(self.rt, host, number);
         Ok(())
     }
 }
@@ -182,6 +175,25 @@ where
     }
 }
 
+/// Admits a request on this pass. Whether it was; if not, memory ran out.
+fn admit_on<E, F, N, R>(
+    rt: &R,
+    cell: &SessionCell<E, F, N>,
+    pass: &mut Pass,
+    request: Request,
+) -> bool
+where
+    E: Engine + Drop,
+    F: Feed,
+    N: Name,
+    R: Wait,
+    requires pass { IsPassOf cell.now.0 pass.old }
+    requires number { request.frontend ≡ pass.old.number }
+    ensures { pass.new ≡ cond result (admitted_by pass.old request) pass.old }
+{
+    cell.admit(rt, pass, request).is_ok()
+}
+
 /// Admits a request to the session at that index, which is in this cell, and gives the host on which it was opened. After an error
 /// the sessions are as before.
 fn admit_to<E, F, N, R>(
@@ -201,16 +213,13 @@ where
     requires seated { AreSeated sessions.old.items N.queues }
     requires frontend { request.frontend ≡ 0 }
     requires few { admitted_at sessions.old.items at < most_requests }
-    ensures ok { OnOk result ((o : OpenSession) → slice_get sessions.old.items at ≡ Some o
-        → sessions.new.items ≡ slice_set sessions.old.items at (with_request o request)) }
+    ensures ok { OnOk result (HasAdmitted sessions.old.items at request sessions.new.items) }
     ensures err { OnErr result (sessions.new.items ≡ sessions.old.items) }
 {
     let session = &mut sessions[at];
-    match cell.admit(rt, &mut session.pass, request) {
-        Ok(()) => {
-            session.requests += 1;
-            Ok(session.host)
-        }
-        Err(_) => Err(AllocError),
+    if !admit_on(rt, cell, &mut session.pass, request) {
+        return Err(AllocError);
     }
+    session.requests += 1;
+    Ok(session.host)
 }
