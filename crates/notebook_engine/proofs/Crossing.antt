@@ -45,18 +45,18 @@ Target-sync = search (text.the_sync, Expr-sync, sendable) depth 20
 
 Def-send : IsSend (Def.the_field).row
 Def-send = statements.both_send-Def
-  (search (Expr-send, sendable) depth 20) (search (Expr-sync, sendable) depth 20) (items.the_send _ text.the_send) (items.the_sync _ text.the_sync) Target-send Target-sync Expr-send Expr-sync
-  op.the_field_send op.the_field_sync (λ h s y. items.the_send h s) (λ h s y. items.the_sync h y) text.the_send text.the_sync shared.the_send shared.the_sync
+    (search (Expr-send, sendable) depth 20) (search (Expr-sync, sendable) depth 20) (items.the_send _ text.the_send) (items.the_sync _ text.the_sync) Target-send Target-sync Expr-send Expr-sync
+    op.the_field_send op.the_field_sync (λ h s y. items.the_send h s) (λ h s y. items.the_sync h y) text.the_send text.the_sync shared.the_send shared.the_sync
 
 Def-sync : IsSync (Def.the_field).row
 Def-sync = statements.both_sync-Def
-  (search (Expr-send, sendable) depth 20) (search (Expr-sync, sendable) depth 20) (items.the_send _ text.the_send) (items.the_sync _ text.the_sync) Target-send Target-sync Expr-send Expr-sync
-  op.the_field_send op.the_field_sync (λ h s y. items.the_send h s) (λ h s y. items.the_sync h y) text.the_send text.the_sync shared.the_send shared.the_sync
+    (search (Expr-send, sendable) depth 20) (search (Expr-sync, sendable) depth 20) (items.the_send _ text.the_send) (items.the_sync _ text.the_sync) Target-send Target-sync Expr-send Expr-sync
+    op.the_field_send op.the_field_sync (λ h s y. items.the_send h s) (λ h s y. items.the_sync h y) text.the_send text.the_sync shared.the_send shared.the_sync
 
 Stmt-send : IsSend (Stmt.the_field).row
 Stmt-send = statements.both_send-Stmt
-  (search (Expr-send, sendable) depth 20) (search (Expr-sync, sendable) depth 20) (items.the_send _ text.the_send) (items.the_sync _ text.the_sync) Target-send Target-sync Expr-send Expr-sync
-  op.the_field_send op.the_field_sync (λ h s y. items.the_send h s) (λ h s y. items.the_sync h y) text.the_send text.the_sync shared.the_send shared.the_sync
+    (search (Expr-send, sendable) depth 20) (search (Expr-sync, sendable) depth 20) (items.the_send _ text.the_send) (items.the_sync _ text.the_sync) Target-send Target-sync Expr-send Expr-sync
+    op.the_field_send op.the_field_sync (λ h s y. items.the_send h s) (λ h s y. items.the_sync h y) text.the_send text.the_sync shared.the_send shared.the_sync
 
 -- ---- states
 
