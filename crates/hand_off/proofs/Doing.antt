@@ -15,7 +15,8 @@ use Rattle.session_core.proofs.Progressing.{asked_more}
 use Rattle.session_core.proofs.Stepping.{noted_asks}
 use Rattle.session_core.proofs.Happening.{filter_yes, filter_no}
 use Rattle.session_core.proofs.Headline.{came_there}
-use Rattle.hand_off.specs.Doing.{IsAs, BeginsWith, Does}
+use Rattle.session_core.specs.Reaching.{BeginsWith}
+use Rattle.hand_off.specs.Doing.{IsAs, Does}
 
 -- ---- what waits
 

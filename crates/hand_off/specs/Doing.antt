@@ -5,6 +5,7 @@ use Rattle.session_core.specs.declared.entry.Entry.{Entry}
 use Rattle.session_core.specs.Meanings.{Meaning}
 use Rattle.session_core.specs.Legal.{main_asked, control_asked}
 use Rattle.session_core.specs.Machine.{Seat, out_with, parcel_for, carried_by, Session, Event, ends, seal, adopt, Happen}
+use Rattle.session_core.specs.Reaching.{BeginsWith}
 use Rattle.session_gate.specs.Facts.{Holds, Away, owner_of}
 use Rattle.hand_off.specs.declared.moving.Started.{Started}
 use Rattle.hand_off.specs.declared.moving.Started.TheVariants.{Refused, Resumed, Sealed}
@@ -15,10 +16,6 @@ pub record IsAs (main control : List Request) (seat : Seat) (entries : List Entr
   pub sits : s.seat ≡ seat
   pub main_list : main ≡ main_asked entries ++ s.waiting.main
   pub control_list : control ≡ control_asked entries ++ s.waiting.control
-
--- those begin with these
-abbrev pub BeginsWith : List Request → List Request → Type 0
-BeginsWith all first = (rest : List Request) × (all ≡ first ++ rest)
 
 module _ (meaning : Meaning) (hosts : ℕ) where
   -- these events lead from each session with the one journal and seat to one with the other, whatever was admitted, of which what is

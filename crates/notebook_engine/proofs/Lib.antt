@@ -7,3 +7,4 @@ pub mod Like
 pub mod Copies
 pub mod Restored
 pub mod Counted
+pub mod Crossing
