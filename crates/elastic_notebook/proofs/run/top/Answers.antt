@@ -1,3 +1,5 @@
+use denote.Exit.{no}
+use denote.Param.Send.{param_send, arg_send}
 use Rattle.std.proofs.Common.{ℕ, map, string_bytes, subst}
 use Rattle.graph_model.specs.declared.plan.Weights.{Weights}
 use Rattle.command_words.specs.Grammar.{IsCommand}
@@ -7,6 +9,7 @@ use Rattle.command_words.proofs.OneCommand.{one_command}
 use Rattle.node_run.specs.Ends.{IsCaused}
 use Rattle.node_run.specs.Streams.{StreamsTold}
 use Rattle.notebook_meaning.specs.Notebooks.{notebooks}
+use Rattle.notebook_engine.proofs.Crossing.{Notebook-send}
 use Rattle.save_command.specs.Saved.{SavesTold}
 use Rattle.elastic_notebook.specs.declared.say.Question.TheVariants as question
 use Rattle.elastic_notebook.specs.Saying.{SaysTold}
@@ -63,3 +66,6 @@ pub returns-in-Some-Restore-clause-statuses : goal.returns-in-Some-Restore-claus
 returns-in-Some-Restore-clause-statuses g c = λ d is.
     subst (λ (e : Command). IsStatusOf e c.say-in-Some-Restore.result)
     (one_command (map string_bytes c.args.words.now) (command.Restore) d (subst (IsCommand (map string_bytes c.args.words.now)) c.in-Some-Restore.field-0-is c.in-Some-Restore.ensures) is) c.say-in-Some-Restore.ensures.answered
+
+pub run_stream-requires-send-E : goal.run_stream-requires-send-E
+run_stream-requires-send-E g c = λ κs within. param_send 0 _ (arg_send _ no _ Notebook-send)
