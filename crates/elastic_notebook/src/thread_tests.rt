@@ -76,7 +76,7 @@ fn ran<R: AllocGlobal + Threads + Wait + Sync, G: Gate + Sync>(
     let mut sink = MemSink::new(alloc, 65_536, Vec::new(alloc));
     let mut feeds = WaitingFeeds {
         seen,
-        opened: 0,
+        has_opened: false,
         after: draws_after,
     };
     Ok(top(
@@ -106,7 +106,7 @@ fn two_sessions_run_at_once(rt: HostRuntime) -> Result<(), Fail> {
         &gate,
     )?;
     assert_eq!(rt; status, 0);
-    assert!(rt; seen.is_well(2));
+    assert!(rt; seen.is_well(true));
     Ok(())
 }
 
@@ -123,7 +123,7 @@ fn a_draw_waits_for_the_draw_of_another_session(rt: HostRuntime) -> Result<(), F
         &CountingGate(&seen),
     )?;
     assert_eq!(rt; status, 0);
-    assert!(rt; seen.is_well(2));
+    assert!(rt; seen.is_well(true));
     Ok(())
 }
 
@@ -140,7 +140,7 @@ fn a_cell_runs_while_the_source_is_still_read(rt: HostRuntime) -> Result<(), Fai
         &CountingGate(&seen),
     )?;
     assert_eq!(rt; status, 0);
-    assert!(rt; seen.is_well(1));
+    assert!(rt; seen.is_well(false));
     Ok(())
 }
 
@@ -157,6 +157,6 @@ fn the_source_is_read_on_once_the_first_cell_has_passed(rt: HostRuntime) -> Resu
         &CountingGate(&seen),
     )?;
     assert_eq!(rt; status, 0);
-    assert!(rt; seen.is_well(1));
+    assert!(rt; seen.is_well(false));
     Ok(())
 }

@@ -11,12 +11,44 @@ use std::thread;
 /// The most turns of a wait.
 const MOST_TURNS: u32 = 50_000_000;
 
-/// What has happened in a run of at most two sessions.
+/// A count for each of two sessions.
+#[derive(Drop)]
+pub struct Counts {
+    first: AtomicU64,
+    second: AtomicU64,
+}
+
+impl Counts {
+    fn new() -> Counts {
+        Counts {
+            first: AtomicU64::new(0),
+            second: AtomicU64::new(0),
+        }
+    }
+
+    /// The count of the first session or of the second.
+    fn of(&self, is_first: bool) -> &AtomicU64 {
+        if is_first { &self.first } else { &self.second }
+    }
+
+    fn add(&self, is_first: bool) {
+        self.of(is_first).fetch_add(1, Ordering::SeqCst);
+    }
+
+    /// Whether something was counted of the first session, and of the second if there are two.
+    fn have_all(&self, are_two: bool) -> bool {
+        let first = self.first.load(Ordering::SeqCst);
+        let second = self.second.load(Ordering::SeqCst);
+        1 <= first && (!are_two || 1 <= second)
+    }
+}
+
+/// What has happened in a run of one or two sessions.
 #[derive(Drop)]
 pub struct Seen {
-    crossed: [AtomicU64; 2],
-    passed: [AtomicU64; 2],
-    drawn: [AtomicU64; 2],
+    crossed: Counts,
+    passed: Counts,
+    drawn: Counts,
     reads: AtomicU64,
     /// Whether a wait lasted too long.
     failed: AtomicBool,
@@ -25,9 +57,9 @@ pub struct Seen {
 impl Seen {
     pub fn new() -> Seen {
         Seen {
-            crossed: [AtomicU64::new(0), AtomicU64::new(0)],
-            passed: [AtomicU64::new(0), AtomicU64::new(0)],
-            drawn: [AtomicU64::new(0), AtomicU64::new(0)],
+            crossed: Counts::new(),
+            passed: Counts::new(),
+            drawn: Counts::new(),
             reads: AtomicU64::new(0),
             failed: AtomicBool::new(false),
         }
@@ -44,21 +76,10 @@ impl Seen {
         self.failed.store(true, Ordering::SeqCst);
     }
 
-    /// Whether no wait lasted too long, and each of so many sessions was crossed and passed.
-    pub fn is_well(&self, sessions: usize) -> bool {
-        let mut well = !self.failed.load(Ordering::SeqCst);
-        for session in 0..sessions.min(2) {
-            well &= 1 <= self.crossed[session].load(Ordering::SeqCst);
-            well &= 1 <= self.passed[session].load(Ordering::SeqCst);
-        }
-        well
-    }
-}
-
-/// Counts at a session's place.
-fn count(counts: &[AtomicU64; 2], session: u32) {
-    if let Some(count) = counts.get(session as usize) {
-        count.fetch_add(1, Ordering::SeqCst);
+    /// Whether no wait lasted too long, and each session was crossed and passed.
+    pub fn is_well(&self, are_two: bool) -> bool {
+        let failed = self.failed.load(Ordering::SeqCst);
+        !failed && self.crossed.have_all(are_two) && self.passed.have_all(are_two)
     }
 }
 
@@ -68,11 +89,11 @@ pub struct CountingGate<'a>(pub &'a Seen);
 
 impl<'a> Gate for CountingGate<'a> {
     fn cross(&self, _host: u32, session: u32) {
-        count(&self.0.crossed, session);
+        self.0.crossed.add(session == 0);
     }
 
     fn passed(&self, _host: u32, session: u32) {
-        count(&self.0.passed, session);
+        self.0.passed.add(session == 0);
     }
 }
 
@@ -85,15 +106,14 @@ pub struct HoldingGate<'a> {
 
 impl<'a> Gate for HoldingGate<'a> {
     fn cross(&self, _host: u32, session: u32) {
-        count(&self.seen.crossed, session);
+        self.seen.crossed.add(session == 0);
         if !self.was_crossed.swap(true, Ordering::SeqCst) {
-            let other = if session == 0 { 1 } else { 0 };
-            self.seen.wait(&self.seen.passed[other], 1);
+            self.seen.wait(self.seen.passed.of(session != 0), 1);
         }
     }
 
     fn passed(&self, _host: u32, session: u32) {
-        count(&self.seen.passed, session);
+        self.seen.passed.add(session == 0);
     }
 }
 
@@ -110,14 +130,15 @@ pub enum DrawsAfter {
 #[derive(Drop)]
 pub struct WaitingFeeds<'a> {
     pub seen: &'a Seen,
-    pub opened: usize,
+    /// Whether a feed was opened.
+    pub has_opened: bool,
     pub after: DrawsAfter,
 }
 
 #[derive(Drop)]
 pub struct WaitingFeed<'a> {
     seen: &'a Seen,
-    session: usize,
+    is_first: bool,
     after: DrawsAfter,
 }
 
@@ -127,14 +148,9 @@ impl<'a> Feed for WaitingFeed<'a> {
     ghost seen = { λ feed. record { made = None; left = None; faults = 0 } };
 
     fn draw(&mut self) -> Drawn {
-        if let Some(drawn) = self.seen.drawn.get(self.session) {
-            drawn.fetch_add(1, Ordering::SeqCst);
-        }
+        self.seen.drawn.add(self.is_first);
         match self.after {
-            DrawsAfter::OtherDraw => {
-                let other = if self.session == 0 { 1 } else { 0 };
-                self.seen.wait(&self.seen.drawn[other], 1);
-            }
+            DrawsAfter::OtherDraw => self.seen.wait(self.seen.drawn.of(!self.is_first), 1),
             DrawsAfter::Reads(reads) => self.seen.wait(&self.seen.reads, reads),
         }
         Drawn::Word(7)
@@ -149,11 +165,11 @@ impl<'a> Feeds for WaitingFeeds<'a> {
     ghost gives = { λ feeds kernel. None };
 
     fn open(&mut self, _alloc: Global, _kernel: u128) -> Result<WaitingFeed<'a>, AllocError> {
-        let session = self.opened;
-        self.opened = self.opened.saturating_add(1);
+        let is_first = !self.has_opened;
+        self.has_opened = true;
         Ok(WaitingFeed {
             seen: self.seen,
-            session,
+            is_first,
             after: self.after,
         })
     }
@@ -202,8 +218,8 @@ impl<'a> FrameSource<'a> {
     fn wait(&self) {
         match self.after {
             ReadsAfter::Nothing => {}
-            ReadsAfter::FirstDraw => self.seen.wait(&self.seen.drawn[0], 1),
-            ReadsAfter::FirstPassing => self.seen.wait(&self.seen.passed[0], 1),
+            ReadsAfter::FirstDraw => self.seen.wait(self.seen.drawn.of(true), 1),
+            ReadsAfter::FirstPassing => self.seen.wait(self.seen.passed.of(true), 1),
         }
     }
 }
