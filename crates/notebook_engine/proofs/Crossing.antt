@@ -81,7 +81,7 @@ Kernel-send : IsSend (Kernel.the_field).row
 Kernel-send = search (State-send, sendable) depth 30
 
 History-send : IsSend (History.the_field).row
-History-send = search (graph.the_send, parts.the_send, graph.the_field_send, parts.the_field_send, sendable) depth 30
+History-send = search (graph.the_send, parts.the_field_send, sendable) depth 30
 
 pub Notebook-send : IsSend Notebook.the_row
 Notebook-send = search (Kernel-send, History-send, Trees-send, sendable) depth 30
