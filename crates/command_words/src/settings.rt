@@ -23,7 +23,7 @@ const MOST_WORKERS: u64 = 16;
 const UNSAID: u32 = 1;
 
 /// What `run` can be told.
-#[derive(Clone, Copy)]
+#[derive(Clone, Copy, Debug, PartialEq, Eq)]
 pub enum Kind {
     /// How many hosts.
     Hosts,
@@ -32,7 +32,7 @@ pub enum Kind {
 }
 
 /// A setting's name without its hyphens.
-fn label(kind: Kind) -> &'static str
+pub fn label(kind: Kind) -> &'static str
     ensures { result.now ≡ label_of kind }
 {
     match kind {

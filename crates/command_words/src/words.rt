@@ -24,13 +24,13 @@ pub enum Command {
 }
 
 /// The greatest weight.
-const MOST: u64 = 1_000_000;
+pub const MOST_WEIGHT: u64 = 1_000_000;
 
 /// The weight that a word says: a number from 0 to 1,000,000 in decimal digits, without a zero before others.
 fn weight_of(word: &str) -> Option<u64>
     ensures { MatchOption result ((n : ℕ) → n ≤ 1000000 → word.now ≢ decimal n) (λ n. (n ≤ 1000000) × (word.now ≡ decimal n)) }
 {
-    number_of(word, 0, MOST)
+    number_of(word, 0, MOST_WEIGHT)
 }
 
 /// The weights that four words say.
