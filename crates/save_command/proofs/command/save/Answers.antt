@@ -3,6 +3,8 @@ use Rattle.node_run.specs.declared.end.RunEnd.{RunEnd}
 use Rattle.node_run.specs.Journals.{ServedSession, journals_of}
 use Rattle.node_run.specs.Streams.{HasRun}
 use Rattle.notebook_meaning.specs.Notebooks.{notebooks}
+use denote.Param.Send.{sendable}
+use Rattle.notebook_engine.proofs.Crossing.{Notebook-send}
 use Rattle.save_command.specs.Saved.{WritesFirst}
 use Rattle.save_command.proofs.Telling.{told_ended, told_whole}
 use Rattle.save_command.proofs.command.save.Goals as goal
@@ -22,3 +24,6 @@ returns-clause-saved g c =
     let told = c.in-Ok.ensures.told in
     told_ended (g.D.Feeds.gives c.args.feeds.now) c.args.weights.now c.status_of.result c.in-Ok.ran.end (g.S.Source.left c.args.source.now) (g.S.Source.left c.run_sessions.new.source) (g.K.Sink.written c.args.sink.now) told.0
     c.in-Ok.ran.errors c.in-Ok.ran.runs.items c.status_of.ensures c.in_default-end.not-Whole told.1 told.2
+
+pub run_sessions-requires-send-E : goal.run_sessions-requires-send-E
+run_sessions-requires-send-E g c = λ κs within. search (Notebook-send, sendable) depth 6
