@@ -6,3 +6,6 @@ mod messages;
 mod stream;
 
 pub use stream::made_bytes;
+
+#[cfg(test)]
+mod tests;
