@@ -1,5 +1,6 @@
 -- What the words of a command say, they say once.
-use Rattle.std.proofs.Common.{◌≡◌, ℕ, codes, List, [], ◌∷◌, get_or, ap, sym, ◌∙◌, refl, inr, arith}
+use Rattle.std.proofs.Common.{◌≡◌, ℕ, codes, List, [], ◌∷◌, get_or, ap, sym, subst, ◌∙◌, refl, inr, arith, Option, Some, None}
+use Rattle.std.specs.Prelude.{MatchOption}
 use Rattle.graph_model.specs.declared.plan.Weights.{Weights}
 use Rattle.command_words.specs.declared.words.Command.{Command}
 use Rattle.command_words.specs.declared.words.Command.TheVariants.{Run, Plan, Save, Restore}
@@ -29,6 +30,14 @@ one_plan words v w a b = ap (weights_of v) (one_command words (Plan v) (Plan w) 
 
 pub one_save : (words : List (List ℕ)) (v w : Weights) → IsCommand words (Save v) → IsCommand words (Save w) → v ≡ w
 one_save words v w a b = ap (weights_of v) (one_command words (Save v) (Save w) a b)
+
+-- ---- what was read of them
+
+pub no_command : (o : Option Command) (IsNone : Type 0) (IsSome : Command → Type 0) → o ≡ None → MatchOption o IsNone IsSome → IsNone
+no_command o IsNone IsSome is m = subst (λ (p : Option Command). MatchOption p IsNone IsSome) is m
+
+pub some_command : (o : Option Command) (c d : Command) (IsNone : Type 0) (IsSome : Command → Type 0) → o ≡ Some c → c ≡ d → MatchOption o IsNone IsSome → IsSome d
+some_command o c d IsNone IsSome is also m = subst IsSome also (subst (λ (p : Option Command). MatchOption p IsNone IsSome) is m)
 
 -- ---- words after `run`
 

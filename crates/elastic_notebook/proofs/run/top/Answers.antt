@@ -15,58 +15,58 @@ use Rattle.save_command.specs.Saved.{SavesTold}
 use Rattle.elastic_notebook.specs.declared.say.Question.TheVariants as question
 use Rattle.elastic_notebook.specs.Saying.{SaysTold}
 use Rattle.elastic_notebook.specs.Statuses.{IsStatusOf}
-use Rattle.elastic_notebook.proofs.Commands.{no_plan, no_restore, no_save, one_count, one_plan, one_save, run_status}
+use Rattle.elastic_notebook.proofs.Commands.{no_command, no_plan, no_restore, no_save, one_count, one_plan, one_save, run_status, some_command}
 use Rattle.elastic_notebook.proofs.run.top.Goals as goal
 
 pub returns-in-Ok-Some-Run-clause-streams : goal.returns-in-Ok-Some-Run-clause-streams
 returns-in-Ok-Some-Run-clause-streams g c = λ hosts workers is.
     subst (λ (n : ℕ). StreamsTold notebooks n (g.D.Feeds.gives c.args.feeds.now) (IsCaused (g.S.Source.faults c.args.source.now) (g.S.Source.faults c.run_stream.new.source) (g.S.Source.reads c.args.source.now) (g.S.Source.reads c.run_stream.new.source)) c.run_stream.result (g.S.Source.left c.args.source.now) (g.S.Source.left c.run_stream.new.source) (g.K.Sink.written c.args.sink.now) (g.K.Sink.written c.run_stream.new.sink))
-    (one_count (map string_bytes c.args.words.now) c.in-Ok-Some-Run.hosts c.in-Ok-Some-Run.workers hosts workers (subst (IsCommand (map string_bytes c.args.words.now)) c.in-Ok-Some-Run.field-0-is c.in-Ok-Some-Run.ensures) is) c.run_stream.ensures.streams
+    (one_count (map string_bytes c.args.words.now) c.in-Ok-Some-Run.hosts c.in-Ok-Some-Run.workers hosts workers (some_command _ _ _ _ (IsCommand (map string_bytes c.args.words.now)) c.in-Ok-Some-Run.field-0-is c.in-Ok-Some-Run.field-0-0-is c.in-Ok-Some-Run.ensures.command) is) c.run_stream.ensures.streams
 
 pub returns-in-Ok-Some-Save-clause-saved : goal.returns-in-Ok-Some-Save-clause-saved
 returns-in-Ok-Some-Save-clause-saved g c = λ w is.
     subst (λ (v : Weights). SavesTold (g.D.Feeds.gives c.args.feeds.now) v c.save.result (g.S.Source.left c.args.source.now) (g.S.Source.left c.save.new.source) (g.K.Sink.written c.args.sink.now) (g.K.Sink.written c.save.new.sink))
-    (one_save (map string_bytes c.args.words.now) c.in-Ok-Some-Save.weights w (subst (IsCommand (map string_bytes c.args.words.now)) c.in-Ok-Some-Save.field-0-is c.in-Ok-Some-Save.ensures) is) c.save.ensures.saved
+    (one_save (map string_bytes c.args.words.now) c.in-Ok-Some-Save.weights w (some_command _ _ _ _ (IsCommand (map string_bytes c.args.words.now)) c.in-Ok-Some-Save.field-0-is c.in-Ok-Some-Save.field-0-0-is c.in-Ok-Some-Save.ensures.command) is) c.save.ensures.saved
 
 pub returns-in-Ok-Some-Plan-clause-planned : goal.returns-in-Ok-Some-Plan-clause-planned
 returns-in-Ok-Some-Plan-clause-planned g c = λ w is.
     subst (λ (v : Weights). SaysTold (question.Plan v) c.say.result (g.S.Source.left c.args.source.now) (g.S.Source.left c.say.new.source) (g.K.Sink.written c.args.sink.now) (g.K.Sink.written c.say.new.sink))
-    (one_plan (map string_bytes c.args.words.now) c.in-Ok-Some-Plan.weights w (subst (IsCommand (map string_bytes c.args.words.now)) c.in-Ok-Some-Plan.field-0-is c.in-Ok-Some-Plan.ensures) is) c.say.ensures.said
+    (one_plan (map string_bytes c.args.words.now) c.in-Ok-Some-Plan.weights w (some_command _ _ _ _ (IsCommand (map string_bytes c.args.words.now)) c.in-Ok-Some-Plan.field-0-is c.in-Ok-Some-Plan.field-0-0-is c.in-Ok-Some-Plan.ensures.command) is) c.say.ensures.said
 
 pub returns-in-Ok-None-clause-streams : goal.returns-in-Ok-None-clause-streams
-returns-in-Ok-None-clause-streams g c = λ hosts workers is. absurd (c.in-Ok-None.ensures (command.Run hosts workers) is)
+returns-in-Ok-None-clause-streams g c = λ hosts workers is. absurd (no_command _ _ _ c.in-Ok-None.field-0-is c.in-Ok-None.ensures.command (command.Run hosts workers) is)
 
 pub returns-in-Ok-None-clause-statuses : goal.returns-in-Ok-None-clause-statuses
-returns-in-Ok-None-clause-statuses g c = λ d is. absurd (c.in-Ok-None.ensures d is)
+returns-in-Ok-None-clause-statuses g c = λ d is. absurd (no_command _ _ _ c.in-Ok-None.field-0-is c.in-Ok-None.ensures.command d is)
 
 pub returns-in-Ok-None-clause-saved : goal.returns-in-Ok-None-clause-saved
-returns-in-Ok-None-clause-saved g c = λ w is. absurd (c.in-Ok-None.ensures (command.Save w) is)
+returns-in-Ok-None-clause-saved g c = λ w is. absurd (no_command _ _ _ c.in-Ok-None.field-0-is c.in-Ok-None.ensures.command (command.Save w) is)
 
 pub returns-in-Ok-None-clause-planned : goal.returns-in-Ok-None-clause-planned
-returns-in-Ok-None-clause-planned g c = λ w is. absurd (c.in-Ok-None.ensures (command.Plan w) is)
+returns-in-Ok-None-clause-planned g c = λ w is. absurd (no_command _ _ _ c.in-Ok-None.field-0-is c.in-Ok-None.ensures.command (command.Plan w) is)
 
 pub returns-in-Ok-None-clause-restored : goal.returns-in-Ok-None-clause-restored
-returns-in-Ok-None-clause-restored g c = λ is. absurd (c.in-Ok-None.ensures command.Restore is)
+returns-in-Ok-None-clause-restored g c = λ is. absurd (no_command _ _ _ c.in-Ok-None.field-0-is c.in-Ok-None.ensures.command command.Restore is)
 
 pub returns-in-Ok-Some-Run-clause-statuses : goal.returns-in-Ok-Some-Run-clause-statuses
 returns-in-Ok-Some-Run-clause-statuses g c = λ d is.
     subst (λ (e : Command). IsStatusOf e c.run_stream.result)
-    (one_command (map string_bytes c.args.words.now) (command.Run c.in-Ok-Some-Run.hosts c.in-Ok-Some-Run.workers) d (subst (IsCommand (map string_bytes c.args.words.now)) c.in-Ok-Some-Run.field-0-is c.in-Ok-Some-Run.ensures) is) c.run_stream.ensures.statuses
+    (one_command (map string_bytes c.args.words.now) (command.Run c.in-Ok-Some-Run.hosts c.in-Ok-Some-Run.workers) d (some_command _ _ _ _ (IsCommand (map string_bytes c.args.words.now)) c.in-Ok-Some-Run.field-0-is c.in-Ok-Some-Run.field-0-0-is c.in-Ok-Some-Run.ensures.command) is) c.run_stream.ensures.statuses
 
 pub returns-in-Ok-Some-Save-clause-statuses : goal.returns-in-Ok-Some-Save-clause-statuses
 returns-in-Ok-Some-Save-clause-statuses g c = λ d is.
     subst (λ (e : Command). IsStatusOf e c.save.result)
-    (one_command (map string_bytes c.args.words.now) (command.Save c.in-Ok-Some-Save.weights) d (subst (IsCommand (map string_bytes c.args.words.now)) c.in-Ok-Some-Save.field-0-is c.in-Ok-Some-Save.ensures) is) c.save.ensures.answered
+    (one_command (map string_bytes c.args.words.now) (command.Save c.in-Ok-Some-Save.weights) d (some_command _ _ _ _ (IsCommand (map string_bytes c.args.words.now)) c.in-Ok-Some-Save.field-0-is c.in-Ok-Some-Save.field-0-0-is c.in-Ok-Some-Save.ensures.command) is) c.save.ensures.answered
 
 pub returns-in-Ok-Some-Plan-clause-statuses : goal.returns-in-Ok-Some-Plan-clause-statuses
 returns-in-Ok-Some-Plan-clause-statuses g c = λ d is.
     subst (λ (e : Command). IsStatusOf e c.say.result)
-    (one_command (map string_bytes c.args.words.now) (command.Plan c.in-Ok-Some-Plan.weights) d (subst (IsCommand (map string_bytes c.args.words.now)) c.in-Ok-Some-Plan.field-0-is c.in-Ok-Some-Plan.ensures) is) c.say.ensures.answered
+    (one_command (map string_bytes c.args.words.now) (command.Plan c.in-Ok-Some-Plan.weights) d (some_command _ _ _ _ (IsCommand (map string_bytes c.args.words.now)) c.in-Ok-Some-Plan.field-0-is c.in-Ok-Some-Plan.field-0-0-is c.in-Ok-Some-Plan.ensures.command) is) c.say.ensures.answered
 
 pub returns-in-Ok-Some-Restore-clause-statuses : goal.returns-in-Ok-Some-Restore-clause-statuses
 returns-in-Ok-Some-Restore-clause-statuses g c = λ d is.
     subst (λ (e : Command). IsStatusOf e c.say-in-Ok-Some-Restore.result)
-    (one_command (map string_bytes c.args.words.now) (command.Restore) d (subst (IsCommand (map string_bytes c.args.words.now)) c.in-Ok-Some-Restore.field-0-is c.in-Ok-Some-Restore.ensures) is) c.say-in-Ok-Some-Restore.ensures.answered
+    (one_command (map string_bytes c.args.words.now) (command.Restore) d (some_command _ _ _ _ (IsCommand (map string_bytes c.args.words.now)) c.in-Ok-Some-Restore.field-0-is c.in-Ok-Some-Restore.field-0-0-is c.in-Ok-Some-Restore.ensures.command) is) c.say-in-Ok-Some-Restore.ensures.answered
 
 pub returns-in-Err-clause-streams : goal.returns-in-Err-clause-streams
 returns-in-Err-clause-streams g c = λ hosts workers is.
