@@ -12,7 +12,7 @@ own : IsNumeralModel (AllDigits 10) (digits_value 10)
 own = record { to = λ ds h. h; from = λ ds h. h; same = λ ds h. refl }
 
 -- a number's digits begin with a digit, which is 0 for 0 alone
-digits_begin : (n : ℕ) → n < 2 ^ 64 → ((n ≡ 0) × (decimal n ≡ 48 ∷ [])) ⊎ (48 < get_or (decimal n) 0 0)
+pub digits_begin : (n : ℕ) → n < 2 ^ 64 → ((n ≡ 0) × (decimal n ≡ 48 ∷ [])) ⊎ (48 < get_or (decimal n) 0 0)
 digits_begin n l = elim (cases_eq n 0) [
   | inl e ↦ inl (e, ap decimal e ∙ decimal_digit 0 (omega arith))
   | inr other ↦ inr (first_decimal n (omega (arith, other)) l)

@@ -1,4 +1,6 @@
 pub mod Digits
+pub mod Line
 pub mod OneCommand
+pub mod RunWords
 pub mod Runs
-pub mod Texts
+pub mod Takes

@@ -12,10 +12,7 @@ use Rattle.command_words.specs.declared.words.Command.{Command}
 use Rattle.command_words.specs.declared.words.Command.TheVariants.{Run, Plan, Save, Restore}
 use Rattle.command_words.specs.declared.settings.Kind.{Kind}
 use Rattle.command_words.specs.declared.settings.Kind.TheVariants.{Hosts, Workers}
-use Rattle.command_words.specs.declared.settings.Form.{Form}
-use Rattle.command_words.specs.declared.settings.Form.TheVariants.{Spaced, Joined}
-use Rattle.command_words.specs.declared.settings.Setting.{Setting}
-use Rattle.command_words.specs.Grammar.{weight_words, most, spelled, words_of, setting_words, IsWithin, IsAllowed, IsSet, IsCommand}
+use Rattle.command_words.specs.Grammar.{Form, Spaced, Joined, Setting, weight_words, most, spelled, words_of, setting_words, IsWithin, IsAllowed, IsSet, IsCommand}
 use Rattle.command_words.proofs.Runs.{Apart, byte, same_first, some_word}
 
 -- ---- the same words are of the same settings

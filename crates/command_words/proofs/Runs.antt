@@ -1,17 +1,13 @@
 -- Which words say the settings of `run`.
 use Rattle.std.proofs.Common.{◌≡◌, ◌≢◌, inl, inr, ℕ, codes, List, [], ◌∷◌, ◌++◌, length, get_or, drop, refl, sym, ap, subst, ◌∙◌, arith}
-use Rattle.std.specs.Prelude.{All, AllPairs, Option, Some, None, MatchOption}
-use Rattle.std.proofs.lemmas.List.Elements.{All-cons, All-tail}
+use Rattle.std.specs.Prelude.{All, AllPairs}
+use Rattle.std.proofs.lemmas.List.Elements.{All-cons}
 use Rattle.std.proofs.lemmas.List.Kept.{AllPairs-cons}
 use Rattle.command_words.specs.declared.words.Command.{Command}
 use Rattle.command_words.specs.declared.words.Command.TheVariants.{Run, Plan, Save, Restore}
 use Rattle.command_words.specs.declared.settings.Kind.{Kind}
 use Rattle.command_words.specs.declared.settings.Kind.TheVariants.{Hosts, Workers}
-use Rattle.command_words.specs.declared.settings.Form.{Form}
-use Rattle.command_words.specs.declared.settings.Form.TheVariants.{Spaced, Joined}
-use Rattle.command_words.specs.declared.settings.Setting.{Setting}
-use Rattle.command_words.specs.Beginning.{NoneBegins}
-use Rattle.command_words.specs.Grammar.{name_of, spelled, setting_words, IsAllowed, Says, IsCommand}
+use Rattle.command_words.specs.Grammar.{Form, Spaced, Joined, Setting, name_of, spelled, IsAllowed, Says, IsCommand}
 
 -- ---- settings that are said
 
@@ -33,6 +29,14 @@ no_pair s = AllPairs-cons Apart s [] (all_none (Apart s)) no_pairs
 
 apart : (k l : Kind) → k ≡ Hosts → l ≡ Workers → k ≢ l
 apart k l hosts workers e = let no : ⊥ = cc in no
+
+pub says_none : Says [] 1 1
+says_none = record {
+  allowed = all_none IsAllowed;
+  once = no_pairs;
+  hosts_set = inr (all_none (λ s. s.kind ≢ Hosts), refl);
+  workers_set = inr (all_none (λ s. s.kind ≢ Workers), refl);
+}
 
 module _ (s : Setting) (a : IsAllowed s) where
   pub says_hosts : s.kind ≡ Hosts → Says (s ∷ []) s.number 1
@@ -85,7 +89,7 @@ abbrev letter : Kind → ℕ
 letter Hosts = 104
 letter Workers = 119
 
-letter_at : (f : Form) (k : Kind) (n : ℕ) (rest : List (List ℕ)) → byte 2 (spelled f k n ++ rest) ≡ letter k
+pub letter_at : (f : Form) (k : Kind) (n : ℕ) (rest : List (List ℕ)) → byte 2 (spelled f k n ++ rest) ≡ letter k
 letter_at Spaced Hosts n rest = refl
 letter_at Spaced Workers n rest = refl
 letter_at Joined Hosts n rest = refl
@@ -139,62 +143,9 @@ some_word f k n rest e = let same = sym (letter_at f k n rest) ∙ ap (byte 2) e
     no_letter Hosts e = let no : ⊥ = omega arith in no
     no_letter Workers e = let no : ⊥ = omega arith in no
 
--- ---- words that say no settings
-
--- the words aren't those of settings, none of them twice
-abbrev pub SayNone : List (List ℕ) → Type 0
-SayNone words = (settings : List Setting) → All IsAllowed settings → AllPairs Apart settings → words ≢ setting_words settings
-
-three : (a b c : Kind) → a ≢ b → a ≢ c → b ≢ c → ⊥
-three Hosts Hosts c ab ac bc = ab refl
-three Hosts Workers Hosts ab ac bc = ac refl
-three Hosts Workers Workers ab ac bc = bc refl
-three Workers Workers c ab ac bc = ab refl
-three Workers Hosts Workers ab ac bc = ac refl
-three Workers Hosts Hosts ab ac bc = bc refl
-
-pub none_first : (words : List (List ℕ)) → words ≢ [] → ((f : Form) → NoneBegins f words) → (settings : List Setting) → All IsAllowed settings → words ≢ setting_words settings
-none_first words some none [] all e = some e
-none_first words some none (s ∷ settings) all e = none s.form s.kind s.number (setting_words settings) (all 0 s (omega arith)) e
-
-module _ (words after : List (List ℕ)) (s : Setting) (is : words ≡ spelled s.form s.kind s.number ++ after) where
-  some : words ≢ []
-  some e = some_word s.form s.kind s.number after (sym is ∙ e)
-
-  next : (t : Setting) (more : List Setting) → words ≡ setting_words (t ∷ more) → (s.kind ≡ t.kind) × (after ≡ setting_words more)
-  next t more e =
-      let same = same_first s.form t.form s.kind t.kind s.number t.number after (setting_words more) (sym is ∙ e) in
-      (same.0, same.2)
-
-  pub none_second : after ≢ [] → ((f : Form) → NoneBegins f after) → SayNone words
-  none_second left none [] all once e = some e
-  none_second left none (t ∷ more) all once e = none_first after left none more (All-tail IsAllowed t more all) (next t more e).1
-
-module _ (words after rest : List (List ℕ)) (s t : Setting) (is : words ≡ spelled s.form s.kind s.number ++ after) (then : after ≡ spelled t.form t.kind t.number ++ rest) where
-  pub none_third : rest ≢ [] → SayNone words
-  none_third left [] all once e = some words after s is e
-  none_third left (a ∷ []) all once e = some after rest t then (next words after s is a [] e).1
-  none_third left (a ∷ b ∷ []) all once e =
-      left (next after rest t then b [] (next words after s is a (b ∷ []) e).1).1
-  none_third left (a ∷ b ∷ c ∷ more) all once e =
-      three a.kind b.kind c.kind (once 0 1 a (omega arith) (omega arith)) (once 0 2 a (omega arith) (omega arith)) (once 1 2 a (omega arith) (omega arith))
-
-  pub not_twice : s.kind ≡ t.kind → SayNone words
-  not_twice same [] all once e = some words after s is e
-  not_twice same (a ∷ []) all once e = some after rest t then (next words after s is a [] e).1
-  not_twice same (a ∷ b ∷ more) all once e =
-      let first = next words after s is a (b ∷ more) e in
-      let second = next after rest t then b more first.1 in
-      once 0 1 a (omega arith) (omega arith) (sym first.0 ∙ (same ∙ second.0))
-
--- `run` with these words after it says no command
-pub no_run : (words : List (List ℕ)) → SayNone words → (c : Command) → ¬ IsCommand (codes "run" ∷ words) c
-no_run words none (Run h w) is = none is.0 is.1.allowed is.1.once (ap (drop 1) is.2)
+-- what `run` with these words says is a number of hosts and of workers
+pub no_run : (words : List (List ℕ)) → ((h w : ℕ) → ¬ IsCommand (codes "run" ∷ words) (Run h w)) → (c : Command) → ¬ IsCommand (codes "run" ∷ words) c
+no_run words none (Run h w) is = none h w is
 no_run words none (Plan w) is = let same = ap (byte 0) is.1 in let no : ⊥ = omega (arith, same) in no
 no_run words none (Save w) is = let same = ap (byte 0) is.1 in let no : ⊥ = omega (arith, same) in no
 no_run words none Restore is = let same = ap (byte 2) is in let no : ⊥ = omega (arith, same) in no
-
--- what two settings are read as is what their words say
-pub as_said : (o : Option Command) (words said : List (List ℕ)) (Same : Type 0) → words ≡ said → (Same → SayNone words) → MatchOption o Same (IsCommand (codes "run" ∷ said)) → MatchOption o ((c : Command) → ¬ IsCommand (codes "run" ∷ words) c) (IsCommand (codes "run" ∷ words))
-as_said None words said Same is none same = no_run words (none same)
-as_said (Some c) words said Same is none told = subst (λ (ws : List (List ℕ)). IsCommand (codes "run" ∷ ws) c) (sym is) told

@@ -7,9 +7,6 @@ use Rattle.command_words.specs.declared.words.Command.{Command}
 use Rattle.command_words.specs.declared.words.Command.TheVariants.{Run, Plan, Save, Restore}
 use Rattle.command_words.specs.declared.settings.Kind.{Kind}
 use Rattle.command_words.specs.declared.settings.Kind.TheVariants.{Hosts, Workers}
-use Rattle.command_words.specs.declared.settings.Form.{Form}
-use Rattle.command_words.specs.declared.settings.Form.TheVariants.{Spaced, Joined}
-use Rattle.command_words.specs.declared.settings.Setting.{Setting}
 
 -- the weights, each in decimal digits without zeros before
 abbrev pub weight_words : Weights → List (List ℕ)
@@ -24,6 +21,17 @@ name_of Workers = codes "--workers"
 abbrev pub most : Kind → ℕ
 most Hosts = 64
 most Workers = 16
+
+-- how a setting of `run` is written: as two words, or as one
+pub data Form : Type 0 where
+  Spaced : Form
+  Joined : Form
+
+-- a setting of `run`: what it is of, how it is written, and its number
+pub record Setting : Type 0 where
+  pub kind : Kind
+  pub form : Form
+  pub number : ℕ
 
 -- a name and its number as two words, or as one
 abbrev pub spelled : Form → Kind → ℕ → List (List ℕ)

@@ -1,12 +1,17 @@
-ghost use Rattle.std.specs.Prelude.{ℕ, ◌≡◌, ◌≢◌, List, [], ◌∷◌, ◌++◌, map, string_bytes, MatchOption};
-ghost use Rattle.std.specs.Fmt.{decimal};
-ghost use Rattle.command_words.specs.declared.settings.Kind.{Kind as What};
-ghost use Rattle.command_words.specs.declared.settings.Form.TheVariants as form_of;
-ghost use Rattle.command_words.specs.declared.settings.Form.{Form as Way};
-ghost use Rattle.command_words.specs.Beginning.{IsFirst, NoneBegins};
-ghost use Rattle.command_words.specs.Grammar.{name_of, most, spelled, words_of, IsWithin, IsAllowed};
+ghost use Rattle.std.specs.Prelude.{ℕ, ◌≡◌, codes, ◌∷◌, IfOk, MatchOption, map, string_bytes};
+ghost use Rattle.std.specs.List.{list_any};
+ghost use Rattle.clap.specs.Words.{app_of, first_value, found_of};
+ghost use Rattle.command_words.specs.declared.settings.Kind.TheVariants as kind;
+ghost use Rattle.command_words.specs.declared.words.Command.{Command as Asked};
+ghost use Rattle.command_words.specs.Grammar.{most, IsCommand};
+ghost use Rattle.command_words.specs.Line as spec;
+ghost use Rattle.command_words.specs.Line.{label_of, line, IsRead, RunIs};
 
 use crate::numbers::number_of;
+use crate::words::Command;
+use clap::error::ErrorKind;
+use clap::{Arg, ArgMatches};
+use std::alloc::{AllocError, Global};
 
 /// The greatest number of hosts.
 const MOST_HOSTS: u64 = 64;
@@ -14,8 +19,11 @@ const MOST_HOSTS: u64 = 64;
 /// The greatest number of workers of a host.
 const MOST_WORKERS: u64 = 16;
 
+/// How many hosts and workers there are if no setting says it.
+const UNSAID: u32 = 1;
+
 /// What `run` can be told.
-#[derive(Clone, Copy)]
+#[derive(Clone, Copy, Debug, PartialEq, Eq)]
 pub enum Kind {
     /// How many hosts.
     Hosts,
@@ -23,36 +31,18 @@ pub enum Kind {
     Workers,
 }
 
-/// How a setting is written.
-#[derive(Clone, Copy)]
-pub enum Form {
-    /// As two words: `--hosts 3`.
-    Spaced,
-    /// As one word: `--hosts=3`.
-    Joined,
-}
-
-/// A setting of `run`, and how it is written.
-#[derive(Clone, Copy)]
-pub struct Setting {
-    pub kind: Kind,
-    pub form: Form,
-    pub number: u32,
-}
-
-/// What a name asks for.
-fn kind_of(name: &str) -> Option<Kind>
-    ensures { MatchOption result ((k : What) → name.now ≢ name_of k) (λ k. name.now ≡ name_of k) }
+/// A setting's name without its hyphens.
+pub fn label(kind: Kind) -> &'static str
+    ensures { result.now ≡ label_of kind }
 {
-    match name {
-        "--hosts" => Some(Kind::Hosts),
-        "--workers" => Some(Kind::Workers),
-        _ => None,
+    match kind {
+        Kind::Hosts => "hosts",
+        Kind::Workers => "workers",
     }
 }
 
 /// The greatest number of this kind.
-fn most_of(kind: Kind) -> u64
+pub fn most_of(kind: Kind) -> u64
     ensures { result ≡ most kind }
 {
     match kind {
@@ -61,55 +51,66 @@ fn most_of(kind: Kind) -> u64
     }
 }
 
-/// The setting with this name and this number.
-fn setting_of(name: &str, number: &str, form: Form) -> Option<Setting>
-    ensures { MatchOption result ((k : What) → (n : ℕ) → IsWithin 1 (most k) n → name.now ≡ name_of k → number.now ≢ decimal n) (λ s. (s.form ≡ form) × IsAllowed s × (name.now ≡ name_of s.kind) × (number.now ≡ decimal s.number)) }
+/// `run` with its two options, without help and version.
+fn line_of_run<'a>(alloc: Global) -> Result<clap::Command<'a>, AllocError>
+    ensures { IfOk result (λ c. app_of c ≡ line) }
 {
-    let Some(kind) = kind_of(name) else {
-        return None;
+    let hosts = Arg::new(alloc, "hosts").long("hosts");
+    let workers = Arg::new(alloc, "workers").long("workers");
+    clap::Command::new(alloc, "run")
+        .no_binary_name(true)
+        .disable_help_flag(true)
+        .disable_version_flag(true)
+        .arg(hosts)?
+        .arg(workers)
+}
+
+/// The number that is said of this kind, or 1 if none is.
+fn number_given(matches: &ArgMatches, kind: Kind) -> Option<u32>
+    ensures { MatchOption result ((n : ℕ) → ¬ IsRead kind (first_value (found_of matches.now) (label_of kind)) n) (IsRead kind (first_value (found_of matches.now) (label_of kind))) }
+{
+    let Some(text) = matches.get_str(label(kind)) else {
+        return Some(UNSAID);
     };
-    match number_of(number, 1, most_of(kind)) {
-        Some(n) => Some(Setting {
-            kind,
-            form,
-            number: n as u32,
-        }),
+    match number_of(text, 1, most_of(kind)) {
+        Some(n) => Some(n as u32),
         None => None,
     }
 }
 
-/// The setting that one word says.
-fn joined(word: &str) -> Option<Setting>
-    ensures { MatchOption result ((k : What) → (n : ℕ) → IsWithin 1 (most k) n → word.now ∷ [] ≢ spelled form_of.Joined k n) (λ s. IsAllowed s × (word.now ∷ [] ≡ words_of s)) }
+/// The command `run` with what clap took.
+fn run_with(matches: &ArgMatches) -> Option<Command>
+    ensures { MatchOption result ((h w : ℕ) → IsRead kind.Hosts (first_value (found_of matches.now) (label_of kind.Hosts)) h → ¬ IsRead kind.Workers (first_value (found_of matches.now) (label_of kind.Workers)) w) (RunIs (first_value (found_of matches.now) (label_of kind.Hosts)) (first_value (found_of matches.now) (label_of kind.Workers))) }
 {
-    match word.split_once('=') {
-        Some((name, number)) => setting_of(name, number, Form::Joined),
-        None => None,
-    }
+    let hosts = number_given(matches, Kind::Hosts)?;
+    let workers = number_given(matches, Kind::Workers)?;
+    Some(Command::Run { hosts, workers })
 }
 
-/// The setting that a name says with the first word after it, and the words after that.
-fn spaced<'a>(name: &str, words: &'a [String]) -> Option<(Setting, &'a [String])>
-    ensures { MatchOption result (NoneBegins form_of.Spaced (name.now ∷ map string_bytes words.now)) (λ x. IsFirst x.0 (name.now ∷ map string_bytes words.now) (map string_bytes x.1.now)) }
+/// Whether a word is two hyphens, which clap takes for the end of the options.
+fn is_hyphens(word: &str) -> bool
+    ensures { result ≡ spec.is_hyphens word.now }
 {
-    let [number, rest @ ..] = words else {
-        return None;
-    };
-    match setting_of(name, number.as_str(), Form::Spaced) {
-        Some(setting) => Some((setting, rest)),
-        None => None,
-    }
+    word == "--"
 }
 
-/// The setting that the words begin with, and the words after it.
-pub fn first_of(words: &[String]) -> Option<(Setting, &[String])>
-    ensures { MatchOption result ((form : Way) → NoneBegins form (map string_bytes words.now)) (λ x. IsFirst x.0 (map string_bytes words.now) (map string_bytes x.1.now)) }
+/// Whether one of the words is two hyphens.
+fn has_hyphens(words: &[String]) -> bool
+    ensures { result ≡ list_any (λ w. spec.is_hyphens (string_bytes w)) words.now }
 {
-    let [word, rest @ ..] = words else {
-        return None;
-    };
-    match joined(word.as_str()) {
-        Some(setting) => Some((setting, rest)),
-        None => spaced(word.as_str(), rest),
+    words.iter().any(|word| is_hyphens(word.as_str()))
+}
+
+/// The command `run` with the settings that these words say, as clap reads them.
+pub fn run_of(alloc: Global, words: &[String]) -> Result<Option<Command>, AllocError>
+    ensures { IfOk result (λ o. MatchOption o ((c : Asked) → ¬ IsCommand (codes "run" ∷ map string_bytes words.now) c) (IsCommand (codes "run" ∷ map string_bytes words.now))) }
+{
+    if has_hyphens(words) {
+        return Ok(None);
+    }
+    match line_of_run(alloc)?.try_get_matches_from(words) {
+        Ok(matches) => Ok(run_with(&matches)),
+        Err(error) if error.kind() == ErrorKind::OutOfMemory => Err(AllocError),
+        Err(_) => Ok(None),
     }
 }

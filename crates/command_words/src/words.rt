@@ -1,13 +1,14 @@
-ghost use Rattle.std.specs.Prelude.{ℕ, ◌≡◌, ◌≢◌, ◌≤◌, codes, [], ◌∷◌, map, string_bytes, MatchOption};
+ghost use Rattle.std.specs.Prelude.{ℕ, ◌≡◌, ◌≢◌, ◌≤◌, codes, [], ◌∷◌, map, get_or, string_bytes, IfErr, IfOk, MatchOption};
 ghost use Rattle.std.specs.Fmt.{decimal};
 ghost use Rattle.graph_model.specs.declared.plan.Weights.{Weights as Four};
 ghost use Rattle.plan_model.specs.Weighing.{AreSmall};
 ghost use Rattle.command_words.specs.declared.words.Command.{Command as Asked};
-ghost use Rattle.command_words.specs.Grammar.{weight_words, setting_words, IsAllowed, IsCommand};
+ghost use Rattle.command_words.specs.Grammar.{weight_words, IsCommand};
 
 use crate::numbers::number_of;
-use crate::settings::{Kind, Setting, first_of};
+use crate::settings::run_of;
 use graph_model::Weights;
+use std::alloc::{AllocError, Global};
 
 /// What the words of the command line ask for.
 #[derive(Clone, Copy, Debug, PartialEq, Eq)]
@@ -22,17 +23,14 @@ pub enum Command {
     Restore,
 }
 
-/// How many hosts and workers there are if no setting says it.
-const UNSAID: u32 = 1;
-
 /// The greatest weight.
-const MOST: u64 = 1_000_000;
+pub const MOST_WEIGHT: u64 = 1_000_000;
 
 /// The weight that a word says: a number from 0 to 1,000,000 in decimal digits, without a zero before others.
 fn weight_of(word: &str) -> Option<u64>
     ensures { MatchOption result ((n : ℕ) → n ≤ 1000000 → word.now ≢ decimal n) (λ n. (n ≤ 1000000) × (word.now ≡ decimal n)) }
 {
-    number_of(word, 0, MOST)
+    number_of(word, 0, MOST_WEIGHT)
 }
 
 /// The weights that four words say.
@@ -50,92 +48,47 @@ fn weights_of(words: &[String]) -> Option<Weights>
     })
 }
 
-/// The command `run` with this setting alone.
-fn run_with(setting: Setting) -> Command
-    requires { IsAllowed setting }
-    ensures { IsCommand (codes "run" ∷ setting_words (setting ∷ [])) result }
+/// The command `plan` with the weights that these words say.
+fn plan_of(words: &[String]) -> Option<Command>
+    ensures { MatchOption result ((c : Asked) → ¬ IsCommand (codes "plan" ∷ map string_bytes words.now) c) (IsCommand (codes "plan" ∷ map string_bytes words.now)) }
 {
-    match setting.kind {
-        Kind::Hosts => Command::Run {
-            hosts: setting.number,
-            workers: UNSAID,
-        },
-        Kind::Workers => Command::Run {
-            hosts: UNSAID,
-            workers: setting.number,
-        },
+    match weights_of(words) {
+        Some(weights) => Some(Command::Plan(weights)),
+        None => None,
     }
 }
 
-/// The command `run` with these two settings, if they aren't of the same kind.
-fn run_with_both(first: Setting, second: Setting) -> Option<Command>
-    requires first { IsAllowed first }
-    requires second { IsAllowed second }
-    ensures { MatchOption result (first.kind ≡ second.kind) (IsCommand (codes "run" ∷ setting_words (first ∷ second ∷ []))) }
+/// The command `save` with the weights that these words say.
+fn save_of(words: &[String]) -> Option<Command>
+    ensures { MatchOption result ((c : Asked) → ¬ IsCommand (codes "save" ∷ map string_bytes words.now) c) (IsCommand (codes "save" ∷ map string_bytes words.now)) }
 {
-    match (first.kind, second.kind) {
-        (Kind::Hosts, Kind::Workers) => Some(Command::Run {
-            hosts: first.number,
-            workers: second.number,
-        }),
-        (Kind::Workers, Kind::Hosts) => Some(Command::Run {
-            hosts: second.number,
-            workers: first.number,
-        }),
-        _ => None,
+    match weights_of(words) {
+        Some(weights) => Some(Command::Save(weights)),
+        None => None,
     }
-}
-
-/// The command `run` with the settings that these words say.
-fn run_of(words: &[String]) -> Option<Command>
-    ensures { MatchOption result ((c : Asked) → ¬ IsCommand (codes "run" ∷ map string_bytes words.now) c) (IsCommand (codes "run" ∷ map string_bytes words.now)) }
-{
-    if words.is_empty() {
-        return Some(Command::Run {
-            hosts: UNSAID,
-            workers: UNSAID,
-        });
-    }
-    let Some((first, after)) = first_of(words) else {
-        return None;
-    };
-    if after.is_empty() {
-        return Some(run_with(first));
-    }
-    let Some((second, rest)) = first_of(after) else {
-        return None;
-    };
-    if !rest.is_empty() {
-        return None;
-    }
-    run_with_both(first, second)
 }
 
 /// The command with this first word, and these after it.
-fn command_with(first: &str, words: &[String]) -> Option<Command>
-    ensures { MatchOption result ((c : Asked) → ¬ IsCommand (first.now ∷ map string_bytes words.now) c) (IsCommand (first.now ∷ map string_bytes words.now)) }
+fn command_with(alloc: Global, first: &str, words: &[String]) -> Result<Option<Command>, AllocError>
+    ensures command { IfOk result (λ o. MatchOption o ((c : Asked) → ¬ IsCommand (first.now ∷ map string_bytes words.now) c) (IsCommand (first.now ∷ map string_bytes words.now))) }
+    ensures memory { IfErr result (λ _. first.now ≡ codes "run") }
 {
     match first {
-        "run" => run_of(words),
-        "plan" => match weights_of(words) {
-            Some(weights) => Some(Command::Plan(weights)),
-            None => None,
-        },
-        "save" => match weights_of(words) {
-            Some(weights) => Some(Command::Save(weights)),
-            None => None,
-        },
-        "restore" if words.is_empty() => Some(Command::Restore),
-        _ => None,
+        "run" => run_of(alloc, words),
+        "plan" => Ok(plan_of(words)),
+        "save" => Ok(save_of(words)),
+        "restore" if words.is_empty() => Ok(Some(Command::Restore)),
+        _ => Ok(None),
     }
 }
 
-/// The command that the words say, if they say one.
-pub fn command_of(words: &[String]) -> Option<Command>
-    ensures { MatchOption result ((c : Asked) → ¬ IsCommand (map string_bytes words.now) c) (IsCommand (map string_bytes words.now)) }
+/// The command that the words say, if they say one. Only what comes after `run` takes memory.
+pub fn command_of(alloc: Global, words: &[String]) -> Result<Option<Command>, AllocError>
+    ensures command { IfOk result (λ o. MatchOption o ((c : Asked) → ¬ IsCommand (map string_bytes words.now) c) (IsCommand (map string_bytes words.now))) }
+    ensures memory { IfErr result (λ _. get_or (map string_bytes words.now) 0 [] ≡ codes "run") }
 {
     let [first, rest @ ..] = words else {
-        return None;
+        return Ok(None);
     };
-    command_with(first.as_str(), rest)
+    command_with(alloc, first.as_str(), rest)
 }

@@ -22,7 +22,7 @@ mod thread_tests;
 #[cfg(test)]
 mod waiting;
 
-use command_words::status;
+use command_words::{status, word_fault};
 use host_workers::OpenGate;
 use nb_outside::{RandomFeeds, StdSink, StdSource};
 use run::top;
@@ -40,6 +40,13 @@ fn words_of<R: Env + AllocGlobal>(rt: &R) -> io::Result<Vec<String>> {
     Ok(words)
 }
 
+/// Says on standard error what is wrong with the words. If that can't be written, nothing is said.
+fn say_fault(rt: &HostRuntime, words: &[String]) {
+    if let Some(fault) = word_fault(words) {
+        let _ = eprintln!(rt; "elastic_notebook: {fault}");
+    }
+}
+
 fn main(rt: HostRuntime) -> ExitCode {
     let words = match words_of(&rt) {
         Ok(words) => words,
@@ -47,17 +54,24 @@ fn main(rt: HostRuntime) -> ExitCode {
             return ExitCode::from(status::OUT_OF_MEMORY);
         }
         // Words that are no text are no command.
-        Err(_) => return ExitCode::from(status::NO_COMMAND),
+        Err(_) => {
+            let _ = eprintln!(rt; "elastic_notebook: a word is no UTF-8");
+            return ExitCode::from(status::NO_COMMAND);
+        }
     };
     let mut source = StdSource::new(rt.stdin());
     let mut sink = StdSink::new(rt.stdout());
     let mut feeds = RandomFeeds::new(rt);
-    ExitCode::from(top(
+    let status = top(
         &rt,
         words.as_slice(),
         &mut source,
         &mut sink,
         &mut feeds,
         &OpenGate,
-    ))
+    );
+    if status == status::NO_COMMAND {
+        say_fault(&rt, words.as_slice());
+    }
+    ExitCode::from(status)
 }

@@ -1,4 +1,4 @@
-ghost use Rattle.std.specs.Prelude.{◌≡◌, ℕ, map, string_bytes, ◌↔◌};
+ghost use Rattle.std.specs.Prelude.{◌≡◌, ◌⊎◌, ℕ, [], codes, get_or, map, string_bytes};
 ghost use Rattle.nb_outside.specs.Counts.{HasRisen, HasRisenBy};
 ghost use Rattle.graph_model.specs.declared.plan.Weights.{Weights as Four};
 ghost use Rattle.command_words.specs.declared.words.Command.{Command as Asked};
@@ -49,8 +49,8 @@ use std::thread::Threads;
 ///   and writes what comes before, with an error that names the place; `save` writes nothing.
 /// - 3: the source met a fault. `run`: what it gave before is served and written; else nothing is written.
 /// - 4: the sink met a fault. What is out is a prefix of what was to be written.
-/// - 5: memory ran out outside a cell; `save`: or the first session died of it. `run`: what is out is a prefix of what was to be
-///   written; else nothing is written.
+/// - 5: memory ran out outside a cell, or as the words after `run` were read; `save`: or the first session died of it. `run`: what is
+///   out is a prefix of what was to be written; else nothing is written.
 /// - 6: `plan`: the weights sum to 2^63 or more. `save`: this, a part of the first session that can be neither copied nor
 ///   computed again, no session, or a dead one.
 /// - 7: `plan`, `restore`: the input was read to its end and is no checkpoint. The line names the first byte, version or cell
@@ -73,9 +73,11 @@ where
     D: Feeds,
     D::Feed: Send,
     G: Gate + Sync,
-    // 1 exactly if the words are no command, and then nothing is touched.
-    ensures words { result ≡ 1 ↔ ((c : Asked) → ¬ IsCommand (map string_bytes words.now) c) }
-    ensures untouched { result ≡ 1 → (source.new ≡ source.old) × (sink.new ≡ sink.old) }
+    // 1 exactly if the words are no command, but for words after `run` that found no memory to be read: these give 5. Nothing is
+    // touched then.
+    ensures words { result ≡ 1 → (c : Asked) → ¬ IsCommand (map string_bytes words.now) c }
+    ensures refused { ((c : Asked) → ¬ IsCommand (map string_bytes words.now) c) → (result ≡ 1) ⊎ ((result ≡ 5) × (get_or (map string_bytes words.now) 0 [] ≡ codes "run")) }
+    ensures untouched { ((c : Asked) → ¬ IsCommand (map string_bytes words.now) c) → (source.new ≡ source.old) × (sink.new ≡ sink.old) }
 
     // The status is one of the command's.
     ensures statuses { (c : Asked) → IsCommand (map string_bytes words.now) c → IsStatusOf c result }
@@ -103,13 +105,14 @@ where
     ensures reads { result ≡ 10 → HasRisenBy 4294967295 (S.reads source.old) (S.reads source.new) }
 {
     let alloc = rt.alloc();
-    match command_of(words) {
-        Some(Command::Run { hosts, workers }) => run_stream::<Notebook, S, K, D, G, R>(
+    match command_of(alloc, words) {
+        Ok(Some(Command::Run { hosts, workers })) => run_stream::<Notebook, S, K, D, G, R>(
             rt, alloc, hosts, workers, source, sink, feeds, gate,
         ),
-        Some(Command::Save(weights)) => save(rt, alloc, source, sink, feeds, &weights, gate),
-        Some(Command::Plan(weights)) => say(alloc, source, sink, &Question::Plan(weights)),
-        Some(Command::Restore) => say(alloc, source, sink, &Question::Restore),
-        None => status::NO_COMMAND,
+        Ok(Some(Command::Save(weights))) => save(rt, alloc, source, sink, feeds, &weights, gate),
+        Ok(Some(Command::Plan(weights))) => say(alloc, source, sink, &Question::Plan(weights)),
+        Ok(Some(Command::Restore)) => say(alloc, source, sink, &Question::Restore),
+        Ok(None) => status::NO_COMMAND,
+        Err(_) => status::OUT_OF_MEMORY,
     }
 }

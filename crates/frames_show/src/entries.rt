@@ -4,10 +4,11 @@
 //! silent, printed, shown, ename, evalue), `info`, `complete`, `incomplete` (indent), `invalid` or `shut` (restart); `died` has
 //! count and cause, `memory` or `full`; `dead` has count. `moves` has the others.
 
-use crate::members::{copy_in, message_in, small_in, text_in, truth_in};
+use crate::members::{copy_in, message_in};
 use crate::moves::move_of;
 use anyhow::{Result, bail};
 use graph_model::Tally;
+use json_members::{small_in, text_in, truth_in};
 use jupyter_messages::{Message, MessageKind};
 use plain_data::{Items, Text};
 use serde_json::Value;

@@ -1,8 +1,9 @@
 //! Errors of a node: `error` is the name, `detail` what it names, `running` its number; `request` is the message that it is
 //! about, if one was read.
 
-use crate::members::{copy_in, message_in, number_in, text_in};
+use crate::members::{copy_in, message_in};
 use anyhow::{Result, bail};
+use json_members::{number_in, text_in};
 use jupyter_messages::Message;
 use reply_frames::{About, NodeError, NodeErrorKind};
 use serde_json::Value;

@@ -5,11 +5,12 @@
 //! (version, cell, names), `same host`, `unknown host` (to), `dead`, `sum` or a weight; `resumed` has nothing more.
 
 use crate::entries::request_in;
-use crate::members::{
-    list_in, number_in, numbers_in, small_in, small_of, text_in, text_of, texts_in,
-};
 use anyhow::{Result, bail};
 use graph_model::{Certified, FlowArc, Node, Plan};
+use json_members::{
+    item_at, list_in, number_in, number_of, small_in, small_of, smalls_of, text_in, text_of,
+    texts_of,
+};
 use plain_data::Items;
 use plan_model::{Weight, WeightFault};
 use serde_json::Value;
@@ -24,16 +25,9 @@ fn sealed(alloc: Global, line: &Value) -> Result<Entry> {
     })
 }
 
-fn item_of(items: &Value, at: usize) -> Result<&Value> {
-    match items.get(at) {
-        Some(item) => Ok(item),
-        None => bail!("a list is too short"),
-    }
-}
-
 fn node_of(value: &Value) -> Result<Node> {
-    let number = small_of(item_of(value, 1)?)?;
-    match text_of(item_of(value, 0)?)? {
+    let number = small_of(item_at(value, 1)?)?;
+    match text_of(item_at(value, 0)?)? {
         "s" => Ok(Node::Source),
         "v" => Ok(Node::Version(number)),
         "c" => Ok(Node::Cell(number)),
@@ -43,12 +37,10 @@ fn node_of(value: &Value) -> Result<Node> {
 }
 
 fn arc_of(value: &Value) -> Result<FlowArc> {
-    let from = node_of(item_of(value, 0)?)?;
-    let to = node_of(item_of(value, 1)?)?;
-    match item_of(value, 2)?.as_u64() {
-        Some(flow) => Ok(FlowArc { from, to, flow }),
-        None => bail!("an arc has no flow"),
-    }
+    let from = node_of(item_at(value, 0)?)?;
+    let to = node_of(item_at(value, 1)?)?;
+    let flow = number_of(item_at(value, 2)?)?;
+    Ok(FlowArc { from, to, flow })
 }
 
 fn arcs_in(alloc: Global, line: &Value) -> Result<Items<FlowArc>> {
@@ -62,8 +54,8 @@ fn arcs_in(alloc: Global, line: &Value) -> Result<Items<FlowArc>> {
 fn certified(alloc: Global, line: &Value) -> Result<Certified> {
     Ok(Certified {
         plan: Plan {
-            copied: numbers_in(alloc, line, "copied")?,
-            rerun: numbers_in(alloc, line, "rerun")?,
+            copied: smalls_of(alloc, list_in(line, "copied")?)?,
+            rerun: smalls_of(alloc, list_in(line, "rerun")?)?,
         },
         cost: number_in(line, "cost")?,
         arcs: arcs_in(alloc, line)?,
@@ -95,7 +87,7 @@ fn stuck(alloc: Global, line: &Value) -> Result<MoveRefusal> {
     Ok(MoveRefusal::Stuck {
         version: small_in(line, "version")?,
         cell: small_in(line, "cell")?,
-        names: texts_in(alloc, line, "names")?,
+        names: texts_of(alloc, list_in(line, "names")?)?,
     })
 }
 

@@ -1,7 +1,7 @@
 //! Streams in pieces, and frames that are written.
 
-use crate::members::{list_in, number_in, text_in, text_of};
 use anyhow::{Result, bail};
+use json_members::{list_in, number_in, text_in, text_of};
 use jupyter_frames::{FrameFault, Framer, Next, write_frame};
 use serde_json::{Value, json};
 use std::alloc::Global;

@@ -1,5 +1,5 @@
 -- A session with one cell more.
-use Rattle.std.proofs.Common.{◌≡◌, ℕ, zero, suc, ◌+◌, ◌-◌, Bool, true, false, List, [], ◌∷◌, ◌++◌, length, is_some, refl, ap, sym, ◌∙◌, subst, inl, inr, arith}
+use Rattle.std.proofs.Common.{◌≡◌, ℕ, zero, suc, ◌-◌, Bool, true, false, List, [], ◌∷◌, ◌++◌, length, is_some, refl, ap, sym, ◌∙◌, subst, inl, inr, arith}
 use Rattle.std.specs.Prelude.{Contains}
 use Rattle.std.specs.Str.{IsUtf8}
 use Rattle.std.specs.FinMap as finite
@@ -96,7 +96,7 @@ module _ (cells : List ListedCell) (t : State) (code : List ℕ) (utf8 : IsUtf8 
   cell_from = record { before = before; after = after; marks = refl; code = refl; steps = refl; sizes = λ names. refl }
 
   module _ (g : Graph) (stands : StandsFor read size_of cells g t) where
-    same_uses : UsesUp Body (raised E t) draws → UsesUp (statements (read (recorded code))) (raised E (unmoved cells)) draws
+    pub same_uses : UsesUp Body (raised E t) draws → UsesUp (statements (read (recorded code))) (raised E (unmoved cells)) draws
     same_uses u =
         let both = entry_alike read E (unmoved cells) t stands.same in
         let v = uses_so t u in

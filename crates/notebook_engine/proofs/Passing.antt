@@ -1,9 +1,9 @@
 -- The numbers of a session that may have been moved are those of one that never moved.
-use Rattle.std.proofs.Common.{◌≡◌, ℕ, suc, ◌+◌, ◌-◌, ◌<◌, ◌^◌, Bool, true, false, cond, List, [], ◌∷◌, ◌++◌, length, get_or, Some, Result, Err, refl, sym, ap, ◌∙◌, ◌⊎◌, inl, inr, subst, arith}
+use Rattle.std.proofs.Common.{◌≡◌, ℕ, suc, ◌+◌, ◌-◌, ◌<◌, ◌≤◌, ◌^◌, Bool, true, false, cond, List, [], ◌∷◌, ◌++◌, length, get_or, Some, Result, Err, refl, sym, ap, ◌∙◌, ◌⊎◌, inl, inr, subst, arith}
 use Rattle.std.specs.Prelude.{Contains, ◌↔◌, slice_get}
 use Rattle.std.specs.Str.{IsUtf8}
 use Rattle.std.specs.FinMap as finite
-use Rattle.std.proofs.lemmas.Bool.{cases_Bool, false≢true}
+use Rattle.std.proofs.lemmas.Bool.{false≢true}
 use Rattle.std.proofs.lemmas.List.{length-append}
 use Rattle.std.proofs.lemmas.List.Elements.{Contains-append_left, Contains-append_right, Contains-append_cases}
 use Rattle.std.proofs.lemmas.Option.{slice_get-get_or, slice_get_within, get_or_from_slice_get}
@@ -17,7 +17,7 @@ use Rattle.py_laws.specs.Same.{HasPair, ValuesMatch, Same, Every, SameStates}
 use Rattle.py_laws.proofs.Closing.{closed_after}
 use Rattle.py_laws.proofs.Partners.{one_in, first_in}
 use Rattle.py_laws.proofs.Sameness.{same_turned}
-use Rattle.notebook_engine.proofs.Counted.{cell_counts}
+use Rattle.notebook_engine.proofs.Counted.{cell_counts, uses_at_any_count}
 use Rattle.graph_model.specs.declared.graph.CellRecord.{CellRecord}
 use Rattle.graph_model.specs.declared.graph.Version.{Version}
 use Rattle.graph_model.specs.declared.graph.Graph.{Graph}
@@ -39,7 +39,7 @@ use Rattle.every_history.specs.Reading.{read}
 use Rattle.part_bytes.specs.Texts.{part_text}
 use Rattle.history_graph.specs.declared.history.History.{History}
 use Rattle.history_graph.specs.Texts.{IsTextIn, IsCodeOf}
-use Rattle.history_graph.specs.Tallies.{rank, IsHead, IsOver, IsFirstOver}
+use Rattle.history_graph.specs.Tallies.{IsHead, IsOver, IsFirstOver}
 use Rattle.history_graph.proofs.Bridge.{handle_held}
 use Rattle.history_graph.proofs.Keys.{keys_ascend, in_keys, of_keys}
 use Rattle.history_graph.proofs.Standing.{history_has_cells}
@@ -55,10 +55,11 @@ use Rattle.replay_laws.proofs.Sizing.{both_some, handle_told, tells_alike}
 use Rattle.replay_laws.proofs.GoingOn.{last_state, one_more}
 use Rattle.notebook_meaning.specs.Cells.{recorded, unmoved}
 use Rattle.notebook_meaning.specs.Numbers.{IsHistoryOf, IsCodeIn, IsPassed, IsPassedFirst}
+use Rattle.notebook_meaning.specs.Lists.{Fills}
 use Rattle.notebook_meaning.proofs.Written.{no_size, no_truth, one_has_none}
 use Rattle.notebook_engine.specs.declared.notebook.Notebook.{Notebook}
-use Rattle.notebook_engine.specs.Holding.{HoldsCells, IsFull, PassesWith}
-use Rattle.notebook_engine.proofs.Grown.{done_is, one_cell, before, after, cell_from, uses_so, size_plain}
+use Rattle.notebook_engine.specs.Holding.{PassesWith}
+use Rattle.notebook_engine.proofs.Grown.{done_is, one_cell, before, after, cell_from, uses_so, same_uses, size_plain}
 
 -- ---- what a fault names
 
@@ -68,6 +69,13 @@ module _ (a b : Tally) (d e : List Drawn) (same : ◌≡◌ {A = Result Done Run
 
   pub one_draws : d ≡ e
   one_draws = cc same
+
+module _ (a b : Tally) (d e : List Drawn) (same : fault.TooMany a d ≡ fault.TooMany b e) where
+  pub same_number : a ≡ b
+  same_number = cc same
+
+  pub same_draws : d ≡ e
+  same_draws = cc same
 
 -- ---- the count
 
@@ -80,44 +88,23 @@ unmoved_last cells e = ap (state_after read (cells ++ e ∷ [])) (one_longer cel
 pub count_after : (cells : List ListedCell) (e : ListedCell) → (unmoved (cells ++ e ∷ [])).count ≡ (unmoved cells).count + cond e.counted 1 0
 count_after cells e = ap (λ (s : State). s.count) (unmoved_last cells e) ∙ cell_counts (statements (read e.code)) (raised e (unmoved cells)) e.draws
 
--- the count doesn't pass
-count_stays : (n : Notebook) (e : ListedCell) (cells : List ListedCell) → HoldsCells n cells → n.kernel.state.count < 4294967296 → (e.counted ≡ true → n.kernel.state.count < 4294967295)
-    → ¬ IsPassed (cells ++ e ∷ []) tally.Count
-count_stays n e cells h small room p =
+-- a count that is at its end is the first number that passes
+count_first : (cells : List ListedCell) (e : ListedCell) (t : State) → (unmoved cells).count ≡ t.count → e.counted ≡ true → 4294967295 ≤ t.count → IsPassedFirst (cells ++ e ∷ []) tally.Count
+count_first cells e t same counts most =
     let all = count_after cells e in
-    let same = h.session.same.count in
-    let is = p.1 in
-    let many = p.2 in
-    elim (cases_Bool e.counted) [
-      | inl counts ↦ let one : ◌≡◌ {A = ℕ} (cond e.counted 1 0) 1 = ap (λ (b : Bool). cond b 1 0) counts in let less = room counts in omega (arith, all, same, is, many, one, less)
-      | inr stays ↦ let none : ◌≡◌ {A = ℕ} (cond e.counted 1 0) 0 = ap (λ (b : Bool). cond b 1 0) stays in omega (arith, all, same, is, many, none, small)
-    ]
-
--- a number without room is the first that passes
-pub full_first : (n : Notebook) (e : ListedCell) (which : Tally) → IsFull n e.counted which → PassesWith n e which
-full_first n e tally.Count full cells h =
-    let all = count_after cells e in
-    let same = h.session.same.count in
-    let one : ◌≡◌ {A = ℕ} (cond e.counted 1 0) 1 = ap (λ (b : Bool). cond b 1 0) full.0 in
-    let most = full.1 in
+    let one : ◌≡◌ {A = ℕ} (cond e.counted 1 0) 1 = ap (λ (b : Bool). cond b 1 0) counts in
     (((unmoved (cells ++ e ∷ [])).count, refl, omega (arith, all, same, one, most)), λ other less p. let none : ⊥ = omega (arith, less) in none)
-full_first n e tally.Cells full cells h =
-    let is = h.session.history.cells in
-    let many = full.2 in
-    let more = one_longer cells e in
-    ((length (cells ++ e ∷ []), refl, omega (arith, is, many, more)), first)
-  where
-    first : (other : Tally) → rank other < rank tally.Cells → ¬ IsPassed (cells ++ e ∷ []) other
-    first tally.Count less p = count_stays n e cells h full.0 full.1 p
-    first tally.Cells less p = let none : ⊥ = omega (arith, less) in none
-    first tally.Versions less p = let none : ⊥ = omega (arith, less) in none
-    first tally.Names less p = let none : ⊥ = omega (arith, less) in none
-    first tally.Texts less p = let none : ⊥ = omega (arith, less) in none
-    first tally.Bytes less p = let none : ⊥ = omega (arith, less) in none
-full_first n e tally.Versions full cells h = absurd full
-full_first n e tally.Names full cells h = absurd full
-full_first n e tally.Texts full cells h = absurd full
-full_first n e tally.Bytes full cells h = absurd full
+
+-- a cell that was run although the count is at its end
+pub fills_the_count : (n : Notebook) (code : List ℕ) (draws : List Drawn) → IsUtf8 code → 4294967295 ≤ n.kernel.state.count → UsesUp (statements (read code)) n.kernel.state draws
+    → PassesWith n (record { code = recorded code; draws = draws; counted = true }) tally.Count
+fills_the_count n code draws utf8 most uses cells h =
+    let t : State = n.kernel.state in
+    let there = uses_at_any_count (statements (read code)) t (t.count + 1) draws h.session.closed uses in
+    record {
+      uses = same_uses cells t code utf8 draws true n.history.graph h.session there;
+      first = count_first cells (record { code = recorded code; draws = draws; counted = true }) t h.session.same.count refl most;
+    }
 
 -- ---- names
 
@@ -384,10 +371,13 @@ module _ (cells : List ListedCell) (t : State) (code : List ℕ) (utf8 : IsUtf8 
     few_at_end : S.count < 2 ^ 32
     few_at_end = subst (λ (z : State). z.count < 2 ^ 32) (sym at_end) few
 
-    -- the first number that the call names
-    pub named_first : (which : Tally) → IsFirstOver old s (recorded code) marks which → IsPassedFirst Longer which
-    named_first which h = passed_first few_at_end which
-        (subst (λ (m : Marks). IsFirstOver old S (recorded code) m which) (sym marked) (subst (λ (z : State). IsFirstOver old z (recorded code) marks which) (sym at_end) h))
+    -- the cell fills the session, by the first number that the call names
+    pub fills : (which : Tally) → IsFirstOver old s (recorded code) marks which → Fills cells E which
+    fills which h = record {
+      uses = same_uses cells t code utf8 draws counted old.graph stands uses;
+      first = passed_first few_at_end which
+          (subst (λ (m : Marks). IsFirstOver old S (recorded code) m which) (sym marked) (subst (λ (z : State). IsFirstOver old z (recorded code) marks which) (sym at_end) h));
+    }
 
     -- if the call finds none
     pub all_fit : ((which : Tally) → ¬ IsOver old s (recorded code) marks which) → (which : Tally) → ¬ Passed which

@@ -1,5 +1,5 @@
 -- A list of asks that a notebook goes on with.
-use Rattle.std.proofs.Common.{◌≡◌, ℕ, Bool, true, false, List, [], ◌∷◌, ◌++◌, Err, not, ◌&&◌, refl, ap, sym, ◌∙◌, subst, arith}
+use Rattle.std.proofs.Common.{◌≡◌, ℕ, Bool, true, false, List, [], Err, not, ◌&&◌, refl, ap, sym, ◌∙◌, subst, arith}
 use Rattle.std.specs.Str.{IsUtf8}
 use Rattle.std.specs.FinMap as finite
 use Rattle.std.specs.Ordering.{nat_cmp}
@@ -23,8 +23,7 @@ use Rattle.session_core.specs.declared.reply.Done.{Done}
 use Rattle.session_core.specs.Engines.{RunsOn}
 use Rattle.session_core.specs.Meanings.{Served, more, HasNoEnd}
 use Rattle.notebook_meaning.specs.Cells.{recorded, cell_of, with_ask, cells_of}
-use Rattle.notebook_meaning.specs.Numbers.{IsPassedFirst}
-use Rattle.notebook_meaning.specs.Lists.{MayServe, IsRunOfAsks}
+use Rattle.notebook_meaning.specs.Lists.{MayServe, Fills, IsRunOfAsks}
 use Rattle.notebook_meaning.specs.Answers.{answer_after}
 use Rattle.notebook_meaning.specs.Notebooks.{notebooks}
 use Rattle.notebook_meaning.proofs.Lists.{cells_of_more, goes_on}
@@ -96,18 +95,19 @@ module _ (n : Notebook) (served : List Served) (stands : StandsForAsks n served)
       subst (λ (a : Ask). StandsForAsks now (more served a draws)) (sym (is ∙ ap (λ (z : List ℕ). Execute z silent store) (sym same)))
       (executed_stands now silent store text utf8 draws reply (subst (λ (b : Bool). HasRun now Cells silent text (record { code = recorded text; draws = draws; counted = b }) reply) raises ran))
 
-  fault_runs : (silent store counted : Bool) (code text : List ℕ) (f : RunFault) → text ≡ code → counted ≡ (not silent && store)
+  fault_runs : (silent store counted : Bool) (code text : List ℕ) (utf8 : IsUtf8 text) (f : RunFault) → text ≡ code → counted ≡ (not silent && store)
       → ((which : Tally) (draws : List Drawn) → f ≡ fault.TooMany which draws → PassesWith n (record { code = recorded text; draws = draws; counted = counted }) which)
       → RunsOn notebooks served (Execute code silent store) (Err f)
-  fault_runs silent store counted code text fault.OutOfMemory same raises passes = tt
-  fault_runs silent store counted code text (fault.TooMany which draws) same raises passes =
-      subst (λ (b : Bool). IsPassedFirst (Cells ++ record { code = recorded code; draws = draws; counted = b } ∷ []) which) raises
-      (subst (λ (z : List ℕ). IsPassedFirst (Cells ++ record { code = recorded z; draws = draws; counted = counted } ∷ []) which) same (passes which draws refl Cells stands.1))
+  fault_runs silent store counted code text utf8 fault.OutOfMemory same raises passes = tt
+  fault_runs silent store counted code text utf8 (fault.TooMany which draws) same raises passes =
+      subst (λ (z : List ℕ). IsUtf8 z × Fills Cells (cell_of z silent store draws) which) same
+      (utf8, subst (λ (b : Bool). Fills Cells (record { code = recorded text; draws = draws; counted = b }) which) raises (passes which draws refl Cells stands.1))
 
-  pub cell_fails : (ask : Ask) (silent store counted : Bool) (code text : List ℕ) (f : RunFault) → ask ≡ Execute code silent store → text ≡ code → counted ≡ (not silent && store)
+  pub cell_fails : (ask : Ask) (silent store counted : Bool) (code text : List ℕ) (utf8 : IsUtf8 text) (f : RunFault) → ask ≡ Execute code silent store → text ≡ code
+      → counted ≡ (not silent && store)
       → ((which : Tally) (draws : List Drawn) → f ≡ fault.TooMany which draws → PassesWith n (record { code = recorded text; draws = draws; counted = counted }) which)
       → RunsOn notebooks served ask (Err f)
-  cell_fails ask silent store counted code text f is same raises passes = subst (λ (a : Ask). RunsOn notebooks served a (Err f)) (sym is) (fault_runs silent store counted code text f same raises passes)
+  cell_fails ask silent store counted code text utf8 f is same raises passes = subst (λ (a : Ask). RunsOn notebooks served a (Err f)) (sym is) (fault_runs silent store counted code text utf8 f same raises passes)
 
   -- an ask for which nothing is drawn
   pub told_reply : (ask : Ask) (reply : Reply) (done : Done) → done ≡ record { reply = reply; draws = [] } → MayServe Cells ask [] → reply ≡ answer_after Cells ask []

@@ -1,7 +1,6 @@
 -- What a notebook holds.
-use Rattle.std.specs.Prelude.{◌≡◌, ℕ, ◌<◌, ◌≤◌, ◌^◌, Bool, true, List, [], ◌∷◌, ◌++◌, length, Option, Some, None, option_map, Ok, Err}
+use Rattle.std.specs.Prelude.{◌≡◌, ℕ, ◌<◌, ◌^◌, Bool, List, [], ◌∷◌, ◌++◌, length, Option, Some, None, option_map, Ok, Err}
 use Rattle.graph_model.specs.declared.plan.Tally.{Tally}
-use Rattle.graph_model.specs.declared.plan.Tally.TheVariants as tally
 use Rattle.linked_parts.specs.Parts.{ArePartsOf}
 use Rattle.py_meaning.specs.declared.end.CellError.{CellError}
 use Rattle.py_reader.specs.declared.fault.SyntaxFault.{SyntaxFault}
@@ -15,8 +14,7 @@ use Rattle.session_core.specs.declared.reply.Reply.{Reply}
 use Rattle.session_core.specs.Meanings.{Served}
 use Rattle.notebook_meaning.specs.Cells.{cells_of, unmoved}
 use Rattle.notebook_meaning.specs.Codes.{HaveCodes}
-use Rattle.notebook_meaning.specs.Numbers.{IsPassedFirst}
-use Rattle.notebook_meaning.specs.Lists.{MayRun, IsRunOfAsks}
+use Rattle.notebook_meaning.specs.Lists.{MayRun, Fills, IsRunOfAsks}
 use Rattle.session_core.specs.declared.reply.Reply.TheVariants.{Executed}
 use Rattle.notebook_meaning.specs.Answers.{answer_from}
 use Rattle.restore_run.specs.Restoring.{IsRestoredOn}
@@ -41,23 +39,9 @@ IsUsable n = (cells : List ListedCell) × HoldsCells n cells
 abbrev pub IsImage : Notebook → List ℕ → ℕ → Type 0
 IsImage n bytes host = IsRestoredOn bytes host (record { kernel = n.kernel; history = n.history; objects = length n.kernel.state.heap })
 
--- of the count and the cells this is the first that has no room for a cell more
-abbrev pub IsFull : Notebook → Bool → Tally → Type 0
-IsFull n counted tally.Count = (counted ≡ true) × (4294967295 ≤ n.kernel.state.count)
-IsFull n counted tally.Cells = (n.kernel.state.count < 2 ^ 32) × (counted ≡ true → n.kernel.state.count < 4294967295) × (4294967295 ≤ length n.history.graph.cells)
-IsFull n counted tally.Versions = ⊥
-IsFull n counted tally.Names = ⊥
-IsFull n counted tally.Texts = ⊥
-IsFull n counted tally.Bytes = ⊥
-
--- they all have room
-pub record HasRoom (n : Notebook) (counted : Bool) : Type 0 where
-  pub count : counted ≡ true → n.kernel.state.count < 4294967295
-  pub cells : length n.history.graph.cells < 4294967295
-
--- whatever cells it holds: with this cell, this is the first number that reaches 2^32
+-- whatever cells it holds: this one takes just its draws after them, and with it this is the first number that reaches 2^32
 abbrev pub PassesWith : Notebook → ListedCell → Tally → Type 0
-PassesWith n e which = (cells : List ListedCell) → HoldsCells n cells → IsPassedFirst (cells ++ e ∷ []) which
+PassesWith n e which = (cells : List ListedCell) → HoldsCells n cells → Fills cells e which
 
 -- after these cells, which the notebook held, it ran this one, and now it holds that one too; and this is the reply to it
 pub record HasRun (now : Notebook) (cells : List ListedCell) (silent : Bool) (code : List ℕ) (e : ListedCell) (reply : Reply) : Type 0 where

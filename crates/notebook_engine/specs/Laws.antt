@@ -26,7 +26,7 @@ pub is_graph : (cells : List ListedCell) (g : Graph) → IsGraphOf cells g → I
 is_graph cells g a = checks (run_of read size_of cells) (is_run read cells size_of) g a.history (has_names size_of cells) a.few_cells a.few_versions
 
 may_not : (cells : List ListedCell) (ask : Ask) (draws : List Drawn) (which : Tally) → MayServe cells ask draws → Passes cells ask draws which → ⊥
-may_not cells (Execute code silent store) draws which may p = may.1.fits which p.0
+may_not cells (Execute code silent store) draws which may p = may.1.fits which p.1.first.0
 may_not cells Info draws which may p = p
 may_not cells (Complete code) draws which may p = p
 may_not cells (Shutdown restart) draws which may p = p

@@ -1,4 +1,4 @@
-ghost use Rattle.std.specs.Prelude.{◌≡◌, ◌+◌, ◌<◌, ◌^◌, true, cond, List, IfOk, OnOk, MatchOption, Err};
+ghost use Rattle.std.specs.Prelude.{◌≡◌, ◌+◌, ◌<◌, ◌≤◌, ◌^◌, true, cond, List, IfOk, OnOk, Err};
 ghost use Rattle.nb_outside.specs.declared.feed.Drawn.{Drawn};
 ghost use Rattle.nb_outside.specs.Feeds.{Fed};
 ghost use Rattle.graph_model.specs.declared.plan.Tally.{Tally};
@@ -10,14 +10,14 @@ ghost use Rattle.run_graph.specs.Soundness.{statements};
 ghost use Rattle.every_history.specs.Reading.{read};
 ghost use Rattle.session_core.specs.Engines.{HasDrawn};
 ghost use Rattle.notebook_meaning.specs.Cells.{recorded};
-ghost use Rattle.notebook_engine.specs.Holding.{HoldsCells, HasRoom, IsFull, PassesWith, HasRun, fault_in};
+ghost use Rattle.notebook_engine.specs.Holding.{HoldsCells, PassesWith, HasRun, fault_in};
 
 use crate::notebook::Notebook;
 use crate::replies::reply_of;
 use graph_model::Tally as Number;
 use history_graph::HistoryFault;
-use nb_outside::{Feed, draws_add_up};
-use plain_data::{Items, cut_at};
+use nb_outside::Feed;
+use plain_data::cut_at;
 use py_heap::State;
 use py_kernel::Kernel;
 use py_meaning::CellEnd;
@@ -78,23 +78,28 @@ fn run_code<F: Feed>(
 }
 
 impl Notebook {
-    /// The number of the session that has no room for a cell more, if there is one.
-    pub(crate) fn full(&self, counted: bool) -> Option<Number>
-        ensures { MatchOption result (HasRoom self.now counted) (IsFull self.now counted) }
+    /// Runs a cell although the session's count is at its end and the cell would raise it. The cell isn't answered: `TooMany` names the
+    /// count, with the draws that the cell took. The session may only be dropped.
+    fn run_full<F: Feed>(&mut self, alloc: Global, code: &str, feed: &mut F) -> RunFault
+        requires { 4294967295 ≤ self.old.kernel.state.count }
+        ensures passes { (which : Tally) (draws : List Drawn) → result ≡ RunFault.TooMany which draws
+            → PassesWith self.old (record { code = recorded code.now; draws = draws; counted = true }) which }
+        ensures drawn { HasDrawn (Err result) (F.seen feed.old) (F.seen feed.new) }
     {
-        let count = count_in(&self.kernel.state);
-        if counted && count == u32::MAX {
-            return Some(Number::Count);
+        let (end, _) = match run_code(alloc, &mut self.kernel, &mut self.trees, code, feed) {
+            Ok(ran) => ran,
+            Err(_) => return RunFault::OutOfMemory,
+        };
+        let CellEnd { draws, .. } = end;
+        RunFault::TooMany {
+            which: Number::Count,
+            draws,
         }
-        if self.history.graph().cells.len() >= u32::MAX as usize {
-            return Some(Number::Cells);
-        }
-        None
     }
 
-    /// Runs a cell, records it, and answers it. After an error the session may only be dropped: `TooMany` names the first of
-    /// its numbers that would reach 2^32 with the cell, with the draws that the cell took.
-    pub(crate) fn run_cell<F: Feed>(
+    /// Runs a cell that the count has room for, records it, and answers it. After an error the session may only be dropped: `TooMany`
+    /// names the first of its numbers that would reach 2^32 with the cell, with the draws that the cell took.
+    fn run_cell<F: Feed>(
         &mut self,
         alloc: Global,
         code: &str,
@@ -103,7 +108,7 @@ impl Notebook {
         feed: &mut F,
     ) -> Result<Done, RunFault>
         requires closed { IsClosed self.old.kernel.state }
-        requires room { HasRoom self.old counted }
+        requires room { counted ≡ true → self.old.kernel.state.count < 4294967295 }
         ensures ran { IfOk result (λ done. (cells : List ListedCell) → HoldsCells self.old cells
             → HasRun self.new cells silent code.now (record { code = recorded code.now; draws = done.draws; counted = counted }) done.reply) }
         ensures passes { (which : Tally) (draws : List Drawn) → result ≡ Err (RunFault.TooMany which draws)
@@ -142,7 +147,8 @@ impl Notebook {
         }
     }
 
-    /// Runs a cell if the count and the number of cells have room for it. After an error the session may only be dropped.
+    /// Runs a cell, records it, and answers it, or names the first of the session's numbers that would reach 2^32 with the cell. The
+    /// cell is run before a number is judged. After an error the session may only be dropped.
     pub(crate) fn execute<F: Feed>(
         &mut self,
         alloc: Global,
@@ -159,12 +165,8 @@ impl Notebook {
         ensures host { OnOk result (self.new.kernel.host ≡ self.old.kernel.host) }
         ensures drawn { HasDrawn result (F.seen feed.old) (F.seen feed.new) }
     {
-        draws_add_up();
-        if let Some(which) = self.full(counted) {
-            return Err(RunFault::TooMany {
-                which,
-                draws: Items::new(alloc),
-            });
+        if counted && count_in(&self.kernel.state) == u32::MAX {
+            return Err(self.run_full(alloc, code, feed));
         }
         self.run_cell(alloc, code, silent, counted, feed)
     }

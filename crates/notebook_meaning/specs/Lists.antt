@@ -12,12 +12,17 @@ use Rattle.session_core.specs.declared.request.Ask.TheVariants.{Execute, Info, C
 use Rattle.session_core.specs.Asks.{is_end}
 use Rattle.session_core.specs.Meanings.{Served}
 use Rattle.notebook_meaning.specs.Cells.{cell_of, with_ask, unmoved}
-use Rattle.notebook_meaning.specs.Numbers.{IsPassed}
+use Rattle.notebook_meaning.specs.Numbers.{IsPassed, IsPassedFirst}
 
 -- after these cells, a cell takes just its draws, and leaves each number of the session below 2^32
 pub record MayRun (cells : List ListedCell) (e : ListedCell) : Type 0 where
   pub uses : UsesUp (statements (read e.code)) (raised e (unmoved cells)) e.draws
   pub fits : (which : Tally) → ¬ IsPassed (cells ++ e ∷ []) which
+
+-- after these cells, a cell takes just its draws, and with it this is the first number of the session that reaches 2^32
+pub record Fills (cells : List ListedCell) (e : ListedCell) (which : Tally) : Type 0 where
+  pub uses : UsesUp (statements (read e.code)) (raised e (unmoved cells)) e.draws
+  pub first : IsPassedFirst (cells ++ e ∷ []) which
 
 -- a code is a text; only a cell draws; a move is no ask of such a list
 abbrev pub MayServe : List ListedCell → Ask → List Drawn → Type 0

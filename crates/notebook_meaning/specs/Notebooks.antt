@@ -1,5 +1,6 @@
 -- What a notebook is: the lists of asks that it may serve, what it answers, and what such a list leaves.
-use Rattle.std.specs.Prelude.{◌≡◌, ℕ, ◌<◌, ◌^◌, List, [], ◌∷◌, ◌++◌, length}
+use Rattle.std.specs.Prelude.{◌≡◌, ℕ, ◌<◌, ◌^◌, List, length}
+use Rattle.std.specs.Str.{IsUtf8}
 use Rattle.nb_outside.specs.declared.feed.Drawn.{Drawn}
 use Rattle.graph_model.specs.declared.graph.Graph.{Graph}
 use Rattle.graph_model.specs.declared.plan.Plan.{Plan}
@@ -12,8 +13,8 @@ use Rattle.session_core.specs.declared.request.Ask.{Ask}
 use Rattle.session_core.specs.declared.request.Ask.TheVariants.{Execute, Info, Complete, Shutdown, Migrate}
 use Rattle.session_core.specs.Meanings.{Meaning}
 use Rattle.notebook_meaning.specs.Cells.{cell_of, cells_of, unmoved}
-use Rattle.notebook_meaning.specs.Numbers.{IsHistoryOf, IsPassedFirst}
-use Rattle.notebook_meaning.specs.Lists.{IsRunOfAsks}
+use Rattle.notebook_meaning.specs.Numbers.{IsHistoryOf}
+use Rattle.notebook_meaning.specs.Lists.{Fills, IsRunOfAsks}
 use Rattle.notebook_meaning.specs.Answers.{answer_after}
 
 -- the history of these cells, with fewer than 2^32 cells and versions
@@ -33,9 +34,9 @@ pub record IsTextOf (cells : List ListedCell) (plan : Plan) (bytes : List ℕ) :
   pub has_text : HasText (unmoved cells) graph plan
   pub text : bytes ≡ checkpoint_text (unmoved cells) graph plan
 
--- with this cell, this is the first number that reaches 2^32. No other ask passes a number
+-- the cell takes just these draws, and with it this is the first number that reaches 2^32. No other ask passes a number
 abbrev pub Passes : List ListedCell → Ask → List Drawn → Tally → Type 0
-Passes cells (Execute code silent store) draws which = IsPassedFirst (cells ++ cell_of code silent store draws ∷ []) which
+Passes cells (Execute code silent store) draws which = IsUtf8 code × Fills cells (cell_of code silent store draws) which
 Passes cells Info draws which = ⊥
 Passes cells (Complete code) draws which = ⊥
 Passes cells (Shutdown restart) draws which = ⊥

@@ -1,10 +1,10 @@
 //! Lines of cases, and what is said of each.
 
 use crate::flows::flow_answer;
-use crate::members::{small_in, text_in};
 use crate::plans::graph_answer;
 use crate::steps::cost_line;
 use anyhow::{Result, bail};
+use json_members::{small_in, text_in};
 use serde_json::Value;
 use std::alloc::Global;
 use std::io::{BufRead, BufReader};

@@ -31,19 +31,32 @@ fn value_of(net: &Network, flow: &ArcFlow) -> Result<u128> {
     }
 }
 
-/// The value of a greatest flow, and the capacity of a cut of it.
-fn greatest(alloc: Global, net: &Network) -> Result<String> {
-    let alone = max_flow(alloc, net)?;
-    if let Err(fault) = check_flow(net, &alone) {
-        bail!("the flow isn't legal: {fault}")
+/// The value of the greatest flow that is sought alone.
+fn value_alone(alloc: Global, net: &Network) -> Result<u128> {
+    let flow = max_flow(alloc, net)?;
+    match check_flow(net, &flow) {
+        Ok(()) => value_of(net, &flow),
+        Err(fault) => bail!("the flow isn't legal: {fault}"),
     }
+}
+
+/// The value of the greatest flow that is sought with a cut, and the cut.
+fn value_with_cut(alloc: Global, net: &Network) -> Result<(u128, Cut)> {
     let (flow, cut) = max_flow_with_cut(alloc, net)?;
     let value = value_of(net, &flow)?;
-    if value != value_of(net, &alone)? {
-        bail!("two greatest flows have two values")
-    }
-    if !is_inside(&cut, 0) || is_inside(&cut, 1) {
+    if is_inside(&cut, 0) && !is_inside(&cut, 1) {
+        Ok((value, cut))
+    } else {
         bail!("the cut doesn't part the source from the sink")
+    }
+}
+
+/// The value of a greatest flow, and the capacity of a cut of it.
+fn greatest(alloc: Global, net: &Network) -> Result<String> {
+    let alone = value_alone(alloc, net)?;
+    let (value, cut) = value_with_cut(alloc, net)?;
+    if value != alone {
+        bail!("two greatest flows have two values")
     }
     let capacity = capacity_of(net, &cut);
     Ok(format!(in alloc; "value {value} cut {capacity}")?)

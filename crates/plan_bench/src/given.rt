@@ -1,21 +1,21 @@
 //! What a line gives: a network, a flow, a graph, a plan and weights.
 
-use crate::members::{
-    is_set, list_or_none, number_at, numbers_or_none, small_at, small_in, small_or_0,
-    smalls_or_none, texts_or_none,
-};
 use anyhow::{Result, bail};
 use flow_arcs::{ArcFlow, Network};
 use graph_model::{CellRecord, Graph, Plan, Version, Weights};
+use json_members::{
+    is_set, item_at, list_or_none, number_of, numbers_of, small_in, small_of, small_or_0,
+    smalls_of, texts_of,
+};
 use plain_data::{Items, Text};
 use serde_json::Value;
 use std::alloc::Global;
 
 /// Adds the arc that a list of its two nodes and its capacity is.
 fn add_arc(net: &mut Network, arc: &Value) -> Result<()> {
-    let from = small_at(arc, 0)?;
-    let to = small_at(arc, 1)?;
-    let capacity = number_at(arc, 2)?;
+    let from = small_of(item_at(arc, 0)?)?;
+    let to = small_of(item_at(arc, 1)?)?;
+    let capacity = number_of(item_at(arc, 2)?)?;
     if from >= net.nodes() || to >= net.nodes() || from == 1 || to == 0 {
         bail!("an arc can't be between {from} and {to}")
     }
@@ -39,7 +39,7 @@ pub(crate) fn network_given(alloc: Global, line: &Value) -> Result<Network> {
 /// The flow that `on` tells for each arc.
 pub(crate) fn flow_given(alloc: Global, line: &Value) -> Result<ArcFlow> {
     Ok(ArcFlow {
-        on: numbers_or_none(alloc, line, "on")?,
+        on: numbers_of(alloc, list_or_none(line, "on")?)?,
     })
 }
 
@@ -49,14 +49,14 @@ fn cell_given(alloc: Global, cell: &Value) -> Result<CellRecord> {
         meter: 0,
         steps: small_or_0(cell, "steps")?,
         drew: is_set(cell, "drew"),
-        reads: smalls_or_none(alloc, cell, "reads")?,
-        missing: texts_or_none(alloc, cell, "missing")?,
+        reads: smalls_of(alloc, list_or_none(cell, "reads")?)?,
+        missing: texts_of(alloc, list_or_none(cell, "missing")?)?,
     })
 }
 
 fn version_given(alloc: Global, version: &Value) -> Result<Version> {
     Ok(Version {
-        names: texts_or_none(alloc, version, "names")?,
+        names: texts_of(alloc, list_or_none(version, "names")?)?,
         writer: small_or_0(version, "writer")?,
         replaced: small_or_0(version, "replaced")?,
         absent: is_set(version, "absent"),
@@ -83,8 +83,8 @@ pub(crate) fn graph_given(alloc: Global, line: &Value) -> Result<Graph> {
 /// The plan that copies the versions `copied` and runs the cells `rerun` again.
 pub(crate) fn plan_given(alloc: Global, line: &Value) -> Result<Plan> {
     Ok(Plan {
-        copied: smalls_or_none(alloc, line, "copied")?,
-        rerun: smalls_or_none(alloc, line, "rerun")?,
+        copied: smalls_of(alloc, list_or_none(line, "copied")?)?,
+        rerun: smalls_of(alloc, list_or_none(line, "rerun")?)?,
     })
 }
 
@@ -94,9 +94,9 @@ pub(crate) fn weights_given(line: &Value) -> Result<Weights> {
         bail!("there are no weights")
     };
     Ok(Weights {
-        copy_base: number_at(weights, 0)?,
-        per_byte: number_at(weights, 1)?,
-        run_base: number_at(weights, 2)?,
-        per_step: number_at(weights, 3)?,
+        copy_base: number_of(item_at(weights, 0)?)?,
+        per_byte: number_of(item_at(weights, 1)?)?,
+        run_base: number_of(item_at(weights, 2)?)?,
+        per_step: number_of(item_at(weights, 3)?)?,
     })
 }

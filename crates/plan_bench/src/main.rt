@@ -29,7 +29,6 @@ use steps::{MOST, Times, cost_line, made, timed};
 mod cases;
 mod flows;
 mod given;
-mod members;
 mod plans;
 mod session;
 mod shape;

@@ -4,12 +4,13 @@ ghost use Rattle.graph_model.specs.Faults.{IsGraph};
 ghost use Rattle.graph_model.specs.Plans.{AreAdmitted, NamesOf};
 
 use crate::given::{flow_given, graph_given, plan_given, weights_given};
-use crate::members::{small_in, text_in};
-use crate::steps::TOO_MANY;
+use crate::steps::has_too_many;
 use crate::words::{certified_text, need_text, network_text};
 use anyhow::{Result, bail};
 use cut_network::{PlanFault, network_of, plan};
-use graph_model::{Graph, Plan, Weights};
+use flow_arcs::ArcFlow;
+use graph_model::{Certified, Graph, Plan, Weights};
+use json_members::{small_in, text_in};
 use plan_model::{PlanCheck, check_plan, check_weights, cost, feasible, is_plan_of};
 use serde_json::Value;
 use std::alloc::{AllocError, Global};
@@ -48,25 +49,33 @@ fn cost_text(
     }
 }
 
+/// What the planner's plan costs when it is judged again, which has to be what the planner says.
+fn judged_again(alloc: Global, graph: &Graph, weights: &Weights, best: &Certified) -> Result<String>
+    requires graph { IsGraph graph.now }
+    requires weights { AreAdmitted graph.now weights.now }
+{
+    if !is_plan_of(graph, &best.plan) {
+        bail!("the plan is none of this graph")
+    }
+    let text = cost_text(alloc, graph, weights, &best.plan)?;
+    let cost = best.cost;
+    let told = format!(in alloc; "cost {cost}")?;
+    if text.as_str() != told.as_str() {
+        bail!("the plan says {told}, and is judged {text}")
+    }
+    Ok(text)
+}
+
 /// What the planner's plan costs when it is judged again, or that some version is stuck.
 fn least_text(alloc: Global, graph: &Graph, weights: &Weights) -> Result<String>
     requires graph { IsGraph graph.now }
     requires weights { AreAdmitted graph.now weights.now }
 {
-    let best = match plan(alloc, graph, weights) {
-        Ok(best) => best,
-        Err(PlanFault::OutOfMemory) => return Err(AllocError.into()),
-        Err(fault) => return Ok(format!(in alloc; "{fault}")?),
-    };
-    if !is_plan_of(graph, &best.plan) {
-        bail!("the plan is none of this graph")
+    match plan(alloc, graph, weights) {
+        Ok(best) => judged_again(alloc, graph, weights, &best),
+        Err(PlanFault::OutOfMemory) => Err(AllocError.into()),
+        Err(fault) => Ok(format!(in alloc; "{fault}")?),
     }
-    let text = cost_text(alloc, graph, weights, &best.plan)?;
-    let told = format!(in alloc; "cost {}", best.cost)?;
-    if text.as_str() != told.as_str() {
-        bail!("the plan says {told}, and is judged {text}")
-    }
-    Ok(text)
 }
 
 /// The planner's plan, its cost, and the arcs that show it.
@@ -88,6 +97,23 @@ fn judged_text(alloc: Global, answer: PlanCheck) -> Result<String, AllocError> {
     }
 }
 
+/// What is said of a plan with what each arc carries.
+fn judged_with_flow(
+    alloc: Global,
+    graph: &Graph,
+    weights: &Weights,
+    plan: &Plan,
+    flow: &ArcFlow,
+) -> Result<String>
+    requires graph { IsGraph graph.now }
+    requires weights { AreAdmitted graph.now weights.now }
+    requires names { NamesOf graph.now plan.now }
+{
+    let net = network_of(alloc, graph, weights)?;
+    let answer = check_plan(graph, weights, plan, &net, flow);
+    Ok(judged_text(alloc, answer)?)
+}
+
 /// What is said of the plan that a line gives.
 fn plan_answer(alloc: Global, graph: &Graph, weights: &Weights, line: &Value) -> Result<String>
     requires graph { IsGraph graph.now }
@@ -101,9 +127,7 @@ fn plan_answer(alloc: Global, graph: &Graph, weights: &Weights, line: &Value) ->
         return Ok(cost_text(alloc, graph, weights, &plan)?);
     }
     let flow = flow_given(alloc, line)?;
-    let net = network_of(alloc, graph, weights)?;
-    let answer = check_plan(graph, weights, &plan, &net, &flow);
-    Ok(judged_text(alloc, answer)?)
+    judged_with_flow(alloc, graph, weights, &plan, &flow)
 }
 
 /// What is said of a graph under weights that are admitted.
@@ -138,28 +162,45 @@ fn weights_text(alloc: Global, graph: &Graph, line: &Value) -> Result<String> {
     }
 }
 
+/// What is said of a graph under the weights that a line gives.
+fn weights_answer(alloc: Global, ask: &str, graph: &Graph, line: &Value) -> Result<String>
+    requires { IsGraph graph.now }
+{
+    let weights = weights_given(line)?;
+    match check_weights(graph, &weights) {
+        Ok(()) => weighed_answer(alloc, ask, graph, &weights, line),
+        Err(fault) => bail!("{fault}"),
+    }
+}
+
+/// What is said of a graph.
+fn checked_answer(alloc: Global, ask: &str, graph: &Graph, line: &Value) -> Result<String>
+    requires { IsGraph graph.now }
+{
+    match ask {
+        "check" => Ok(format!(in alloc; "a graph")?),
+        "need" => needed(alloc, graph, line),
+        _ => weights_answer(alloc, ask, graph, line),
+    }
+}
+
+/// What is said of cells and versions: whether their weights are admitted, or else first whether they are a graph.
+fn given_answer(alloc: Global, ask: &str, graph: &Graph, line: &Value) -> Result<String> {
+    if has_too_many(graph) {
+        bail!("too many cells")
+    }
+    if ask == "weigh" {
+        return weights_text(alloc, graph, line);
+    }
+    match graph.check(alloc)? {
+        Ok(()) => checked_answer(alloc, ask, graph, line),
+        Err(fault) => Ok(format!(in alloc; "{fault}")?),
+    }
+}
+
 /// What is said of a line that has `ask`.
 pub(crate) fn graph_answer(alloc: Global, line: &Value) -> Result<String> {
     let ask = text_in(line, "ask")?;
     let graph = graph_given(alloc, line)?;
-    if graph.cells.len() > TOO_MANY || graph.versions.len() > TOO_MANY {
-        bail!("too many cells")
-    }
-    if ask == "weigh" {
-        return weights_text(alloc, &graph, line);
-    }
-    if let Err(fault) = graph.check(alloc)? {
-        return Ok(format!(in alloc; "{fault}")?);
-    }
-    match ask {
-        "check" => Ok(format!(in alloc; "a graph")?),
-        "need" => needed(alloc, &graph, line),
-        _ => {
-            let weights = weights_given(line)?;
-            match check_weights(&graph, &weights) {
-                Ok(()) => weighed_answer(alloc, ask, &graph, &weights, line),
-                Err(fault) => bail!("{fault}"),
-            }
-        }
-    }
+    given_answer(alloc, ask, &graph, line)
 }

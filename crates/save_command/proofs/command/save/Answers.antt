@@ -3,8 +3,7 @@ use Rattle.node_run.specs.declared.end.RunEnd.{RunEnd}
 use Rattle.node_run.specs.Journals.{ServedSession, journals_of}
 use Rattle.node_run.specs.Streams.{HasRun}
 use Rattle.notebook_meaning.specs.Notebooks.{notebooks}
-use denote.Exit.{no}
-use denote.Param.Send.{param_send, arg_send}
+use denote.Param.Send.{sendable}
 use Rattle.notebook_engine.proofs.Crossing.{Notebook-send}
 use Rattle.save_command.specs.Saved.{WritesFirst}
 use Rattle.save_command.proofs.Telling.{told_ended, told_whole}
@@ -27,4 +26,4 @@ returns-clause-saved g c =
     c.in-Ok.ran.errors c.in-Ok.ran.runs.items c.status_of.ensures c.in_default-end.not-Whole told.1 told.2
 
 pub run_sessions-requires-send-E : goal.run_sessions-requires-send-E
-run_sessions-requires-send-E g c = λ κs within. param_send 0 _ (arg_send _ no _ Notebook-send)
+run_sessions-requires-send-E g c = λ κs within. search (Notebook-send, sendable) depth 6

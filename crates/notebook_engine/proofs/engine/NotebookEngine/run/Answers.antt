@@ -22,7 +22,7 @@ returns-in-Ok-clause-stands g c = λ served h no_end.
 
 pub returns-in-Err-clause-reply : goal.returns-in-Err-clause-reply
 returns-in-Err-clause-reply g c = λ served h no_end.
-    cell_fails c.args.self.now served h no_end c.args.ask.now c.in-Execute.silent c.in-Execute.store c.is_counted-counted.result c.in-Execute.code c.as_str.result.now c.in-Err.fault
+    cell_fails c.args.self.now served h no_end c.args.ask.now c.in-Execute.silent c.in-Execute.store c.is_counted-counted.result c.in-Execute.code c.as_str.result.now c.as_str.utf8 c.in-Err.fault
     c.in-Execute.is c.as_str.ensures c.is_counted-counted.ensures (λ which draws e. c.execute.ensures.passes which draws (c.in-Err.is ∙ ap (λ f. Err f) e))
 
 pub returns-in-Info-clause-reply : goal.returns-in-Info-clause-reply

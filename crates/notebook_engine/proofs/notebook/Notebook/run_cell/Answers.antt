@@ -1,4 +1,4 @@
-use Rattle.std.proofs.Common.{◌≡◌, ℕ, ◌+◌, ◌<◌, ◌^◌, cond, List, [], ◌∷◌, ◌++◌, sym, ap, ◌∙◌, subst}
+use Rattle.std.proofs.Common.{◌≡◌, ℕ, ◌+◌, ◌<◌, ◌^◌, cond, List, sym, ap, ◌∙◌, subst}
 use Rattle.nb_outside.specs.declared.feed.Drawn.{Drawn}
 use Rattle.py_heap.specs.declared.state.State.{State}
 use Rattle.py_heap.specs.References.{IsClosed}
@@ -16,11 +16,11 @@ use Rattle.history_graph.specs.Ends.{Makes}
 use Rattle.history_graph.specs.declared.history.History.{History}
 use Rattle.history_graph.specs.Tallies.{OnTally, IsOver, IsFirstOver}
 use Rattle.notebook_meaning.specs.Cells.{recorded}
-use Rattle.notebook_meaning.specs.Numbers.{IsPassedFirst}
+use Rattle.notebook_meaning.specs.Lists.{Fills}
 use Rattle.notebook_meaning.proofs.Lists.{codes_more}
 use Rattle.notebook_meaning.proofs.Recorded.{is_code}
 use Rattle.notebook_engine.proofs.Grown.{may_run, grown}
-use Rattle.notebook_engine.proofs.Passing.{one_number, one_draws, named_first, all_fit}
+use Rattle.notebook_engine.proofs.Passing.{one_number, one_draws, fills, all_fit}
 use Rattle.notebook_engine.proofs.Answered.{answered}
 use Rattle.notebook_engine.proofs.notebook.Notebook.run_cell.Goals as goal
 
@@ -90,8 +90,8 @@ returns-in-Err-TooMany-clause-passes g c = λ which draws same cells h.
     let told : OnTally (λ w. (z : State) → ArePartsOf z old.parts → IsFirstOver old s c.cut_at.result.0.now marks w) c.in-Err-TooMany.field-0 = c.in-Err-TooMany.ensures.too_many in
     let over : IsFirstOver old s c.cut_at.result.0.now marks number =
     subst (λ f. OnTally (λ w. (z : State) → ArePartsOf z old.parts → IsFirstOver old s c.cut_at.result.0.now marks w) f) c.in-Err-TooMany.field-0-is told t h.parts in
-    let first : IsPassedFirst (cells ++ e ∷ []) number = named_first cells t code c.utf8.code drew c.args.counted old h.session h.parts uses s marks state taken few number
+    let first : Fills cells e number = fills cells t code c.utf8.code drew c.args.counted old h.session h.parts uses s marks state taken few number
     (subst (λ (text : List ℕ). IsFirstOver old s text marks number) c.cut_at.ensures.front over) in
     let is : number ≡ which = sym c.in-Err-TooMany.which-is ∙ one_number _ which drew draws same in
-    subst (λ (d : List Drawn). IsPassedFirst (cells ++ record { code = recorded code; draws = d; counted = c.args.counted } ∷ []) which) (one_draws _ which drew draws same)
-    (subst (λ (w : Tally). IsPassedFirst (cells ++ e ∷ []) w) is first)
+    subst (λ (d : List Drawn). Fills cells (record { code = recorded code; draws = d; counted = c.args.counted }) which) (one_draws _ which drew draws same)
+    (subst (λ (w : Tally). Fills cells e w) is first)
