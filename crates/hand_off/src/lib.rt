@@ -4,8 +4,8 @@
 //! its host with one more. `specs/Moves` says which entry comes when, and what the session is then. docs/JOURNAL.md tells it in
 //! words.
 //!
-//! No contract says when memory runs out, so a `start_move` that always says so would be proved too. Therefore the tests of
-//! `session_threads` move a session.
+//! No contract says when memory runs out, so a `start_move` that always says so would be proved too. Therefore the tables of cases
+//! move sessions, through the program.
 #![tactic(auto)]
 
 mod moving;

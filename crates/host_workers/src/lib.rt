@@ -4,9 +4,9 @@
 //! back, or seals them for another host. `finish` does what is left of a session once the workers have returned. `specs/Turns` says
 //! what a turn does, and `specs/Tenures` which events of a session are what a worker does between a take and a give.
 //!
-//! Nothing is claimed of the run queues and of who is woken when: a session that stands in none of them is left for `finish`. No
+//! Nothing is claimed of the run queues and of who is woken when: a session that is in none of them is left for `finish`. No
 //! contract says when memory runs out, nor that a worker does anything: one that returns at once would be proved too, and so would
-//! a `turn` that always says that memory ran out. No program runs them yet.
+//! a `turn` that always says that memory ran out. Tests of the program, in which threads wait for one another, show that they work.
 #![tactic(auto)]
 
 mod bell;

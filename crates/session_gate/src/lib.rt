@@ -6,11 +6,11 @@
 //!
 //! What the contracts leave open: before a lock is taken nothing is known of what it guards but its type, so no clause of a
 //! cell's call can name who is there. Whom the call finds is said where it is lent the slot: `open`, `give`, `seal` and `settle`
-//! of a slot say that nobody was there. What lets go who is in a slot is private to the slot's file. A cell's call that takes the session out and ends it by a call that says so (`discard`,
-//! `into_journal`) would be proved.
+//! of a slot say that nobody was there. What lets go who is in a slot is private to the slot's file. A cell's call that takes the
+//! session out and ends it by a call that says so (`discard`, `into_journal`) would be proved.
 //!
 //! For the same reason a `SessionCell::take` that always says that another host owns the session, a `collect` and a `read` that
-//! never find anything, and a `finish` that always gives the cell back would be proved. The tests of `session_threads` run them.
+//! never find anything, and a `finish` that always gives the cell back would be proved. The program runs `take` and `collect`.
 #![tactic(auto)]
 
 mod cell;
