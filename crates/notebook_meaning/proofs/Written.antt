@@ -47,10 +47,10 @@ use Rattle.part_copies.specs.Written.{IsWritable, CanBeWritten}
 use Rattle.part_copies.proofs.Written.{part_is}
 use Rattle.checkpoint_laws.specs.Spelled.{IsCode, IsName, IsCellRecord, IsVersion, EachCopied, HasText}
 use Rattle.replay_laws.specs.Restored.{HasVersions}
-use Rattle.replay_laws.specs.Sizing.{holds_handle, have_values, size_of}
+use Rattle.part_bytes.specs.Sizing.{holds_handle, have_values, size_of}
 use Rattle.replay_laws.specs.Sessions.{StandsFor}
 use Rattle.replay_laws.proofs.Ending.{same_over}
-use Rattle.replay_laws.proofs.Sizing.{handle_told}
+use Rattle.replay_laws.proofs.Sizing.{handle_told, no_size, one_has_none}
 use Rattle.replay_laws.proofs.GoingOn.{versions_so}
 use Rattle.notebook_meaning.specs.Cells.{unmoved}
 use Rattle.notebook_meaning.specs.Codes.{HaveCodes}
@@ -102,13 +102,6 @@ code_of_entry (e ∷ cells) (suc n) h = code_of_entry cells n h.1
 pub no_truth : (b : Bool) → (b ≡ true → ⊥) → b ≡ false
 no_truth true h = absurd (h refl)
 no_truth false h = refl
-
-pub no_size : (names : List Name) (s : State) → (holds_handle names s ≡ true) ⊎ (have_values names s ≡ false) → size_of names s ≡ 0
-no_size names s (inl h) = rw h refl
-no_size names s (inr none) = elim (cases_Bool (holds_handle names s)) [ inl h ↦ rw h refl | inr f ↦ rw (f, none) refl ]
-
-pub one_has_none : (name : Name) (s : State) → HasNone s name → have_values (name ∷ []) s ≡ false
-one_has_none name s none = ap (λ o. is_some o && true) none
 
 module _ (cells : List ListedCell) (codes : HaveCodes cells) (g : Graph) (of : IsGraphOf cells g) where
   abbrev R : Run

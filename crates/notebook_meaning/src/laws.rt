@@ -11,7 +11,7 @@ ghost use Rattle.every_history.specs.Reading.{read};
 ghost use Rattle.checkpoint_bytes.specs.Texts.{checkpoint_text};
 ghost use Rattle.checkpoint_bytes.specs.Plain.{IsPlainCheckpoint};
 ghost use Rattle.checkpoint_laws.specs.Spelled.{IsCode, HasText};
-ghost use Rattle.replay_laws.specs.Sizing.{size_of};
+ghost use Rattle.part_bytes.specs.Sizing.{size_of};
 ghost use Rattle.replay_laws.specs.Sessions.{StandsFor};
 ghost use Rattle.reader_laws.specs.Valid.{IsValidState};
 ghost use Rattle.session_core.specs.declared.request.Ask.{Ask};

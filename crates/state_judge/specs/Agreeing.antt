@@ -9,7 +9,7 @@ use Rattle.graph_model.specs.Graphs.{IsActive}
 use Rattle.graph_model.specs.Faults.{TextBelow, Never}
 use Rattle.linked_parts.specs.Parts.{HasValue, IsPart}
 use Rattle.run_graph.specs.Parts.{HasHandle}
-use Rattle.replay_laws.specs.Sizing.{size_of}
+use Rattle.part_bytes.specs.Sizing.{size_of}
 use Rattle.state_judge.specs.declared.judging.Disagreement.{Disagreement}
 use Rattle.state_judge.specs.declared.judging.Disagreement.TheVariants.{OutOfMemory, Unlike, Loose}
 

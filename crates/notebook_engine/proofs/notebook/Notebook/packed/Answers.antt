@@ -1,7 +1,7 @@
 use Rattle.std.proofs.Common.{ap, ◌∙◌, Err, sym, subst}
 use Rattle.graph_model.specs.declared.graph.Graph.{Graph}
 use Rattle.every_history.specs.Reading.{read}
-use Rattle.replay_laws.specs.Sizing.{size_of}
+use Rattle.part_bytes.specs.Sizing.{size_of}
 use Rattle.replay_laws.specs.Sessions.{StandsFor}
 use Rattle.notebook_meaning.specs.Cells.{cells_of}
 use Rattle.notebook_meaning.specs.Notebooks.{IsGraphOf}
