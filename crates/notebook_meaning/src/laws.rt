@@ -10,6 +10,7 @@ ghost use Rattle.run_graph.specs.RunLists.{ListedCell, entry_done, state_after, 
 ghost use Rattle.every_history.specs.Reading.{read};
 ghost use Rattle.checkpoint_bytes.specs.Texts.{checkpoint_text};
 ghost use Rattle.checkpoint_bytes.specs.Plain.{IsPlainCheckpoint};
+ghost use Rattle.checkpoint_bytes.specs.Sessions.{TellsOf};
 ghost use Rattle.checkpoint_laws.specs.Spelled.{IsCode, HasText};
 ghost use Rattle.part_bytes.specs.Sizing.{size_of};
 ghost use Rattle.replay_laws.specs.Sessions.{StandsFor};
@@ -51,9 +52,10 @@ pub fn states_of_codes_are_valid()
 {}
 
 /// A session that stands for cells has, under a feasible plan, the text that it would have if it had never moved. That text can
-/// be read, if counts and numbers have room in it.
+/// be read, if counts and numbers have room in it. The graph tells of the session's state: its versions that hold are the state's parts.
 pub fn a_session_can_be_written()
     ensures text { (cells : List ListedCell) (g : Graph) (t : State) (p : Plan) → StandsFor read size_of cells g t → checkpoint_text t g p ≡ checkpoint_text (unmoved cells) g p }
     ensures has_text { (cells : List ListedCell) (g : Graph) (t : State) (p : Plan) → HaveCodes cells → StandsFor read size_of cells g t → IsGraphOf cells g
         → NamesOf g p → IsFeasible g p → IsPlainCheckpoint t g p → HasText (unmoved cells) g p }
+    ensures tells { (cells : List ListedCell) (g : Graph) (t : State) → HaveCodes cells → StandsFor read size_of cells g t → IsGraphOf cells g → TellsOf g t }
 {}
