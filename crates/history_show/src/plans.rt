@@ -1,21 +1,76 @@
 //! A plan of least cost for a session, in words, and the session's bytes under it.
 
+ghost use Rattle.std.specs.Prelude.{◌≡◌, true, All, Ok};
 ghost use Rattle.py_heap.specs.References.{IsClosed};
+ghost use Rattle.graph_model.specs.Faults.{IsGraph};
+ghost use Rattle.checkpoint_bytes.specs.Sessions.{IsWithinBounds, TellsOf};
+ghost use Rattle.state_judge.specs.Agreeing.{HasPlainAbsent};
 
 use crate::words::put;
 use anyhow::{Result, bail};
 use checkpoint_bytes::write_checkpoint;
 use checkpoint_commands::plan_lines;
 use cut_network::{PlanFault, plan};
-use graph_model::{Graph, Weights};
+use graph_model::{CellRecord, Graph, Weights};
 use hex::encode;
+use linked_parts::parts_of;
 use plain_data::Text;
 use plan_model::check_weights;
 use py_heap::State;
-use std::alloc::Global;
+use state_judge::{Disagreement, a_state_that_agrees_has_the_versions, judge};
+use std::alloc::{AllocError, Global};
 
 /// More cells and versions than are planned.
 const TOO_MANY: usize = 1 << 20;
+
+/// The most bytes of a cell's code, units on its meter as it begins, and steps.
+const MOST_BYTES: usize = 262_148;
+const MOST_UNITS: u32 = 16_777_216;
+const MOST_STEPS: u32 = 1_000_000;
+
+/// Whether each cell of a graph is within the bounds of a checkpoint's cells.
+fn are_bounded(cells: &[CellRecord]) -> bool
+    ensures { result ≡ true → All IsWithinBounds cells.now }
+{
+    for cell in cells {
+        let code = cell.code.as_str();
+        if code.len() > MOST_BYTES || cell.meter > MOST_UNITS || cell.steps > MOST_STEPS {
+            return false;
+        }
+    }
+    true
+}
+
+/// Whether the absent versions of a graph that hold have no handle and no size.
+fn are_absent_plain(graph: &Graph) -> bool
+    ensures { result ≡ true → HasPlainAbsent graph.now }
+{
+    for version in graph.versions.as_slice() {
+        if version.replaced == 0 && version.absent && (version.handle || version.size != 0) {
+            return false;
+        }
+    }
+    true
+}
+
+/// Whether a graph without a fault tells of a state: its versions that hold are the state's parts, and its cells are within their
+/// bounds.
+fn tells(alloc: Global, graph: &Graph, state: &State) -> Result<bool, AllocError>
+    requires closed { IsClosed state.now }
+    requires graph { IsGraph graph.now }
+    ensures { result ≡ Ok true → TellsOf graph.now state.now }
+{
+    a_state_that_agrees_has_the_versions();
+    if !are_bounded(graph.cells.as_slice()) || !are_absent_plain(graph) {
+        return Ok(false);
+    }
+    let parts = parts_of(alloc, state)?;
+    match judge(alloc, graph, state, &parts) {
+        Ok(()) => Ok(true),
+        Err(Disagreement::OutOfMemory) => Err(AllocError),
+        Err(_) => Ok(false),
+    }
+}
 
 /// Adds the lines of a plan by these weights and of the session's bytes under it, or of what can't be planned.
 pub fn put_checkpoint(
@@ -32,6 +87,9 @@ pub fn put_checkpoint(
     }
     if graph.check(alloc)?.is_err() {
         bail!("the graph has a fault")
+    }
+    if !tells(alloc, graph, state)? {
+        bail!("the graph doesn't tell of the state")
     }
     if check_weights(graph, weights).is_err() {
         bail!("too much weight")

@@ -27,6 +27,10 @@ Disagrees x s = ((x.absent ≡ true) × (name : Name) × Contains x.names name �
 abbrev pub IsUnlike : Graph → State → ℕ → Type 0
 IsUnlike g s v = (x : Version) × IsActive g v x × Disagrees x s
 
+-- absent versions that hold at the end have no handle and no size
+abbrev pub HasPlainAbsent : Graph → Type 0
+HasPlainAbsent g = (v : ℕ) (x : Version) → IsActive g v x → x.absent ≡ true → (x.handle ≡ false) × (x.size ≡ 0)
+
 -- the name has a value, and no version that holds at the end has the name
 abbrev pub IsLoose : Graph → State → Name → Type 0
 IsLoose g s name = HasValue s name × ((v : ℕ) (x : Version) → IsActive g v x → ¬ Contains x.names name)
