@@ -6,5 +6,5 @@ use Rattle.checkpoint_bytes.proofs.write.write_checkpoint.Goals as goal
 
 pub write_versions-requires-clause-movable : goal.write_versions-requires-clause-movable
 write_versions-requires-clause-movable c =
-    subst (λ (xs : List Version). (k : ℕ) (d : Version) → k < length xs → IsMovableIfCopied c.args.state.now c.args.plan.now (k + 1) (get_or xs k d)) (sym c.as_slice-2.ensures)
+    subst (λ (xs : List Version). (k : ℕ) (d : Version) → k < length xs → IsMovableIfCopied c.args.state.now c.args.plan.now (k + 1) (get_or xs k d)) (sym c.as_slice-versions.ensures)
     (copied_moves c.args.state.now c.args.graph.now c.args.plan.now c.requires.session.versions c.requires.names c.requires.feasible)
