@@ -25,7 +25,9 @@ const TOO_MANY: usize = 1 << 20;
 
 /// The most bytes of a cell's code, units on its meter as it begins, and steps.
 const MOST_BYTES: usize = 262_148;
+
 const MOST_UNITS: u32 = 16_777_216;
+
 const MOST_STEPS: u32 = 1_000_000;
 
 /// Whether each cell of a graph is within the bounds of a checkpoint's cells.
