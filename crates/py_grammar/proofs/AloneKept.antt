@@ -5,7 +5,7 @@ use Rattle.py_token.specs.declared.kinds.Kind.TheVariants as t
 use Rattle.py_grammar.specs.Words.{if_word, else_word, elif_word, while_word, for_word, in_word, pass_word, break_word, continue_word, return_word, global_word, del_word, def_word, floor_assign_sign, plus_assign_sign, minus_assign_sign, times_assign_sign, mod_assign_sign, assign_sign, open_parenthesis, close_parenthesis, colon, comma}
 use Rattle.py_grammar.specs.Expressions.{Exprs, single}
 use Rattle.py_grammar.specs.Readings.{Reading, begun, read, whole, narrow}
-use Rattle.py_grammar.specs.Statements.{Target, Targets, Variables, variables, variables_comma, Augmentation, by_plus, by_minus, by_times, by_floor, by_modulo, Names, Word, break_, continue_, Simple, word, declare, Params, compound, Head, choose, otherwise, while_true, for_each, define, Branches, Block, inline, indented, Statements, statements_one}
+use Rattle.py_grammar.specs.Statements.{Target, Targets, Augmentation, by_plus, by_minus, by_times, by_floor, by_modulo, Names, Word, break_, continue_, Simple, word, declare, Params, compound, Head, choose, otherwise, while_true, for_each, define, Branches, Block, inline, indented, Statements, statements_one}
 use Rattle.py_grammar.specs.States.{Outer, outer, Spot, own, behind_head, Purpose, showing, giving, deleting, Lead, lead_if, lead_elif, lead_while, lead_for, State, line, in_simple, after_word, in_global, has_global, in_test, in_variables, has_variables, after_else, after_def, after_def_name, in_params, has_params, after_params, after_colon, after_newline, done, spot_around, spot_heard, add_name, close, ended, place_of, targets_of, finished, head_of, fits, Continued, continued, last_branches, if_allowed, then_simple, begins, elif_at, else_at, dedent_at, on_line, ends, assigns, augments, on_simple, on_word, is_new_name, on_global, on_global_name, tested, then_test, variables_end, on_variables, on_variable, on_else, on_def, on_def_name, on_params, on_param, on_params_end, on_colon, on_newline, step}
 use Rattle.py_grammar.specs.AloneMachine.{on_first, on_last, step_alone}
 

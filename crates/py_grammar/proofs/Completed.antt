@@ -4,12 +4,11 @@ use Rattle.py_token.specs.declared.kinds.Kind.{Kind}
 use Rattle.py_token.specs.declared.kinds.Kind.TheVariants as t
 use Rattle.std.specs.Prelude.{pos}
 use Rattle.std.specs.Cmp.Lexicographic.{pointwise}
-use Rattle.std.proofs.lemmas.Bool.{false≢true}
 use Rattle.py_grammar.specs.Words.{for_word, in_word, return_word, global_word, del_word, def_word, open_parenthesis, close_parenthesis, open_bracket, close_bracket, colon}
-use Rattle.py_grammar.specs.Expressions.{Expression, single, Exprs}
+use Rattle.py_grammar.specs.Expressions.{single}
 use Rattle.py_grammar.specs.Readings.{Reading, begun, reading_stands}
 use Rattle.py_grammar.specs.Open.{spell_reading}
-use Rattle.py_grammar.specs.Statements.{to_item, Variables, variables, variables_comma, Head, choose, if_true, else_if, while_true, for_each, Around, head_stands, spell_head, Names, Simple, word, give, declare, delete, assign, augment, show, spell_names, spell_simple, Params, params, simple, compound, otherwise, define, inline, indented, Statements, statements_one, is_new, simple_stands, Cell, spell_front, front_stands, spelling, cell_stands}
+use Rattle.py_grammar.specs.Statements.{to_item, variables, Head, choose, if_true, else_if, while_true, for_each, Around, head_stands, spell_head, Names, Simple, word, give, declare, delete, assign, augment, show, spell_names, spell_simple, Params, params, simple, compound, otherwise, define, inline, indented, Statements, statements_one, is_new, simple_stands, Cell, spell_front, front_stands, spelling, cell_stands}
 use Rattle.py_grammar.specs.States.{Outer, outer, Spot, own, behind_head, Purpose, showing, giving, deleting, assigning, augmenting, Lead, lead_if, lead_elif, lead_while, lead_for, State, line, in_simple, after_word, in_global, has_global, in_test, in_variables, has_variables, after_else, after_def, after_def_name, in_params, has_params, after_params, after_colon, after_newline, done, around, heard, spot_around, spot_heard, add_statement, add_name, close, ended, fits, is_new_name, params_of, spell_outers, spell_spot, spell_purpose, spell_lead, spell_state, outers_stand, spot_stands, purpose_stands, lead_stands, state_stands}
 use Rattle.py_grammar.proofs.Ends.{nought, reading-ends, undivided-ends, narrow-ends}
 use Rattle.py_grammar.proofs.Stepped.{close-spelled, ended-spelled, add_name-spelled, params_of-spelled}

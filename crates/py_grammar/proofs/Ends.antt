@@ -1,11 +1,11 @@
 -- Whatever has been read of an expression goes on to a whole one.
-use Rattle.std.proofs.Common.{◌≡◌, List, [], ◌∷◌, Bool, false, IsTrue, Some, None, refl, ap, ◌∙◌, sym, subst}
+use Rattle.std.proofs.Common.{◌≡◌, List, [], ◌∷◌, false, IsTrue, Some, None, refl, ap, ◌∙◌, sym, subst}
 use Rattle.py_token.specs.declared.kinds.Kind.{Kind}
 use Rattle.py_token.specs.declared.kinds.Kind.TheVariants as t
 use Rattle.std.proofs.lemmas.Bool.{false≢true}
 use Rattle.std.specs.Prelude.{pos}
-use Rattle.py_grammar.specs.Words.{else_word, in_word, none_word, open_parenthesis, close_parenthesis, open_bracket, close_bracket, open_brace, close_brace, colon, comma}
-use Rattle.py_grammar.specs.Expressions.{Expression, plain, conditional, ors_one, ands_one, compared, Compares, compares_one, compares_more, compares_none, compares_not_none, not_within, sums_one, products_one, unsigned, Primary, number, group, display, dict, call, index, slice, Exprs, single, tuple, Elements, method, bounded, no_args, args, entries, spell_expression, spell_compares, spell_primary, spell_exprs, spell_callee, spell_elements}
+use Rattle.py_grammar.specs.Words.{else_word, in_word, none_word, open_parenthesis, close_parenthesis, open_bracket, close_bracket, open_brace, close_brace, colon}
+use Rattle.py_grammar.specs.Expressions.{Expression, plain, conditional, ors_one, ands_one, compared, Compares, compares_one, compares_more, compares_none, compares_not_none, not_within, sums_one, products_one, unsigned, Primary, number, group, display, dict, call, index, slice, single, tuple, Elements, method, bounded, no_args, args, entries, spell_expression, spell_compares, spell_primary, spell_exprs, spell_callee}
 use Rattle.py_grammar.specs.Readings.{Upper, upper, Lower, Bracket, in_group, in_display, in_dict, in_pair, in_call, in_index, in_slice, Opened, opened, listed, Reading, wants, has, has_none, has_not_none, after_is, after_is_not, after_not, after_dot, after_method, add_nots, add_and, add_or, add_picked, add_element, add_pair, compares_of, bare, bare_below, narrow, open_in, one_below, undivided, lists_stand, reading_stands}
 use Rattle.py_grammar.specs.Open.{spell_upper, spell_lower, spell_bracket, spell_opened, spell_reading}
 use Rattle.py_grammar.proofs.Spelled.{add_element-spelled, add_pair-spelled, compares_of-spelled, picked-spelled, chosen-spelled}

@@ -6,7 +6,7 @@ use Rattle.py_grammar.specs.Words.{if_word, else_word, elif_word, while_word, fo
 use Rattle.py_grammar.specs.Expressions.{Exprs, single}
 use Rattle.py_grammar.specs.Readings.{Reading, begun, read, whole, narrow, reading_stands}
 use Rattle.py_grammar.specs.Open.{spell_reading}
-use Rattle.py_grammar.specs.Statements.{Target, Targets, Variables, variables, variables_comma, Head, Augmentation, by_plus, by_minus, by_times, by_floor, by_modulo, Names, Word, break_, continue_, Simple, word, return_, give, declare, assign, augment, show, Params, Statement, simple, compound, choose, Branches, inline, indented, Statements, statements_one, statements_more, Around, names_new, params_new, simple_stands, statement_stands, head_stands, branches_stand, spell_front, front_stands}
+use Rattle.py_grammar.specs.Statements.{Target, Targets, Head, Augmentation, by_plus, by_minus, by_times, by_floor, by_modulo, Names, Word, break_, continue_, Simple, word, return_, give, declare, assign, augment, show, Params, Statement, simple, compound, choose, Branches, inline, indented, Statements, statements_one, statements_more, Around, names_new, params_new, simple_stands, statement_stands, head_stands, branches_stand, spell_front, front_stands}
 use Rattle.py_grammar.specs.States.{Outer, outer, Spot, own, behind_head, Purpose, showing, giving, deleting, assigning, augmenting, Lead, lead_if, lead_elif, lead_while, lead_for, State, line, in_simple, after_word, in_global, has_global, in_test, in_variables, has_variables, after_else, after_def, after_def_name, in_params, has_params, after_params, after_colon, after_newline, done, around, heard, spot_around, spot_heard, add_statement, add_name, ended, place_of, targets_of, is_begun, if_made, if_deleted, finished, head_of, fits, Continued, continued, last_branches, if_allowed, then_simple, begins, elif_at, else_at, def_at, dedent_at, end_at, on_line, ends, assigns, augments, on_simple, on_word, is_new_name, on_global, on_global_name, tested, then_test, variables_end, on_variables, on_variable, on_else, on_def, on_def_name, params_of, on_params, on_param, on_params_end, on_colon, on_newline, step, outers_stand, spot_stands, purpose_stands, lead_stands, some_names_new, state_stands}
 use Rattle.py_grammar.proofs.Spelled.{Adds, read-adds}
 use Rattle.py_grammar.proofs.Standing.{reading-tokens}

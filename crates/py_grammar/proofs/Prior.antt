@@ -5,7 +5,7 @@ use Rattle.py_token.specs.declared.kinds.Kind.TheVariants as t
 use Rattle.std.proofs.lemmas.Bool.{false≢true}
 use Rattle.py_grammar.specs.Words.{if_word, else_word, elif_word, while_word, for_word, in_word, pass_word, break_word, continue_word, return_word, global_word, del_word, def_word, floor_assign_sign, plus_assign_sign, minus_assign_sign, times_assign_sign, mod_assign_sign, assign_sign, open_parenthesis, close_parenthesis, colon, comma}
 use Rattle.py_grammar.specs.Expressions.{Expression, plain, ors_one, ands_one, compared, compares_one, sums_one, products_one, unsigned, compares_more, compares_none, compares_not_none, Compares, Primary, name, index, Elements, elements_one, elements_more, Exprs, single, tuple, tuple_comma}
-use Rattle.py_grammar.specs.Readings.{Upper, no_upper, no_lower, Opened, listed, Reading, wants, has, begun, colon_after, read, exprs_after, whole, narrow, undivided, reading_stands}
+use Rattle.py_grammar.specs.Readings.{Upper, no_upper, no_lower, Opened, listed, Reading, wants, has, begun, colon_after, read, whole, narrow, reading_stands}
 use Rattle.py_grammar.specs.Statements.{Target, to_name, to_item, Places, places_one, places_more, Targets, targets, targets_comma, variables, variables_comma, Augmentation, by_plus, by_minus, by_times, by_floor, by_modulo, names_one, names_more, Word, pass_, break_, continue_, Simple, word, return_, give, declare, delete, assign, augment, show, augmentation_sign, no_params, params, params_comma, Statement, simple, compound, Head, choose, otherwise, while_true, for_each, define, Condition, if_true, else_if, Branches, branches, Block, inline, indented, Statements, statements_one, statements_more, Around, inside, simple_stands, statement_stands, spell_front, front_stands}
 use Rattle.py_grammar.specs.States.{Outer, outer, Spot, own, behind_head, Purpose, showing, giving, deleting, assigning, augmenting, Lead, lead_if, lead_elif, lead_while, lead_for, State, line, in_simple, after_word, in_global, has_global, in_test, in_variables, has_variables, after_else, after_def, after_def_name, in_params, has_params, after_params, after_colon, after_newline, done, start, around, heard, spot_around, spot_heard, add_statement, ended, primary_alone, target_of, first_place, more_places, places_of, undivided_targets, divided_targets, place_of, targets_of, is_begun, if_made, if_deleted, head_of, fits, continued, last_branches, if_allowed, then_simple, begins, elif_at, else_at, on_line, ends, assigns, augments, on_simple, is_new_name, tested, then_test, on_colon, step, outers_stand, spot_stands, purpose_stands, lead_stands, state_stands}
 use Rattle.py_grammar.proofs.Last.{at_compares, upper_of, core_of, at_expression, closed-back, at_exprs, exprs-back, exprs-stand, single-undivided, Holds, Last, at_start, after, reading-last}

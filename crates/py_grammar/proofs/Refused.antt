@@ -1,14 +1,14 @@
 -- A token that begins a construct outside the grammar is refused.
-use Rattle.std.proofs.Common.{◌≡◌, ℕ, zero, Bool, true, false, if◌then◌else◌, List, [], ◌∷◌, Option, Some, None, refl, ap, ◌∙◌}
+use Rattle.std.proofs.Common.{◌≡◌, ℕ, false, if◌then◌else◌, List, ◌∷◌, Option, Some, None, refl, ap, ◌∙◌}
 use Rattle.py_token.specs.declared.kinds.Kind.{Kind}
 use Rattle.py_token.specs.declared.kinds.Kind.TheVariants as t
 use Rattle.py_grammar.specs.declared.constructs.Construct.{Construct}
-use Rattle.py_grammar.specs.Words.{not_word, for_word, none_word, def_word, as_word, assert_word, async_word, await_word, class_word, except_word, finally_word, from_word, import_word, lambda_word, nonlocal_word, raise_word, try_word, with_word, yield_word, floor_assign_sign, plus_assign_sign, minus_assign_sign, times_assign_sign, mod_assign_sign, floor_sign, plus_sign, minus_sign, times_sign, mod_sign, assign_sign, open_parenthesis, close_parenthesis, open_bracket, close_brace, colon, comma, dot}
+use Rattle.py_grammar.specs.Words.{not_word, for_word, none_word, def_word, as_word, assert_word, async_word, await_word, class_word, except_word, finally_word, from_word, import_word, lambda_word, nonlocal_word, raise_word, try_word, with_word, yield_word, floor_assign_sign, plus_assign_sign, minus_assign_sign, times_assign_sign, mod_assign_sign, floor_sign, plus_sign, minus_sign, times_sign, mod_sign, assign_sign, open_parenthesis, open_bracket, close_brace, colon, comma, dot}
 use Rattle.py_grammar.specs.Expressions.{Expression, Exprs, Compares, compares_none, compares_not_none, Primary}
 use Rattle.py_grammar.specs.Readings.{Upper, Lower, in_display, in_dict, in_call, Opened, opened, Reading, wants, has, has_none, has_not_none, after_is, after_is_not, after_method, compares_of, expression_of, close_brace_after, comma_after, behind, operator, is_what, is_not_what, method_what, read, exprs_after, whole}
 use Rattle.py_grammar.specs.Statements.{Head, Augmentation, by_plus, by_minus, by_times, by_floor, by_modulo, Names, return_, give, assign, augment, show, Statements}
 use Rattle.py_grammar.specs.States.{Outer, Spot, Purpose, showing, giving, deleting, assigning, augmenting, Lead, lead_if, lead_elif, lead_while, lead_for, State, line, in_simple, in_test, has_params, after_colon, place_of, targets_of, is_begun, if_made, if_deleted, finished, head_of, then_simple, on_line, ends, assigns, augments, on_simple, tested, then_test, on_param, on_colon, step}
-use Rattle.py_grammar.specs.Outside.{ruleless, first_of, comma_begins, brace_begins, equals_begins, behind_whole, not_none, not_none_or_not, no_call, outside_reading, chained_by, chained, default_at, nested, inline_function, outside_state, outside}
+use Rattle.py_grammar.specs.Outside.{ruleless, first_of, comma_begins, brace_begins, behind_whole, not_none, not_none_or_not, no_call, outside_reading, chained_by, chained, default_at, nested, inline_function, outside_state, outside}
 
 -- ---- keywords that no rule has
 

@@ -1,13 +1,13 @@
 -- One more token of a cell is one more token of what it spells.
-use Rattle.std.proofs.Common.{◌≡◌, ℕ, zero, suc, Bool, true, false, IsTrue, if◌then◌else◌, List, [], ◌∷◌, Option, Some, None, refl, ap, ◌∙◌, sym}
+use Rattle.std.proofs.Common.{◌≡◌, ℕ, Bool, true, false, IsTrue, if◌then◌else◌, List, [], ◌∷◌, Option, Some, None, refl, ap, ◌∙◌, sym}
 use Rattle.py_token.specs.declared.kinds.Kind.{Kind}
 use Rattle.py_token.specs.declared.kinds.Kind.TheVariants as t
 use Rattle.py_grammar.specs.Words.{if_word, else_word, elif_word, while_word, for_word, in_word, pass_word, break_word, continue_word, return_word, global_word, del_word, def_word, floor_assign_sign, plus_assign_sign, minus_assign_sign, times_assign_sign, mod_assign_sign, assign_sign, open_parenthesis, close_parenthesis, colon, comma}
 use Rattle.py_grammar.specs.Expressions.{Expression, plain, ors_one, ands_one, compared, compares_one, sums_one, products_one, unsigned, Primary, name, index, Elements, elements_one, elements_more, Exprs, single, tuple, tuple_comma, spell_expression, spell_primary, spell_elements, spell_exprs}
 use Rattle.py_grammar.specs.Readings.{Reading, begun, read, whole, narrow}
 use Rattle.py_grammar.specs.Open.{spell_reading}
-use Rattle.py_grammar.specs.Statements.{Target, Places, places_one, places_more, Targets, Variables, Head, Augmentation, by_plus, by_minus, by_times, by_floor, by_modulo, Names, Word, Simple, word, return_, give, declare, assign, augment, show, spell_target, spell_places, spell_targets, spell_variables, augmentation_sign, spell_names, spell_simple, Params, Statement, simple, compound, choose, Branches, Block, inline, indented, Statements, statements_one, statements_more, spell_params, spell_statement, spell_head, spell_branches, spell_block, spell_front}
-use Rattle.py_grammar.specs.States.{Outer, outer, Spot, own, behind_head, Purpose, showing, giving, deleting, assigning, augmenting, Lead, lead_if, lead_elif, lead_while, lead_for, State, line, in_simple, after_word, in_global, has_global, in_test, in_variables, has_variables, after_else, after_def, after_def_name, in_params, has_params, after_params, after_colon, after_newline, done, spot_around, spot_heard, add_statement, add_name, close, ended, primary_alone, target_of, first_place, more_places, places_of, undivided_targets, divided_targets, target_in, targets_in, place_of, targets_of, is_begun, if_made, if_deleted, finished, head_of, fits, Continued, continued, last_branches, if_allowed, then_simple, begins, elif_at, else_at, def_at, dedent_at, end_at, on_line, ends, assigns, augments, on_simple, on_word, spell_names_before, is_new_name, on_global, on_global_name, tested, then_test, variables_end, on_variables, on_variable, on_else, on_def, on_def_name, params_of, on_params, on_param, on_params_end, on_colon, on_newline, step, spell_outer, spell_outers, spell_spot, spell_purpose, spell_lead, spell_state}
+use Rattle.py_grammar.specs.Statements.{Target, Places, Targets, Head, Augmentation, by_plus, by_minus, by_times, by_floor, by_modulo, Names, Word, Simple, word, return_, give, declare, assign, augment, show, spell_target, spell_places, spell_targets, augmentation_sign, spell_names, spell_simple, Params, Statement, simple, compound, choose, Branches, Block, inline, indented, Statements, statements_one, statements_more, spell_params, spell_statement, spell_head, spell_branches, spell_block, spell_front}
+use Rattle.py_grammar.specs.States.{Outer, outer, Spot, own, behind_head, Purpose, showing, giving, deleting, assigning, augmenting, Lead, lead_if, lead_elif, lead_while, lead_for, State, line, in_simple, after_word, in_global, has_global, in_test, in_variables, has_variables, after_else, after_def, after_def_name, in_params, has_params, after_params, after_colon, after_newline, done, spot_around, spot_heard, add_statement, add_name, close, ended, primary_alone, target_of, first_place, more_places, places_of, undivided_targets, divided_targets, targets_in, place_of, targets_of, is_begun, if_made, if_deleted, finished, head_of, fits, Continued, continued, last_branches, if_allowed, then_simple, begins, elif_at, else_at, def_at, dedent_at, end_at, on_line, ends, assigns, augments, on_simple, on_word, spell_names_before, is_new_name, on_global, on_global_name, tested, then_test, variables_end, on_variables, on_variable, on_else, on_def, on_def_name, params_of, on_params, on_param, on_params_end, on_colon, on_newline, step, spell_outer, spell_outers, spell_spot, spell_purpose, spell_lead, spell_state}
 use Rattle.py_grammar.proofs.Spelled.{Adds, SpellsAll, read-adds, whole-spelled}
 use Rattle.py_grammar.proofs.Bare.{begun_is}
 

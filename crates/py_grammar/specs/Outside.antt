@@ -1,14 +1,14 @@
 -- Which construct outside the grammar a token begins, by the forms that are open before it.
-use Rattle.std.specs.Prelude.{◌≡◌, ℕ, zero, Bool, false, if◌then◌else◌, List, [], ◌∷◌, take, slice_get, Option, Some, None}
+use Rattle.std.specs.Prelude.{◌≡◌, ℕ, List, ◌∷◌, take, slice_get, Option, Some, None}
 use Rattle.py_token.specs.declared.kinds.Kind.{Kind}
 use Rattle.py_grammar.specs.declared.constructs.Construct.{Construct}
 use Rattle.py_grammar.specs.declared.constructs.Construct.TheVariants.{Word as Word_, Comprehension, Set, Is, Attribute, ChainedAssignment, KeywordArgument, Default, NestedFunction}
 use Rattle.py_token.specs.declared.kinds.Keyword.TheVariants as k
-use Rattle.py_grammar.specs.Words.{not_word, for_word, none_word, def_word, as_word, assert_word, async_word, await_word, class_word, except_word, finally_word, from_word, import_word, lambda_word, nonlocal_word, raise_word, try_word, with_word, yield_word, assign_sign, open_parenthesis, close_parenthesis, close_brace, comma}
+use Rattle.py_grammar.specs.Words.{not_word, for_word, none_word, def_word, as_word, assert_word, async_word, await_word, class_word, except_word, finally_word, from_word, import_word, lambda_word, nonlocal_word, raise_word, try_word, with_word, yield_word, assign_sign, open_parenthesis, close_brace, comma}
 use Rattle.py_grammar.specs.Expressions.{Expression, Exprs, compares_none, compares_not_none}
-use Rattle.py_grammar.specs.Readings.{Upper, upper, Lower, lower, in_group, in_display, in_dict, in_call, Opened, opened, Reading, wants, has, has_none, has_not_none, after_is, after_is_not, after_method, is_empty, compares_of, expression_of, whole}
+use Rattle.py_grammar.specs.Readings.{in_display, in_dict, in_call, Opened, opened, Reading, has, has_none, has_not_none, after_is, after_is_not, after_method, compares_of, expression_of, whole}
 use Rattle.py_grammar.specs.Statements.{IsFailing}
-use Rattle.py_grammar.specs.States.{Outer, Purpose, deleting, assigning, State, line, in_simple, in_test, has_params, after_colon, StandsAt, state_stands}
+use Rattle.py_grammar.specs.States.{Outer, Purpose, assigning, State, line, in_simple, in_test, has_params, after_colon, StandsAt, state_stands}
 
 -- a keyword that no rule has
 abbrev pub ruleless : Kind → Option Construct
