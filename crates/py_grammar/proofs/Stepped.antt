@@ -41,11 +41,11 @@ allowed-added false s f t h = tt
 -- ---- a simple statement
 
 -- it spells so, if there is one
-abbrev SpellsSimple : Option Simple → (List Kind → List Kind) → Type 0
+abbrev pub SpellsSimple : Option Simple → (List Kind → List Kind) → Type 0
 SpellsSimple None f = Unit {0}
 SpellsSimple (Some s) f = (rest : List Kind) → spell_simple s rest ≡ f rest
 
-abbrev SpellsPlace : Option Target → (List Kind → List Kind) → Type 0
+abbrev pub SpellsPlace : Option Target → (List Kind → List Kind) → Type 0
 SpellsPlace None f = Unit {0}
 SpellsPlace (Some to) f = (rest : List Kind) → spell_target to rest ≡ f rest
 
@@ -62,14 +62,14 @@ target_of-spelled (Some (name n)) f h = h
 target_of-spelled (Some (index p a)) f h = h
 target_of-spelled _ f h = tt
 
-expression-target : (a : Expression) → SpellsPlace (target_of (primary_alone a)) (spell_expression a)
+pub expression-target : (a : Expression) → SpellsPlace (target_of (primary_alone a)) (spell_expression a)
 expression-target a = target_of-spelled (primary_alone a) (spell_expression a) (primary_alone-spelled a)
 
 abbrev SpellsPlaces : Option Places → (List Kind → List Kind) → Type 0
 SpellsPlaces None f = Unit {0}
 SpellsPlaces (Some ps) f = (rest : List Kind) → spell_places ps rest ≡ f rest
 
-abbrev SpellsTargets : Option Targets → (List Kind → List Kind) → Type 0
+abbrev pub SpellsTargets : Option Targets → (List Kind → List Kind) → Type 0
 SpellsTargets None f = Unit {0}
 SpellsTargets (Some ts) f = (rest : List Kind) → spell_targets ts rest ≡ f rest
 
@@ -104,7 +104,7 @@ targets-same : (ts : Option Targets) (f g : List Kind → List Kind) → ((rest 
 targets-same None f g e h = tt
 targets-same (Some ts) f g e h = λ rest. h rest ∙ e rest
 
-targets_of-spelled : (a : Option Exprs) (f : List Kind → List Kind) → SpellsAll a f → SpellsTargets (targets_of a) f
+pub targets_of-spelled : (a : Option Exprs) (f : List Kind → List Kind) → SpellsAll a f → SpellsTargets (targets_of a) f
 targets_of-spelled None f h = tt
 targets_of-spelled (Some a) f h = targets-same (targets_in a) (spell_exprs a) f h (targets_in-spelled a)
 
@@ -112,7 +112,7 @@ place-same : (to : Option Target) (f g : List Kind → List Kind) → ((rest : L
 place-same None f g e h = tt
 place-same (Some to) f g e h = λ rest. h rest ∙ e rest
 
-place_of-spelled : (a : Option Exprs) (f : List Kind → List Kind) → SpellsAll a f → SpellsPlace (place_of a) f
+pub place_of-spelled : (a : Option Exprs) (f : List Kind → List Kind) → SpellsAll a f → SpellsPlace (place_of a) f
 place_of-spelled (Some (single a)) f h = place-same (target_of (primary_alone a)) (spell_expression a) f h (expression-target a)
 place_of-spelled _ f h = tt
 
@@ -128,7 +128,7 @@ left-spelled : (r : Reading) (b : Bool) → (IsTrue b → r ≡ begun) → Spell
 left-spelled r true h = λ rest. ap (λ x. return_word ∷ spell_reading x rest) (sym (h refl))
 left-spelled r false h = made-spelled give (λ rest. return_word ∷ rest) (spell_reading r) (whole r) (λ e rest. refl) (whole-spelled r)
 
-finished-spelled : (u : Purpose) (r : Reading) → SpellsSimple (finished u r) (λ rest. spell_purpose u (spell_reading r rest))
+pub finished-spelled : (u : Purpose) (r : Reading) → SpellsSimple (finished u r) (λ rest. spell_purpose u (spell_reading r rest))
 finished-spelled showing r = made-spelled show (λ rest. rest) (spell_reading r) (whole r) (λ e rest. refl) (whole-spelled r)
 finished-spelled giving r = left-spelled r (is_begun r) (begun_is r)
 finished-spelled deleting r = deleted-spelled (place_of (whole r)) (spell_reading r) (place_of-spelled (whole r) (spell_reading r) (whole-spelled r))
@@ -189,11 +189,11 @@ on_global_name-added os at ns _ = tt
 
 -- ---- heads and lines
 
-abbrev SpellsHead : Option Head → (List Kind → List Kind) → Type 0
+abbrev pub SpellsHead : Option Head → (List Kind → List Kind) → Type 0
 SpellsHead None f = Unit {0}
 SpellsHead (Some h) f = (rest : List Kind) → spell_head h rest ≡ f rest
 
-head_of-spelled : (lead : Lead) (a : Option Exprs) (f : List Kind → List Kind) → SpellsAll a f → SpellsHead (head_of lead a) (λ rest. spell_lead lead (f (colon ∷ rest)))
+pub head_of-spelled : (lead : Lead) (a : Option Exprs) (f : List Kind → List Kind) → SpellsAll a f → SpellsHead (head_of lead a) (λ rest. spell_lead lead (f (colon ∷ rest)))
 head_of-spelled lead_if (Some (single a)) f h = λ rest. ap (spell_lead lead_if) (h (colon ∷ rest))
 head_of-spelled (lead_elif bs) (Some (single a)) f h = λ rest. ap (spell_lead (lead_elif bs)) (h (colon ∷ rest))
 head_of-spelled lead_while (Some (single a)) f h = λ rest. ap (spell_lead lead_while) (h (colon ∷ rest))
@@ -208,11 +208,11 @@ then_test-added : (os : List Outer) (before : Option Statements) (lead : Lead) (
 then_test-added os before lead r t (Some s) h = allowed-added (fits lead s) (in_test os before lead s) (spell_state (in_test os before lead r)) t (λ rest. ap (λ x. spell_outers os (spell_front before (spell_lead lead x))) (h rest))
 then_test-added os before lead r t None h = tested-added os before (head_of lead (whole r)) (λ rest. spell_lead lead (spell_reading r rest)) t (head_of-spelled lead (whole r) (spell_reading r) (whole-spelled r))
 
-abbrev SpellsContinued : Option Continued → (List Kind → List Kind) → Type 0
+abbrev pub SpellsContinued : Option Continued → (List Kind → List Kind) → Type 0
 SpellsContinued None f = Unit {0}
 SpellsContinued (Some (continued before bs)) f = (rest : List Kind) → spell_front before (spell_branches bs rest) ≡ f rest
 
-last_branches-spelled : (before : Option Statements) → SpellsContinued (last_branches before) (spell_front before)
+pub last_branches-spelled : (before : Option Statements) → SpellsContinued (last_branches before) (spell_front before)
 last_branches-spelled (Some (statements_one (compound (choose c) b))) = λ rest. refl
 last_branches-spelled (Some (statements_more ss (compound (choose c) b))) = λ rest. refl
 last_branches-spelled _ = tt

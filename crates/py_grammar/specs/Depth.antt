@@ -1,5 +1,5 @@
 -- How deep a form is: where its parts at each depth begin. A place is the number of tokens left, so the first is the greatest.
-use Rattle.std.specs.Prelude.{◌≡◌, ◌+◌, ◌≤◌, ℕ, zero, suc, List, [], ◌∷◌, ◌++◌, length, All, Contains, Some, None}
+use Rattle.std.specs.Prelude.{◌≡◌, ◌+◌, ◌<◌, ◌≤◌, ℕ, zero, suc, List, [], ◌∷◌, ◌++◌, length, All, Contains, Some, None}
 use Rattle.py_token.specs.declared.kinds.Kind.{Kind}
 use Rattle.py_token.specs.declared.kinds.Kind.TheVariants as t
 use Rattle.py_grammar.specs.Words.{and_word, or_word, not_word, if_word, else_word, elif_word, is_word, none_word, assign_sign, open_parenthesis, close_parenthesis, open_bracket, close_bracket, close_brace, colon, comma, dot}
@@ -171,10 +171,14 @@ abbrev mutual
   in_statements (statements_one s) rest d = at_statement s rest d
   in_statements (statements_more ss s) rest d = in_statements ss (spell_statement s rest) d ++ at_statement s rest d
 
--- where the parts of a cell at depth 65 begin; a top statement has depth 1
+-- where the parts of a cell begin that are so much deeper than a top statement, whose depth is 1
+abbrev pub in_cell : Cell → ℕ → List ℕ
+in_cell None d = []
+in_cell (Some ss) d = in_statements ss (t.End ∷ []) d
+
+-- where those at depth 65 begin
 abbrev pub too_deep : Cell → List ℕ
-too_deep None = []
-too_deep (Some ss) = in_statements ss (t.End ∷ []) 64
+too_deep c = in_cell c 64
 
 -- a cell is too deep, and the first part at depth 65 begins after this many tokens
 pub record IsTooDeep (c : Cell) (place : ℕ) : Type 0 where
@@ -183,7 +187,8 @@ pub record IsTooDeep (c : Cell) (place : ℕ) : Type 0 where
   pub first : All (λ other. other ≤ left) (too_deep c)
   pub is_place : place + left ≡ length (spelling c)
 
--- the tokens are too deep at this place: each cell that begins with them is too deep there or earlier, and one is just there
+-- the tokens are too deep at this place of theirs: each cell that begins with them is too deep there or earlier, and one is just there
 pub record AreTooDeep (tokens : List Kind) (place : ℕ) : Type 0 where
+  pub within : place < length tokens
   pub each : (more : List Kind) (c : Cell) → IsCell (tokens ++ more) c → (at : ℕ) × (at ≤ place) × IsTooDeep c at
   pub some : (more : List Kind) × (c : Cell) × IsCell (tokens ++ more) c × IsTooDeep c place

@@ -217,7 +217,7 @@ tree_simple (assign ts a) = s.Assign (tree_targets ts) (targets_divided ts) (tre
 tree_simple (augment to by a) = s.Augment (tree_target to) (augmentation_op by) (tree_exprs a)
 tree_simple (show a) = s.Expression (tree_exprs a)
 
-abbrev condition_test : Condition → Expr
+abbrev pub condition_test : Condition → Expr
 condition_test (if_true a) = tree_expression a
 condition_test (else_if bs a) = tree_expression a
 
