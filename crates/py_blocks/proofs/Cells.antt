@@ -46,8 +46,9 @@ top-kept : (source : Source) (total : ℕ) (ss : Statements) (rest : List Kind) 
 top-kept source total (statements_one x) rest e stands h is =
     let l = spelled-length (statement-tokens x) rest in
     let parts = minus-all total 0 (length (spell_statement x [])) (length rest) (omega (arith, is, l)) in
+    let right : total - length rest ≡ 0 + length (spell_statement x []) = parts.1 in
     ap (λ y. y ∷ []) (statement-kept (by_left source total) x rest _ outside_all e stands (below (length (spell_statement x rest)) (under_statement x rest) h)
-    (λ top. same-source source 0 (length (spell_statement x [])) (total - length (spell_statement x rest)) (total - length rest) (sym (ap (λ n. total - n) l ∙ parts.0)) (sym parts.1)))
+    (λ top. same-source source 0 (length (spell_statement x [])) (total - length (spell_statement x rest)) (total - length rest) (sym (ap (λ n. total - n) l ∙ parts.0)) (omega (arith, right))))
 top-kept source total (statements_more xs x) rest e stands h is =
     let l = spelled-length (statement-tokens x) rest in
     let k = spelled-length (statements-tokens xs) (spell_statement x rest) in
