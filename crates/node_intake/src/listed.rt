@@ -32,6 +32,12 @@ impl Desk for SessionList {
 
     ghost is_host = { λ host. Unit {0} };
 
+    ghost keeps = { λ l m. Unit {0} };
+
+    ghost keeps_all = { λ l. tt };
+
+    ghost keeps_on = { λ l m n h k. tt };
+
     fn sessions(&self) -> usize {
         self.sessions.len()
     }
