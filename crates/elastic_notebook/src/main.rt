@@ -1,10 +1,11 @@
 //! The notebook server: frames with requests come in, frames with replies go out.
 //!
 //! The contract of `run::top` is what the program does; everything else here is below it. `main` makes the real source,
-//! sink and feeds, calls it, and ends with its status.
+//! sink and feeds, calls it with a gate that holds nobody, and ends with its status.
 //!
 //! The contract leaves open when memory runs out, so a body that always answers 5 meets it. Therefore the tables of cases run each
-//! command on its happy path. The tests here are of what no table can give the program: a source, a sink or a feed that fails.
+//! command on its happy path. The tests here are of what no table can give the program: a source, a sink or a feed that fails,
+//! and a gate, a feed or a source that waits for what another thread does.
 #![tactic(auto)]
 
 #[cfg(test)]
@@ -16,8 +17,13 @@ mod say;
 mod streams;
 #[cfg(test)]
 mod test_streams;
+#[cfg(test)]
+mod thread_tests;
+#[cfg(test)]
+mod waiting;
 
 use command_words::status;
+use host_workers::OpenGate;
 use nb_outside::{RandomFeeds, StdSink, StdSource};
 use run::top;
 use std::alloc::{AllocError, Global};
@@ -46,5 +52,12 @@ fn main(rt: HostRuntime) -> ExitCode {
     let mut source = StdSource::new(rt.stdin());
     let mut sink = StdSink::new(rt.stdout());
     let mut feeds = RandomFeeds::new(rt);
-    ExitCode::from(top(&rt, words.as_slice(), &mut source, &mut sink, &mut feeds))
+    ExitCode::from(top(
+        &rt,
+        words.as_slice(),
+        &mut source,
+        &mut sink,
+        &mut feeds,
+        &OpenGate,
+    ))
 }

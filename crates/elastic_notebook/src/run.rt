@@ -14,21 +14,25 @@ ghost use Rattle.elastic_notebook.specs.Statuses.{IsStatusOf};
 
 use crate::say::{Question, say};
 use command_words::{Command, command_of, status};
+use host_workers::Gate;
 use nb_outside::{Feeds, Sink, Source};
 use node_run::run_stream;
 use notebook_engine::Notebook;
 use save_command::save;
+use std::sync::Wait;
+use std::thread::Threads;
 
 /// Does what the words say, and gives the exit status of the program. The words leave out the program's name.
 ///
-/// `run` takes in the frames of the source: sessions are opened on hosts, and asked to run cells and to move. When the source has
-/// ended, each session is served in the order of opening, its control requests first, on a kernel and with a feed of its own.
-/// Then the errors of the stream are written, and each session's frames. The contract says that each session's journal is a legal
-/// history, in which each reply is that of a kernel that never moved, and each move is by a plan that no plan undercuts. It also
-/// says that what is written is what the journals say. `--hosts n` is how many hosts there are, from 1 to 64, and `--workers n`
-/// how many workers each has, from 1 to 16. One thread does the work of all.
+/// `run` takes in the frames of the source: sessions are opened on hosts, and asked to run cells and to move. Each session has a kernel
+/// and a feed of its own. `--hosts n` is how many hosts there are, from 1 to 64, and `--workers n` how many worker threads each has,
+/// from 1 to 16. They serve the sessions while the source is still read, and each crosses the gate before a turn of a session. The
+/// calling thread reads, and then does what they left, or all if no thread can be made. Once all is done, the errors of the stream
+/// are written, and each session's frames. The contract says, for every schedule, that each session's journal is a legal history, in
+/// which each reply is that of a kernel that never moved, and each move is by a plan that no plan undercuts. It also says that what
+/// is written is what the journals say.
 ///
-/// `save c b r s` serves the source as `run` does on one host, and then writes, in place of frames, the checkpoint of the session
+/// `save c b r s` serves the source as `run` does with one host and one worker, and then writes, in place of frames, the checkpoint of the session
 /// that was opened first, under a least-cost plan: a copy costs c and b for each byte, a cell that is run again r and s for each
 /// step, each from 0 to 1,000,000.
 ///
@@ -54,13 +58,21 @@ use save_command::save;
 /// - 8: `restore`: a cell that is run again calls `draw()`.
 /// - 9: `restore`: the state isn't as the checkpoint says: a version isn't as it was, or a name is in none.
 /// - 10: 4,294,967,295 reads each took a byte. `run`: what they gave is served and written; else nothing is written.
-pub fn top<R: AllocGlobal, S: Source, K: Sink, D: Feeds>(
+pub fn top<R, S, K, D, G>(
     rt: &R,
     words: &[String],
     source: &mut S,
     sink: &mut K,
     feeds: &mut D,
+    gate: &G,
 ) -> u8
+where
+    R: AllocGlobal + Threads + Wait + Sync,
+    S: Source,
+    K: Sink,
+    D: Feeds,
+    D::Feed: Send,
+    G: Gate + Sync,
     // 1 exactly if the words are no command, and then nothing is touched.
     ensures words { result ≡ 1 ↔ ((c : Asked) → ¬ IsCommand (map string_bytes words.now) c) }
     ensures untouched { result ≡ 1 → (source.new ≡ source.old) × (sink.new ≡ sink.old) }
@@ -92,10 +104,10 @@ pub fn top<R: AllocGlobal, S: Source, K: Sink, D: Feeds>(
 {
     let alloc = rt.alloc();
     match command_of(words) {
-        Some(Command::Run { hosts, .. }) => run_stream::<Notebook, S, K, D>(
-            alloc, hosts, source, sink, feeds,
+        Some(Command::Run { hosts, workers }) => run_stream::<Notebook, S, K, D, G, R>(
+            rt, alloc, hosts, workers, source, sink, feeds, gate,
         ),
-        Some(Command::Save(weights)) => save(alloc, source, sink, feeds, &weights),
+        Some(Command::Save(weights)) => save(rt, alloc, source, sink, feeds, &weights, gate),
         Some(Command::Plan(weights)) => say(alloc, source, sink, &Question::Plan(weights)),
         Some(Command::Restore) => say(alloc, source, sink, &Question::Restore),
         None => status::NO_COMMAND,

@@ -1,8 +1,11 @@
 //! Streams of frames for tests, and what commands answer and write for them if draws, reads or writes go as a test says.
 
 use crate::run::top;
+use host_workers::OpenGate;
 use nb_outside::{Drawn, MemFeeds, MemSink, MemSource};
 use std::alloc::{AllocError, Global};
+use std::sync::Wait;
+use std::thread::Threads;
 
 /// What a frame asks.
 #[derive(Drop)]
@@ -15,18 +18,23 @@ pub enum Asked {
     Move([u32; 4]),
 }
 
-const HERE: &str = "11111111-1111-4111-8111-111111111111";
+/// Two kernels.
+pub const KERNELS: [&str; 2] = [
+    "11111111-1111-4111-8111-111111111111",
+    "22222222-2222-4222-8222-222222222222",
+];
 
-/// Adds the frame of a message of this kind. Its date and its texts are those of the protocol's example.
-fn push_message(
+/// Adds the frame of a message of this kind to a kernel. Its date and its texts are those of the protocol's example.
+pub fn push_message(
     alloc: Global,
     out: &mut Vec<u8>,
     number: usize,
+    kernel: &str,
     kind: &str,
     content: &str,
 ) -> Result<(), AllocError> {
     let body = format!(in alloc;
-        "{{\"channel\":\"shell\",\"content\":{content},\"header\":{{\"date\":\"2024-01-02T03:04:05Z\",\"msg_id\":\"m{number}\",\"msg_type\":\"{kind}\",\"session\":\"f1\",\"username\":\"u\",\"version\":\"5.3\"}},\"kernel\":\"{HERE}\"}}"
+        "{{\"channel\":\"shell\",\"content\":{content},\"header\":{{\"date\":\"2024-01-02T03:04:05Z\",\"msg_id\":\"m{number}\",\"msg_type\":\"{kind}\",\"session\":\"f1\",\"username\":\"u\",\"version\":\"5.3\"}},\"kernel\":\"{kernel}\"}}"
     )?;
     let length = u32::try_from(body.len()).unwrap_or(0);
     out.extend_from_slice(&length.to_be_bytes())?;
@@ -57,15 +65,22 @@ pub fn frames_of(alloc: Global, asked: &[Asked]) -> Result<Vec<u8>, AllocError> 
     for (before, one) in asked.iter().enumerate() {
         let content = content_of(alloc, one)?;
         let number = before.saturating_add(1);
-        push_message(alloc, &mut out, number, kind_of(one), content.as_str())?;
+        push_message(
+            alloc,
+            &mut out,
+            number,
+            KERNELS[0],
+            kind_of(one),
+            content.as_str(),
+        )?;
     }
     Ok(out)
 }
 
 /// What a command answers and writes for these bytes, if a session's feed gives these draws and then fails, and the calls of the
 /// source and of the sink with these numbers fail.
-fn answered_by(
-    rt: &HostRuntime,
+fn answered_by<R: AllocGlobal + Threads + Wait + Sync>(
+    rt: &R,
     words: &[&str],
     input: &[u8],
     draws: &[Drawn],
@@ -80,14 +95,21 @@ fn answered_by(
     let mut source = MemSource::new(input.to_vec(alloc)?, source_fails.to_vec(alloc)?);
     let mut sink = MemSink::new(alloc, 65_536, sink_fails.to_vec(alloc)?);
     let mut feeds = MemFeeds::new(draws.to_vec(alloc)?);
-    let status = top(rt, all.as_slice(), &mut source, &mut sink, &mut feeds);
+    let status = top(
+        rt,
+        all.as_slice(),
+        &mut source,
+        &mut sink,
+        &mut feeds,
+        &OpenGate,
+    );
     let written = sink.written().to_vec(alloc)?;
     Ok((status, written))
 }
 
 /// The same of a command that draws nothing.
-pub fn answered(
-    rt: &HostRuntime,
+pub fn answered<R: AllocGlobal + Threads + Wait + Sync>(
+    rt: &R,
     words: &[&str],
     input: &[u8],
     source_fails: &[u64],
@@ -97,8 +119,8 @@ pub fn answered(
 }
 
 /// The same of a command whose calls don't fail.
-pub fn answered_drawing(
-    rt: &HostRuntime,
+pub fn answered_drawing<R: AllocGlobal + Threads + Wait + Sync>(
+    rt: &R,
     words: &[&str],
     input: &[u8],
     draws: &[Drawn],
@@ -119,8 +141,8 @@ fn count_of(bytes: &[u8], text: &str) -> usize {
 
 /// What is wrong with what a command answers and writes, if a session's feed gives these draws: the status, if it isn't 0, and each
 /// text that doesn't come in it this number of times.
-pub fn wrong(
-    rt: &HostRuntime,
+pub fn wrong<R: AllocGlobal + Threads + Wait + Sync>(
+    rt: &R,
     words: &[&str],
     input: &[u8],
     draws: &[Drawn],

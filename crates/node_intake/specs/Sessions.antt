@@ -1,19 +1,9 @@
 -- Sessions, as the definition of an intake has them.
-use Rattle.std.specs.Prelude.{◌≡◌, ℕ, zero, suc, ◌<◌, length, List, [], ◌∷◌, ◌++◌, slice_get, Some, None}
+use Rattle.std.specs.Prelude.{◌≡◌, ℕ, ◌<◌, List, [], ◌∷◌, ◌++◌, slice_get, Some, None}
 use Rattle.session_core.specs.declared.request.Header.{Header}
 use Rattle.session_core.specs.declared.request.Channel.{Channel}
 use Rattle.session_core.specs.declared.request.Request.{Request}
 use Rattle.node_intake.specs.Intake.{Taken, session_of}
-use Rattle.node_intake.specs.declared.session.Session.{Session}
-
-abbrev pub taken_of : Session → Taken
-taken_of s = record { kernel = s.kernel; host = s.host; request = s.request; channel = s.channel; requests = s.requests }
-
--- how many requests the session at this index has
-abbrev pub asked_of : List Session → ℕ → ℕ
-asked_of [] at = 0
-asked_of (s ∷ sessions) zero = length s.requests
-asked_of (s ∷ sessions) (suc at) = asked_of sessions at
 
 -- a session of which nothing was asked yet
 abbrev pub new_session : ℕ → ℕ → Header → Channel → Taken

@@ -1,17 +1,11 @@
 -- What is taken in of a stream of bytes.
-use Rattle.std.specs.Prelude.{◌≡◌, ◌≢◌, ℕ, ◌⊎◌, Bool, true, false, List, [], length, map, Option, Some, None}
+use Rattle.std.specs.Prelude.{◌≡◌, ◌≢◌, ℕ, ◌⊎◌, Bool, true, false, List, [], length, Option, Some, None}
 use Rattle.std.specs.List.{flat_map, AllByRecursion}
 use Rattle.nb_outside.specs.Streams.{IsAtEnd}
 use Rattle.jupyter_frames.specs.Framing.{frame, IsBody, IsBegun, IsBad, IsRest, stream, place_after, Held}
 use Rattle.node_intake.specs.Intake.{Node, no_sessions, with_frames}
-use Rattle.node_intake.specs.declared.session.TakenIn.{TakenIn}
 use Rattle.node_intake.specs.declared.session.IntakeEnd.{IntakeEnd}
 use Rattle.node_intake.specs.declared.session.IntakeEnd.TheVariants.{End, Failed, TooMany}
-use Rattle.node_intake.specs.Sessions.{taken_of}
-
--- the sessions and the errors
-abbrev pub node_in : TakenIn → Node
-node_in t = record { sessions = map taken_of t.sessions; errors = t.errors }
 
 -- Of these bytes this node was taken in: all whole frames up to the first place where no whole frame begins, and that place.
 pub record HasTaken (hosts : ℕ) (bytes : List ℕ) (IsNode : Node → Type 0) (broken_at : Option ℕ) : Type 0 where
@@ -22,9 +16,6 @@ pub record HasTaken (hosts : ℕ) (bytes : List ℕ) (IsNode : Node → Type 0) 
   pub is_stream : bytes ≡ stream bodies rest
   pub node : IsNode (with_frames hosts no_sessions bodies)
   pub broken : ((rest ≡ []) × (broken_at ≡ None)) ⊎ ((rest ≢ []) × (broken_at ≡ Some (place_after 0 (length (flat_map frame bodies)))))
-
-abbrev pub IsTakenIn : ℕ → List ℕ → TakenIn → Type 0
-IsTakenIn hosts bytes t = HasTaken hosts bytes (λ node. node_in t ≡ node) t.broken
 
 -- How taking in ended, with this left in the source, and this not taken in of what came: at the end of the input or at a bad
 -- length, or before either.

@@ -4,18 +4,16 @@
 //! and isn't kept. `specs/Taking` says what was taken in of a source.
 //!
 //! The contracts leave open when memory runs out, so a body that always answers that it ran out meets them. Therefore the
-//! tables of cases run `take_in`, through the program.
+//! tables of cases run `take_in_at`, through the program.
 #![tactic(auto)]
 
 mod desk;
 mod frames;
 pub mod laws;
-mod listed;
 mod node;
 mod pieces;
 mod session;
 
 pub use desk::Desk;
-pub use listed::take_in;
 pub use pieces::{read_room, take_in_at};
-pub use session::{Handed, IntakeEnd, Session, TakenIn};
+pub use session::{Handed, IntakeEnd};

@@ -1,28 +1,5 @@
 use plain_data::Items;
 use reply_frames::NodeError;
-use session_core::{Channel, Header, Request};
-
-/// A session as it was opened, and what was asked of it.
-#[derive(Debug, Drop)]
-pub struct Session {
-    pub kernel: u128,
-    pub host: u32,
-    pub request: Header,
-    pub channel: Channel,
-    pub requests: Items<Request>,
-}
-
-/// What was taken in.
-#[derive(Debug, Drop)]
-pub struct TakenIn {
-    /// The sessions, in the order in which they were opened.
-    pub sessions: Items<Session>,
-    /// The errors, in order. The error that the stream is broken isn't one of them.
-    pub errors: Items<NodeError>,
-    /// Where the stream stops being frames: the place of the first byte of a length that no frame has, or of a frame that is
-    /// cut off.
-    pub broken: Option<u64>,
-}
 
 /// What was taken in at a desk.
 #[derive(Drop)]
@@ -31,7 +8,8 @@ pub struct Handed<D> {
     pub desk: D,
     /// The errors, in order. The error that the stream is broken isn't one of them.
     pub errors: Items<NodeError>,
-    /// Where the stream stops being frames, as for `TakenIn`.
+    /// Where the stream stops being frames: the place of the first byte of a length that no frame has, or of a frame that is
+    /// cut off.
     pub broken: Option<u64>,
 }
 

@@ -1,93 +1,25 @@
 -- How a run ends, and what it did then.
-use Rattle.std.proofs.Common.{◌≡◌, ◌≢◌, ℕ, ◌<◌, Bool, true, false, List, [], ◌∷◌, ◌++◌, length, Option, Some, None, Result, Ok, Err, refl, ap, sym, ◌∙◌, subst, ◌⊎◌, inl, inr, arith}
-use Rattle.std.specs.Prelude.{IfOk, map, nat_le, ◌==◌, cond}
+use Rattle.std.proofs.Common.{◌≡◌, ◌≢◌, ℕ, List, [], ◌∷◌, ◌++◌, length, Option, Some, None, Result, Ok, Err, refl, ap, sym, ◌∙◌, subst, ◌⊎◌, inl, inr, arith}
+use Rattle.std.specs.Prelude.{IfOk, ◌==◌, cond}
 use Rattle.std.specs.List.{flat_map}
-use Rattle.std.proofs.lemmas.Bool.{leb-false}
-use Rattle.std.proofs.lemmas.List.{append-nil}
 use Rattle.nb_outside.specs.Streams.{Adds, Takes}
 use Rattle.jupyter_frames.specs.Framing.{frame, IsBad, place_after}
-use Rattle.session_core.specs.declared.request.Ask.{Ask}
-use Rattle.session_core.specs.declared.request.Request.{Request}
 use Rattle.session_core.specs.Meanings.{Meaning}
-use Rattle.jupyter_messages.specs.declared.message.Message.{Message}
-use Rattle.jupyter_messages.specs.declared.message.MessageKind.{MessageKind}
-use Rattle.jupyter_messages.specs.declared.message.MessageKind.TheVariants as message
-use Rattle.jupyter_messages.specs.declared.fault.MessageFault.{MessageFault}
-use Rattle.jupyter_messages.specs.declared.fault.MessageFault.TheVariants as fault
-use Rattle.jupyter_messages.specs.Reading.{message_in}
 use Rattle.reply_frames.specs.declared.node.NodeError.{NodeError}
 use Rattle.reply_frames.specs.declared.node.NodeErrorKind.TheVariants as kind
-use Rattle.node_intake.specs.Intake.{Taken, Node, no_sessions, most_sessions, most_requests, failed, unread, session_of, opening, with_request, asking, with_kind, with_message, with_frames, ended, node_of}
-use Rattle.node_intake.specs.declared.session.TakenIn.{TakenIn}
+use Rattle.node_intake.specs.Intake.{Taken, Node, no_sessions, failed, with_frames, ended, node_of}
 use Rattle.node_intake.specs.declared.session.IntakeEnd.{IntakeEnd}
 use Rattle.node_intake.specs.declared.session.IntakeEnd.TheVariants as intake
-use Rattle.node_intake.specs.Sessions.{taken_of}
-use Rattle.node_intake.specs.Taking.{IsTakenIn, EndsSo}
+use Rattle.node_intake.specs.Taking.{HasTaken, EndsSo}
 use Rattle.node_run.specs.declared.end.RunEnd.{RunEnd}
 use Rattle.node_run.specs.declared.end.RunEnd.TheVariants.{Whole, Broken, SourceFailed, TooManyReads}
-use Rattle.node_run.specs.Journals.{Answers, AreHosted, ServedSession, journal_of, journals_of, AreRuns, AreJournals}
+use Rattle.node_run.specs.Journals.{Answers, ServedSession, journal_of, journals_of, AreRuns, AreJournals}
 use Rattle.node_run.specs.Frames.{journal_frames, session_frames, run_frames, error_frames, AddsFront, AddsServedBefore}
 use Rattle.nb_outside.specs.Counts.{HasRisen, HasRisenBy}
 use Rattle.node_run.specs.Ends.{status_of, node_at, EndsAt, IsCaused, end_after, errors_after}
 use Rattle.node_run.specs.Streams.{HasRun, Writes, StreamsTold}
 use Rattle.node_run.proofs.Streaming.{Adds-none}
 use Rattle.node_run.proofs.Stopping.{node_before}
-
--- ---- each session that is opened is on a host that is there
-
-hosted_more : (hosts : ℕ) (ss : List Taken) (s : Taken) → AreHosted hosts ss → s.host < hosts → AreHosted hosts (ss ++ s ∷ [])
-hosted_more hosts [] s are is = (is, tt)
-hosted_more hosts (first ∷ ss) s are is = (are.0, hosted_more hosts ss s are.1 is)
-
-host_stays : (b : Bool) (r : Request) (s : Taken) → (cond b (record s { requests = s.requests ++ r ∷ [] }) s).host ≡ s.host
-host_stays true r s = refl
-host_stays false r s = refl
-
-hosted_with : (hosts k : ℕ) (r : Request) (ss : List Taken) → AreHosted hosts ss → AreHosted hosts (map (with_request k r) ss)
-hosted_with hosts k r [] are = tt
-hosted_with hosts k r (s ∷ ss) are = (subst (λ n. n < hosts) (sym (host_stays (s.kernel == k) r s)) are.0, hosted_with hosts k r ss are.1)
-
-opening_new : (hosts : ℕ) (node : Node) (m : Message) (host : ℕ) (b c : Bool) → nat_le hosts host ≡ b → nat_le most_sessions (length node.sessions) ≡ c → AreHosted hosts node.sessions
-    → AreHosted hosts (opening hosts node m host None).sessions
-opening_new hosts node m host true c is full are = rw is are
-opening_new hosts node m host false true is full are = rw is (rw full are)
-opening_new hosts node m host false false is full are = rw is (rw full (hosted_more hosts node.sessions _ are (leb-false hosts host is)))
-
-opening_hosted : (hosts : ℕ) (node : Node) (m : Message) (host : ℕ) (known : Option Taken) → AreHosted hosts node.sessions → AreHosted hosts (opening hosts node m host known).sessions
-opening_hosted hosts node m host (Some s) are = are
-opening_hosted hosts node m host None are = opening_new hosts node m host _ _ refl refl are
-
-asking_known : (hosts : ℕ) (node : Node) (m : Message) (what : Ask) (s : Taken) (b : Bool) → nat_le most_requests (length s.requests) ≡ b → AreHosted hosts node.sessions
-    → AreHosted hosts (asking node m what (Some s)).sessions
-asking_known hosts node m what s true is are = rw is are
-asking_known hosts node m what s false is are = rw is (hosted_with hosts m.kernel _ node.sessions are)
-
-asking_hosted : (hosts : ℕ) (node : Node) (m : Message) (what : Ask) (known : Option Taken) → AreHosted hosts node.sessions → AreHosted hosts (asking node m what known).sessions
-asking_hosted hosts node m what None are = are
-asking_hosted hosts node m what (Some s) are = asking_known hosts node m what s _ refl are
-
-kind_hosted : (hosts : ℕ) (node : Node) (m : Message) (k : MessageKind) → AreHosted hosts node.sessions → AreHosted hosts (with_kind hosts node m k).sessions
-kind_hosted hosts node m (message.Open host) are = opening_hosted hosts node m host (session_of m.kernel node.sessions) are
-kind_hosted hosts node m (message.Ask what) are = asking_hosted hosts node m what (session_of m.kernel node.sessions) are
-
-unread_hosted : (hosts : ℕ) (node : Node) (why : MessageFault) → AreHosted hosts node.sessions → AreHosted hosts (unread node why).sessions
-unread_hosted hosts node fault.OutOfMemory are = are
-unread_hosted hosts node fault.NotJson are = are
-unread_hosted hosts node (fault.NoField name) are = are
-unread_hosted hosts node (fault.WrongKind name) are = are
-unread_hosted hosts node fault.BadUuid are = are
-unread_hosted hosts node (fault.UnknownType name) are = are
-
-message_hosted : (hosts : ℕ) (node : Node) (r : Result Message MessageFault) → AreHosted hosts node.sessions → AreHosted hosts (with_message hosts node r).sessions
-message_hosted hosts node (Ok m) are = kind_hosted hosts node m m.kind are
-message_hosted hosts node (Err why) are = unread_hosted hosts node why are
-
-frames_hosted : (hosts : ℕ) (node : Node) (bodies : List (List ℕ)) → AreHosted hosts node.sessions → AreHosted hosts (with_frames hosts node bodies).sessions
-frames_hosted hosts node [] are = are
-frames_hosted hosts node (body ∷ bodies) are = frames_hosted hosts (with_message hosts node (message_in body)) bodies (message_hosted hosts node (message_in body) are)
-
-pub taken_hosted : (hosts : ℕ) (bytes : List ℕ) (t : TakenIn) → IsTakenIn hosts bytes t → AreHosted hosts (map taken_of t.sessions)
-taken_hosted hosts bytes t taken = subst (λ (n : Node). AreHosted hosts n.sessions) (sym taken.node) (frames_hosted hosts no_sessions taken.bodies tt)
 
 -- ---- the node of a run
 
@@ -140,15 +72,15 @@ node_agrees intake.End hosts bodies rest (Some p) sessions errors (inr some) agr
 node_agrees intake.Failed hosts bodies rest broken sessions errors is agrees = agrees
 node_agrees intake.TooMany hosts bodies rest broken sessions errors is agrees = agrees
 
-pub has_run : (meaning : Meaning) (hosts : ℕ) (gives : Answers) (bytes : List ℕ) (left : Option (List ℕ)) (t : TakenIn) (end : IntakeEnd) (run_end : RunEnd) (errors : List NodeError) (runs : List ServedSession)
-    → (taken : IsTakenIn hosts bytes t) → EndsSo end left taken.rest → run_end ≡ end_after end t.broken → errors ≡ errors_after end t.broken t.errors → AreRuns meaning hosts gives (map taken_of t.sessions) runs
-    → HasRun meaning hosts gives run_end bytes left errors runs
-has_run meaning hosts gives bytes left t end run_end errors runs taken ends is are_errors are_runs =
-    let plain : Agrees (with_frames hosts no_sessions taken.bodies) (map taken_of t.sessions) t.errors =
-    record { are_sessions = ap (λ (n : Node). n.sessions) taken.node; are_errors = ap (λ (n : Node). n.errors) taken.node } in
-    let agrees = node_agrees end hosts taken.bodies taken.rest t.broken (map taken_of t.sessions) t.errors taken.broken plain in
+pub has_run : (meaning : Meaning) (hosts : ℕ) (gives : Answers) (bytes : List ℕ) (left : Option (List ℕ)) (IsDesk : List Taken → Type 0) (before : List NodeError) (broken : Option ℕ) (end : IntakeEnd) (run_end : RunEnd)
+    (errors : List NodeError) (runs : List ServedSession) → (taken : HasTaken hosts bytes (λ node. IsDesk node.sessions × (before ≡ node.errors)) broken) → EndsSo end left taken.rest → run_end ≡ end_after end broken
+    → errors ≡ errors_after end broken before → ((ts : List Taken) → IsDesk ts → AreRuns meaning hosts gives ts runs) → HasRun meaning hosts gives run_end bytes left errors runs
+has_run meaning hosts gives bytes left IsDesk before broken end run_end errors runs taken ends is are_errors are_runs =
+    let plain_node : Node = with_frames hosts no_sessions taken.bodies in
+    let plain : Agrees plain_node plain_node.sessions before = record { are_sessions = refl; are_errors = taken.node.1 } in
+    let agrees = node_agrees end hosts taken.bodies taken.rest broken plain_node.sessions before taken.broken plain in
     subst (λ (e : RunEnd). HasRun meaning hosts gives e bytes left errors runs) (sym is) (record {
-      node = node_at (end_after end t.broken) hosts taken.bodies taken.rest;
+      node = node_at (end_after end broken) hosts taken.bodies taken.rest;
       is_node = record {
         bodies = taken.bodies;
         rest = taken.rest;
@@ -156,10 +88,10 @@ has_run meaning hosts gives bytes left t end run_end errors runs taken ends is a
         is_rest = taken.is_rest;
         is_stream = taken.is_stream;
         is_node = refl;
-        ends = ends_at end left taken.rest _ t.broken ends taken.broken;
+        ends = ends_at end left taken.rest _ broken ends taken.broken;
       };
       errors_are = are_errors ∙ agrees.are_errors;
-      are_runs = subst (λ ss. AreRuns meaning hosts gives ss runs) agrees.are_sessions are_runs;
+      are_runs = subst (λ ss. AreRuns meaning hosts gives ss runs) agrees.are_sessions (are_runs plain_node.sessions taken.node.0);
     })
 
 pub failed_end : (end : IntakeEnd) (broken : Option ℕ) → end_after end broken ≡ SourceFailed → end ≡ intake.Failed

@@ -1,114 +1,136 @@
--- Sessions that are served: their two lists, and their journals.
-use Rattle.std.proofs.Common.{◌≡◌, ℕ, ◌<◌, Bool, true, false, List, [], ◌∷◌, ◌++◌, Option, refl, ap, sym, ◌∙◌, subst, append_assoc, ◌⊎◌, inl, inr}
-use Rattle.std.specs.Prelude.{filter, map, not}
-use Rattle.std.proofs.lemmas.List.{append-nil, map-append}
-use Rattle.std.proofs.lemmas.List.Elements.{filter-append}
+-- Sessions that are served to their end, one after the other.
+use Rattle.std.proofs.Common.{◌≡◌, ℕ, zero, suc, ◌+◌, ◌<◌, List, [], ◌∷◌, ◌++◌, length, Some, refl, sym, ap, ◌∙◌, subst, append_assoc, arith}
+use Rattle.std.specs.Prelude.{slice_get, drop}
+use mathlib.Core.List.{reverse}
+use Rattle.std.proofs.lemmas.List.{append-nil, reverse-reverse, length-reverse, length-append}
 use Rattle.std.proofs.lemmas.Slice.Zip.{all_zipped_more}
-use Rattle.nb_outside.specs.declared.feed.Drawn.{Drawn}
 use Rattle.nb_outside.specs.Feeds.{Seen as SeenFeed}
-use Rattle.session_core.specs.declared.request.Header.{Header}
-use Rattle.session_core.specs.declared.request.Channel.{Channel}
-use Rattle.session_core.specs.declared.request.Request.{Request}
-use Rattle.session_core.specs.declared.entry.Entry.{Entry}
-use Rattle.session_core.specs.declared.entry.Entry.TheVariants.{Opened}
-use Rattle.session_core.specs.Asks.{is_main, is_control}
 use Rattle.session_core.specs.Meanings.{Meaning}
-use Rattle.session_core.specs.Legal.{IsLegal, asked}
-use Rattle.session_core.specs.Stepping.{GoesOn}
-use Rattle.session_core.specs.Aloneness.{Seen}
-use Rattle.session_core.specs.Feeding.{HasFed}
+use Rattle.session_core.specs.Legal.{IsLegal}
+use Rattle.session_core.specs.Feeding.{HasFed, AreFirstAnswers, drawn_in}
 use Rattle.session_core.proofs.Feeding.{first_answers}
+use Rattle.session_queues.specs.declared.shared.SharedQueues.{SharedQueues}
+use Rattle.session_queues.specs.Passes.{IsPassOf}
+use Rattle.session_queues.specs.Ends.{FoundNothing}
+use Rattle.session_gate.specs.Answered.{as_main, as_control}
+use Rattle.session_gate.specs.Facts.{Holds}
+use Rattle.session_gate.specs.Custodies.{IsFinished}
+use Rattle.host_workers.specs.Tables.{AreNumbered, IsTable}
 use Rattle.node_intake.specs.Intake.{Taken}
-use Rattle.node_intake.specs.declared.session.Session.{Session}
-use Rattle.node_intake.specs.Sessions.{taken_of}
-use Rattle.node_run.specs.Journals.{Answers, IsJournalOf, AreHosted, ServedSession, IsRunOf, AreRuns}
+use Rattle.node_run.specs.declared.open_session.OpenSession.{OpenSession}
+use Rattle.node_run.specs.Admitted.{IsOpen, AreOpen, AreSeated}
+use Rattle.node_run.specs.Journals.{Answers, IsJournalOf, ServedSession, IsRunOf, AreRuns}
+use Rattle.node_run.proofs.Seating.{drop_first, drop_rest}
+use Rattle.node_run.proofs.Asking.{main_is, control_is, main_requests_are, begins}
 
--- ---- two lists
+-- ---- one session
 
-tells : (b : Bool) → (b ≡ true) ⊎ (b ≡ false)
-tells true = inl refl
-tells false = inr refl
+module _ {E F : Type 0} (seen : F → SeenFeed) where
+  pub is_journal : (meaning : Meaning) (hosts : ℕ) (gives : Answers) (q : SharedQueues) (number : ℕ) (s : Taken) (o : OpenSession) (h : Holds E F) → IsOpen q s o → IsFinished hosts q number o.pass gives seen h → FoundNothing h.ends
+      → IsLegal meaning h.hosts h.entries → HasFed (seen h.feed).made h.entries (seen h.feed) → IsJournalOf meaning hosts (gives s.kernel) s h.entries
+  is_journal meaning hosts gives q number s o h open fin none legal fed =
+      let main = main_is h.kernel h.entries h.ends fin.1 none _ (fin.5 ∙ ap (λ p. p.main.lists) open.pass) (fin.6 ∙ ap (λ p. p.main.given) open.pass) in
+      let control = control_is h.kernel h.entries h.ends fin.1 none _ (fin.7 ∙ ap (λ p. p.control.lists) open.pass) (fin.8 ∙ ap (λ p. p.control.given) open.pass) in
+      let first = begins meaning h.hosts s.kernel h.kernel h.entries s.host s.request s.channel (as_main s.requests) _ legal main in
+      record {
+        legal = subst (λ n. IsLegal meaning n h.entries) fin.4 legal;
+        begins = first.1;
+        main = main_requests_are s.kernel s.host s.request s.channel s.requests h.kernel h.entries main;
+        control = sym control;
+        fed = subst (λ a. AreFirstAnswers a (drawn_in h.entries)) (fin.9 ∙ ap gives first.0) (first_answers (seen h.feed).made h.entries (seen h.feed) fed);
+      }
 
-twice : {X : Type 0} (p : X → Bool) (xs : List X) → filter p (filter p xs) ≡ filter p xs
-twice p [] = refl
-twice p (x ∷ xs) = elim (tells (p x)) [ inl is ↦ rw is (rw is (ap (λ z. x ∷ z) (twice p xs))) | inr is ↦ rw is (twice p xs) ]
+-- ---- one after the other
 
--- what one test keeps the other doesn't
-never : {X : Type 0} (p q : X → Bool) (xs : List X) → ((x : X) → p x ≡ true → q x ≡ false) → filter q (filter p xs) ≡ []
-never p q [] other = refl
-never p q (x ∷ xs) other = elim (tells (p x)) [ inl is ↦ rw is (rw (other x is) (never p q xs other)) | inr is ↦ rw is (never p q xs other) ]
+-- So many sessions were served, the first of all. The others are left, with their cells, the next one last, and their queues.
+pub record ServedSoFar (meaning : Meaning) (hosts : ℕ) (gives : Answers) (queues : List SharedQueues) (all rest : List OpenSession) (cells : List (SharedQueues × ℕ)) (runs : List ServedSession) : Type 0 where
+  pub done : ℕ
+  pub numbered : AreNumbered done (reverse cells)
+  pub long : done + length cells ≡ 256
+  pub seated : AreSeated rest (drop done queues)
+  pub served : (ts : List Taken) → AreOpen ts all queues → (first : List Taken) × (later : List Taken) × (ts ≡ first ++ later) × AreRuns meaning hosts gives first runs × AreOpen later rest (drop done queues)
 
-not_control : (r : Request) → is_main r ≡ true → is_control r ≡ false
-not_control r is = elim (tells (is_control r)) [ inl control ↦ let no : false ≡ true = rw control at is in cc | inr main ↦ main ]
-
-not_main : (r : Request) → is_control r ≡ true → is_main r ≡ false
-not_main r is = ap not is
-
-main_of_both : (rs : List Request) → filter is_main (filter is_control rs ++ filter is_main rs) ≡ filter is_main rs
-main_of_both rs = filter-append is_main (filter is_control rs) (filter is_main rs)
-    ∙ ap (λ z. z ++ filter is_main (filter is_main rs)) (never is_control is_main rs not_main) ∙ twice is_main rs
-
-control_of_both : (rs : List Request) → filter is_control (filter is_control rs ++ filter is_main rs) ≡ filter is_control rs
-control_of_both rs = filter-append is_control (filter is_control rs) (filter is_main rs)
-    ∙ ap (λ z. filter is_control (filter is_control rs) ++ z) (never is_main is_control rs not_control)
-    ∙ append-nil (filter is_control (filter is_control rs)) ∙ twice is_control rs
-
--- ---- a journal
-
-pub goes_both : (a b c : List Entry) → GoesOn a b → GoesOn b c → GoesOn a c
-goes_both a b c (m, e) (n, f) = (m ++ n, f ∙ ap (λ z. z ++ n) e ∙ append_assoc a m n)
-
-all_asked : (host : ℕ) (request : Header) (channel : Channel) (opened mid es : List Entry) (control main : List Request) → opened ≡ Opened host request channel ∷ []
-    → asked mid ≡ asked opened ++ control → asked es ≡ asked mid ++ main → asked es ≡ control ++ main
-all_asked host request channel opened mid es control main is first then =
-    then ∙ ap (λ z. z ++ main) first ∙ ap (λ z. (z ++ control) ++ main) (ap asked is)
-
-pub is_journal : (meaning : Meaning) (hosts h : ℕ) (answers : Option (List Drawn)) (seen : SeenFeed) (s : Taken) (opened mid es : List Entry) (control main : List Request) → IsLegal meaning h es → h ≡ hosts
-    → opened ≡ Opened s.host s.request s.channel ∷ [] → GoesOn opened mid → GoesOn mid es → asked mid ≡ asked opened ++ control → asked es ≡ asked mid ++ main
-    → control ≡ filter is_control s.requests → main ≡ filter is_main s.requests → HasFed answers es seen → IsJournalOf meaning hosts answers s es
-is_journal meaning hosts h answers seen s opened mid es control main is_legal same is first then asked_first asked_then are_control are_main fed =
-    let more = goes_both opened mid es first then in
-    let all : asked es ≡ filter is_control s.requests ++ filter is_main s.requests = all_asked s.host s.request s.channel opened mid es control main is asked_first asked_then
-    ∙ ap (λ z. z ++ main) are_control ∙ ap (λ z. filter is_control s.requests ++ z) are_main in
-    record {
-      legal = subst (λ n. IsLegal meaning n es) same is_legal;
-      begins = (more.0, more.1 ∙ ap (λ z. z ++ more.0) is);
-      main = ap (filter is_main) all ∙ main_of_both s.requests;
-      control = ap (filter is_control) all ∙ control_of_both s.requests;
-      order = all;
-      fed = first_answers answers es seen fed;
-    }
-
--- ---- sessions, one after the other
-
--- the first of the sessions were served, and the rest is left
-pub record ServedSoFar (meaning : Meaning) (hosts : ℕ) (gives : Answers) (all rest : List Session) (runs : List ServedSession) : Type 0 where
-  pub done : List Session
-  pub parts : all ≡ done ++ rest
-  pub are_runs : AreRuns meaning hosts gives (map taken_of done) runs
-
-pub none_served : (meaning : Meaning) (hosts : ℕ) (gives : Answers) (all : List Session) → ServedSoFar meaning hosts gives all all []
-none_served meaning hosts gives all = record { done = []; parts = refl; are_runs = tt }
-
-pub start_served : (meaning : Meaning) (hosts : ℕ) (gives : Answers) (all rest : List Session) (runs : List ServedSession) → rest ≡ all → runs ≡ [] → ServedSoFar meaning hosts gives all rest runs
-start_served meaning hosts gives all rest runs same none = subst (λ zs. ServedSoFar meaning hosts gives all zs runs) (sym same) (subst (ServedSoFar meaning hosts gives all all) (sym none) (none_served meaning hosts gives all))
-
-pub as_next : (meaning : Meaning) (hosts : ℕ) (gives : Answers) (all left rest : List Session) (s : Session) (runs : List ServedSession) → left ≡ s ∷ rest → ServedSoFar meaning hosts gives all left runs → ServedSoFar meaning hosts gives all (s ∷ rest) runs
-as_next meaning hosts gives all left rest s runs is so_far = subst (λ zs. ServedSoFar meaning hosts gives all zs runs) is so_far
-
-pub next_served : (meaning : Meaning) (hosts : ℕ) (gives : Answers) (kernel : ℕ) (all rest : List Session) (s : Session) (seen : Seen) (runs new : List ServedSession) → ServedSoFar meaning hosts gives all (s ∷ rest) runs → kernel ≡ s.kernel
-    → IsJournalOf meaning hosts (gives s.kernel) (taken_of s) seen.entries → new ≡ runs ++ (kernel, seen) ∷ [] → ServedSoFar meaning hosts gives all rest new
-next_served meaning hosts gives kernel all rest s seen runs new so_far own journal is = record {
-  done = so_far.done ++ s ∷ [];
-  parts = so_far.parts ∙ sym (append_assoc so_far.done (s ∷ []) rest);
-  are_runs = subst (AreRuns meaning hosts gives (map taken_of (so_far.done ++ s ∷ []))) (sym is)
-      (subst (λ ts. AreRuns meaning hosts gives ts (runs ++ (kernel, seen) ∷ [])) (sym (map-append taken_of so_far.done (s ∷ [])))
-      (all_zipped_more (IsRunOf meaning hosts gives) (map taken_of so_far.done) runs (taken_of s) (kernel, seen) so_far.are_runs (own, journal)));
+pub start_served : (meaning : Meaning) (hosts : ℕ) (gives : Answers) (queues : List SharedQueues) (all rest : List OpenSession) (cells table : List (SharedQueues × ℕ)) (runs : List ServedSession)
+    → rest ≡ all → cells ≡ reverse table → runs ≡ [] → IsTable table → AreSeated all queues → ServedSoFar meaning hosts gives queues all rest cells runs
+start_served meaning hosts gives queues all rest cells table runs same turned none is seated = record {
+  done = 0;
+  numbered = subst (AreNumbered 0) (sym (ap reverse turned ∙ reverse-reverse table)) is.numbered;
+  long = let n = ap length turned in let m = length-reverse table in let all_is = is.all in omega arith;
+  seated = subst (λ os. AreSeated os queues) (sym same) seated;
+  served = λ ts are. ([], ts, refl, subst (AreRuns meaning hosts gives []) (sym none) tt, subst (λ os. AreOpen ts os queues) (sym same) are);
 }
 
-hosted_in : (hosts : ℕ) (done rest : List Session) (s : Session) → AreHosted hosts (map taken_of (done ++ s ∷ rest)) → s.host < hosts
-hosted_in hosts [] rest s are = are.0
-hosted_in hosts (first ∷ done) rest s are = hosted_in hosts done rest s are.1
+-- the queues of the next session
+pub record IsNext (queues : List SharedQueues) (rest : List OpenSession) (o : OpenSession) (done : ℕ) : Type 0 where
+  pub queue : SharedQueues
+  pub left : List SharedQueues
+  pub parts : drop done queues ≡ queue ∷ left
+  pub is_of : IsPassOf queue o.pass
+  pub seated : AreSeated rest left
 
-pub next_hosted : (meaning : Meaning) (hosts : ℕ) (gives : Answers) (all rest : List Session) (s : Session) (runs : List ServedSession) → ServedSoFar meaning hosts gives all (s ∷ rest) runs → AreHosted hosts (map taken_of all) → s.host < hosts
-next_hosted meaning hosts gives all rest s runs so_far are = hosted_in hosts so_far.done rest s (subst (λ ss. AreHosted hosts (map taken_of ss)) so_far.parts are)
+next_in : (queues left : List SharedQueues) (rest : List OpenSession) (o : OpenSession) (done : ℕ) → drop done queues ≡ left → AreSeated (o ∷ rest) left → IsNext queues rest o done
+next_in queues [] rest o done is seated = absurd seated
+next_in queues (q ∷ left) rest o done is seated = record { queue = q; left = left; parts = is; is_of = seated.0; seated = seated.2 }
+
+pub next_of : (queues : List SharedQueues) (left rest : List OpenSession) (o : OpenSession) (done : ℕ) → left ≡ o ∷ rest → AreSeated left (drop done queues) → IsNext queues rest o done
+next_of queues left rest o done is seated = next_in queues (drop done queues) rest o done refl (subst (λ os. AreSeated os (drop done queues)) is seated)
+
+too_many : (queues : List SharedQueues) (q : SharedQueues) (left : List SharedQueues) (n : ℕ) → drop n queues ≡ q ∷ left → n < length queues
+too_many [] q left zero is = cc
+too_many [] q left (suc n) is = cc
+too_many (r ∷ queues) q left zero is = omega arith
+too_many (r ∷ queues) q left (suc n) is = let rest = too_many queues q left n is in omega arith
+
+-- a cell is left for it
+pub some_cell : (queues : List SharedQueues) (rest : List OpenSession) (o : OpenSession) (done cells : ℕ) → IsNext queues rest o done → length queues ≡ 256 → done + cells ≡ 256 → 0 < cells
+some_cell queues rest o done cells next long all = let few = too_many queues next.queue next.left done next.parts in omega arith
+
+-- and it has these queues
+pub same_queues : (queues : List SharedQueues) (rest : List OpenSession) (o : OpenSession) (done : ℕ) (cell : SharedQueues × ℕ) → (next : IsNext queues rest o done) → cell.1 ≡ done → slice_get queues cell.1 ≡ Some cell.0 → cell.0 ≡ next.queue
+same_queues queues rest o done cell next number listed =
+    let here : slice_get queues done ≡ Some cell.0 = ap (slice_get queues) (sym number) ∙ listed in
+    let there : slice_get queues done ≡ Some next.queue = drop_first done queues next.queue next.left next.parts in
+    let same : Some cell.0 ≡ Some next.queue = sym here ∙ there in
+    cc
+
+open_first : (queues left : List SharedQueues) (later : List Taken) (rest : List OpenSession) (o : OpenSession) (q : SharedQueues) → queues ≡ q ∷ left → AreOpen later (o ∷ rest) queues
+    → (s : Taken) × (more : List Taken) × (later ≡ s ∷ more) × IsOpen q s o × AreOpen more rest left
+open_first queues left [] rest o q is are = absurd are
+open_first queues left (s ∷ more) rest o q is are = let there : IsOpen q s o × AreOpen more rest left = subst (AreOpen (s ∷ more) (o ∷ rest)) is are in (s, more, refl, there.0, there.1)
+
+pub next_served : (meaning : Meaning) (hosts : ℕ) (gives : Answers) (queues : List SharedQueues) (all left rest : List OpenSession) (cells cells_left : List (SharedQueues × ℕ)) (runs new : List ServedSession) (o : OpenSession) (cell : SharedQueues × ℕ) (run : ServedSession)
+    → (so_far : ServedSoFar meaning hosts gives queues all left cells runs) → left ≡ o ∷ rest → reverse cells ≡ cell ∷ reverse cells_left → cells ≡ cells_left ++ cell ∷ [] → slice_get queues cell.1 ≡ Some cell.0
+    → ((s : Taken) → IsOpen cell.0 s o → IsRunOf meaning hosts gives s run) → new ≡ runs ++ run ∷ [] → ServedSoFar meaning hosts gives queues all rest cells_left new
+next_served meaning hosts gives queues all left rest cells cells_left runs new o cell run so_far is turned parts listed served push =
+    let next = next_of queues left rest o so_far.done is so_far.seated in
+    let numbered : AreNumbered so_far.done (cell ∷ reverse cells_left) = subst (AreNumbered so_far.done) turned so_far.numbered in
+    let same = same_queues queues rest o so_far.done cell next numbered.0 listed in
+    let fewer = ap length parts ∙ length-append cells_left (cell ∷ []) in
+    let after : drop (so_far.done + 1) queues ≡ next.left = drop_rest so_far.done queues next.queue next.left next.parts in
+    record {
+      done = so_far.done + 1;
+      numbered = numbered.1;
+      long = let long = so_far.long in omega (arith, fewer);
+      seated = subst (AreSeated rest) (sym after) next.seated;
+      served = λ ts are.
+          let before = so_far.served ts are in
+          let first = open_first (drop so_far.done queues) next.left before.1 rest o next.queue next.parts (subst (λ os. AreOpen before.1 os (drop so_far.done queues)) is before.4) in
+          let own = served first.0 (subst (λ q. IsOpen q first.0 o) (sym same) first.3) in (
+            before.0 ++ first.0 ∷ [],
+            first.1,
+            before.2 ∙ ap (λ l. before.0 ++ l) first.2 ∙ sym (append_assoc before.0 (first.0 ∷ []) first.1),
+            subst (AreRuns meaning hosts gives (before.0 ++ first.0 ∷ [])) (sym push) (all_zipped_more (IsRunOf meaning hosts gives) before.0 runs first.0 run before.3 own),
+            subst (AreOpen first.1 rest) (sym after) first.4,
+          );
+    }
+
+open_none : (later : List Taken) (queues : List SharedQueues) → AreOpen later [] queues → later ≡ []
+open_none [] queues are = refl
+open_none (s ∷ later) queues are = absurd are
+
+pub all_served : (meaning : Meaning) (hosts : ℕ) (gives : Answers) (queues : List SharedQueues) (all rest : List OpenSession) (cells : List (SharedQueues × ℕ)) (runs : List ServedSession) → ServedSoFar meaning hosts gives queues all rest cells runs → rest ≡ []
+    → (ts : List Taken) → AreOpen ts all queues → AreRuns meaning hosts gives ts runs
+all_served meaning hosts gives queues all rest cells runs so_far none ts are =
+    let end = so_far.served ts are in
+    let nothing = open_none end.1 (drop so_far.done queues) (subst (λ os. AreOpen end.1 os (drop so_far.done queues)) none end.4) in
+    subst (λ ss. AreRuns meaning hosts gives ss runs) (sym (end.2 ∙ ap (λ l. end.0 ++ l) nothing ∙ append-nil end.0)) end.3

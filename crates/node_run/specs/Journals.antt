@@ -1,11 +1,11 @@
 -- The journals of sessions.
-use Rattle.std.specs.Prelude.{◌≡◌, ℕ, ◌<◌, List, ◌∷◌, ◌++◌, map, Option}
-use Rattle.std.specs.List.{AllByRecursion, AllZip}
+use Rattle.std.specs.Prelude.{◌≡◌, ℕ, List, ◌∷◌, map, Option}
+use Rattle.std.specs.List.{AllZip}
 use Rattle.nb_outside.specs.declared.feed.Drawn.{Drawn}
 use Rattle.session_core.specs.declared.entry.Entry.{Entry}
 use Rattle.session_core.specs.declared.entry.Entry.TheVariants.{Opened}
 use Rattle.session_core.specs.Meanings.{Meaning}
-use Rattle.session_core.specs.Legal.{IsLegal, asked, main_asked, control_asked}
+use Rattle.session_core.specs.Legal.{IsLegal, main_asked, control_asked}
 use Rattle.session_core.specs.Aloneness.{Seen}
 use Rattle.session_core.specs.Feeding.{drawn_in, AreFirstAnswers}
 use Rattle.node_intake.specs.Intake.{Taken, main_requests, control_requests}
@@ -14,19 +14,14 @@ use Rattle.node_intake.specs.Intake.{Taken, main_requests, control_requests}
 abbrev pub Answers : Type 0
 Answers = ℕ → Option (List Drawn)
 
--- a legal journal of a session that was opened so, in which all that was asked of it is answered, each list in order, and control
--- first; and what its cells drew, that of which it died full included, is what its feed gave first
+-- a legal journal of a session that was opened so, in which all that was asked of it is answered, each list in order; and what its
+-- cells drew, that of which it died full included, is what its feed gave first
 pub record IsJournalOf (meaning : Meaning) (hosts : ℕ) (answers : Option (List Drawn)) (s : Taken) (es : List Entry) : Type 0 where
   pub legal : IsLegal meaning hosts es
   pub begins : (more : List Entry) × (es ≡ Opened s.host s.request s.channel ∷ more)
   pub main : main_asked es ≡ main_requests s
   pub control : control_asked es ≡ control_requests s
-  pub order : asked es ≡ control_requests s ++ main_requests s
   pub fed : AreFirstAnswers answers (drawn_in es)
-
--- each session was opened on a host that is there
-abbrev pub AreHosted : ℕ → List Taken → Type 0
-AreHosted hosts sessions = AllByRecursion (λ s. s.host < hosts) sessions
 
 -- a session that was served, by its kernel
 abbrev pub ServedSession : Type 0

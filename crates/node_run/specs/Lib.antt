@@ -1,4 +1,5 @@
 pub mod Journals
+pub mod Admitted
 pub mod Frames
 pub mod Ends
 pub mod Streams

@@ -6,11 +6,14 @@ ghost use Rattle.save_command.specs.Saved.{WritesFirst, SavesTold, IsSaveStatus}
 use crate::pack::{SaveFault, first_packed};
 use command_words::status;
 use graph_model::Weights;
+use host_workers::Gate;
 use nb_outside::{Feeds, Sink, Source};
 use node_run::{RunEnd, run_sessions, status_of, write_all};
 use notebook_engine::Notebook;
 use session_core::Alone;
 use std::alloc::Global;
+use std::sync::Wait;
+use std::thread::Threads;
 
 /// Packs the first of these sessions under these weights, and writes its checkpoint. Gives the status.
 fn save_first<K: Sink>(
@@ -32,7 +35,7 @@ fn save_first<K: Sink>(
     }
 }
 
-/// Serves the source as one host does, and then writes, in place of frames, the checkpoint of the session that was opened
+/// Serves the source as `run` does with one host and one worker, and then writes, in place of frames, the checkpoint of the session that was opened
 /// first, under a least-cost plan for these weights. Gives the status:
 ///
 /// - 0: the input was read to its end, and the checkpoint was written.
@@ -43,20 +46,29 @@ fn save_first<K: Sink>(
 /// - 6: there is no session, or the first is dead for another cause, or it can't be packed: the weights aren't admitted, or a
 ///   version that holds a handle needs a cell that drew. Nothing is written.
 /// - 10: 4,294,967,295 reads each took a byte. Nothing is written.
-pub fn save<S: Source, K: Sink, D: Feeds>(
+pub fn save<S, K, D, G, R>(
+    rt: &R,
     alloc: Global,
     source: &mut S,
     sink: &mut K,
     feeds: &mut D,
     weights: &Weights,
+    gate: &G,
 ) -> u8
+where
+    S: Source,
+    K: Sink,
+    D: Feeds,
+    D::Feed: Send,
+    G: Gate + Sync,
+    R: Threads + Wait + Sync,
     ensures saved { SavesTold (D.gives feeds.old) weights.now result (S.left source.old) (S.left source.new) (K.written sink.old) (K.written sink.new) }
     ensures answered { IsSaveStatus result }
     ensures source_fault { result ≡ 3 → HasRisen (S.faults source.old) (S.faults source.new) }
     ensures sink_fault { result ≡ 4 → HasRisen (K.faults sink.old) (K.faults sink.new) }
     ensures reads { result ≡ 10 → HasRisenBy 4294967295 (S.reads source.old) (S.reads source.new) }
 {
-    let Ok(ran) = run_sessions::<Notebook, S, D>(alloc, 1, source, feeds) else {
+    let Ok(ran) = run_sessions::<Notebook, S, D, G, R>(rt, alloc, 1, 1, source, feeds, gate) else {
         return status::OUT_OF_MEMORY;
     };
     match ran.end {

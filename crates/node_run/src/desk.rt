@@ -1,0 +1,216 @@
+//! The desk of a run: sessions are opened in their cells, and requests are admitted to them, while workers run.
+
+ghost use Rattle.std.specs.Prelude.{◌≡◌, ◌+◌, ◌<◌, List, [], ◌∷◌, ◌++◌, length, slice_get, slice_set, Some, OnOk, OnErr, MatchResult};
+ghost use Rattle.nb_outside.specs.Feeds.{HasAll};
+ghost use Rattle.session_queues.specs.declared.items.MainItem.{MainItem};
+ghost use Rattle.session_queues.specs.Passes.{admitted_by};
+ghost use Rattle.session_queues.specs.Ends.{first_pass};
+ghost use Rattle.node_intake.specs.Intake.{most_requests};
+ghost use Rattle.node_run.specs.Admitted.{AreSeated, admitted_at, with_request};
+ghost use Rattle.node_run.specs.declared.open_session.OpenSession.{OpenSession};
+
+use crate::open_session::OpenSession;
+use host_workers::Hosts;
+use nb_outside::{Feed, Feeds};
+use node_intake::Desk;
+use session_core::{Channel, Engine, Header, Request};
+use session_gate::{Name, SessionCell, Take};
+use session_queues::{Queues, Reader};
+use std::alloc::{AllocError, Global};
+use std::marker::Model;
+use std::sync::Wait;
+
+/// Opens the sessions of a run in their cells, and admits their requests.
+#[derive(Drop)]
+pub struct AdmissionDesk<'a, E: Engine, Q: Feeds, N: Name, R> {
+    rt: &'a R,
+    node: &'a Hosts<E, Q::Feed, N>,
+    feeds: &'a mut Q,
+    hosts: u32,
+    /// The queues of the sessions that aren't open yet, those of the next one last.
+    queues: Vec<Queues>,
+    /// The sessions that are open, in order.
+    sessions: Vec<OpenSession>,
+}
+
+impl<'a, E: Engine, Q: Feeds, N: Name, R> Model for AdmissionDesk<'a, E, Q, N, R> {
+    ghost use Rattle.std.specs.Prelude.{◌≡◌, List, length, drop};
+    ghost use mathlib.Core.List.{reverse};
+    ghost use Rattle.node_run.specs.Admitted.{AreSeated};
+    ghost use Rattle.node_run.specs.declared.open_session.OpenSession.{OpenSession};
+
+    ghost Value = { List OpenSession };
+
+    ghost view = { λ d. d.sessions.items };
+
+    ghost invariant = { λ d. (d.hosts ≡ N.hosts) × (Q.gives d.feeds.now ≡ N.gives) × (length N.queues ≡ 256)
+        × (drop (length d.sessions.items) N.queues ≡ reverse d.queues.items) × AreSeated d.sessions.items N.queues };
+}
+
+impl<'a, E: Engine + Drop, Q: Feeds, N: Name, R> AdmissionDesk<'a, E, Q, N, R> {
+    /// The desk of a run whose sessions have these queues. None is open yet.
+    pub fn new(
+        rt: &'a R,
+        alloc: Global,
+        node: &'a Hosts<E, Q::Feed, N>,
+        feeds: &'a mut Q,
+        hosts: u32,
+        queues: Vec<Queues>,
+    ) -> AdmissionDesk<'a, E, Q, N, R>
+        requires queues { (N.queues ≡ queues.items) × (length queues.items ≡ 256) }
+        requires hosts { N.hosts ≡ hosts }
+        requires gives { Q.gives feeds.old ≡ N.gives }
+        ensures { result ≡ [] }
+    {
+        let mut queues = queues;
+        queues.reverse();
+        AdmissionDesk {
+            rt,
+            node,
+            feeds,
+            hosts,
+            queues,
+            sessions: Vec::new(alloc),
+        }
+    }
+
+    /// The sessions that are open.
+    pub fn into_sessions(self) -> Vec<OpenSession>
+        ensures sessions { result.items ≡ self }
+        ensures seated { AreSeated result.items N.queues }
+    {
+        let AdmissionDesk {
+            rt: _,
+            node: _,
+            feeds: _,
+            hosts: _,
+            queues: _,
+            sessions,
+        } = self;
+        sessions
+    }
+}
+
+impl<'a, E: Engine + Drop, Q: Feeds, N: Name, R: Wait> Desk for AdmissionDesk<'a, E, Q, N, R> {
+    ghost use Rattle.std.specs.Prelude.{◌<◌, length};
+    ghost use Rattle.node_run.specs.Admitted.{AreOpen, admitted_at};
+
+    ghost holds = { λ os ts. AreOpen ts os N.queues };
+
+    ghost count = { λ os. length os };
+
+    ghost asked = { λ os at. admitted_at os at };
+
+    ghost is_host = { λ host. host < N.hosts };
+
+    fn sessions(&self) -> usize {
+        self.sessions.len()
+    }
+
+    fn kernel(&self, at: usize) -> u128 {
+        self.sessions[at].kernel
+    }
+
+    fn requests(&self, at: usize) -> usize {
+        self.sessions[at].requests
+    }
+
+    fn open(
+        &mut self,
+        alloc: Global,
+        kernel: u128,
+        host: u32,
+        request: Header,
+        channel: Channel,
+    ) -> Result<(), AllocError> {
+        let feed = self.feeds.open(alloc, kernel)?;
+        self.sessions.reserve(1)?;
+        let number = self.sessions.len() as u32;
+        let Some(queues) = self.queues.pop() else {
+            unreachable!()
+        };
+        let engine = E::opened(alloc, host);
+        match self.node.cell(number).open(
+            self.rt, alloc, queues, kernel, self.hosts, engine, feed, host, request, channel,
+        ) {
+            Ok((pass, reader)) => {
+                close_reader(self.rt, self.node.cell(number), host, reader);
+                self.sessions.push_reserved(OpenSession {
+                    kernel,
+                    host,
+                    requests: 0,
+                    pass,
+                });
+                Ok(())
+            }
+            Err(queues) => {
+                self.queues.push_reserved(queues);
+                Err(AllocError)
+            }
+        }
+    }
+
+    fn admit(&mut self, at: usize, request: Request) -> Result<(), AllocError> {
+        let host = admit_to(
+            self.rt,
+            self.node.cell(at as u32),
+            &mut self.sessions,
+            at,
+            request,
+        )?;
+        self.node.wake(self.rt, host, at as u32);
+        Ok(())
+    }
+}
+
+/// Closes the reader of a session that was just opened on this host: no entry of it is read before the run has ended.
+fn close_reader<E, F, N, R>(rt: &R, cell: &SessionCell<E, F, N>, host: u32, reader: Reader)
+where
+    E: Engine + Drop,
+    F: Feed,
+    N: Name,
+    R: Wait,
+    requires { reader.out_queue ≡ cell.now.0.out }
+{
+    match cell.take(rt, host) {
+        Take::Taken(lease) => {
+            let mut lease = lease;
+            let _ = lease.close_reader(rt, reader);
+            cell.give(rt, lease);
+        }
+        Take::Elsewhere(_) | Take::Sealed(_) | Take::Unopened | Take::Out => {}
+    }
+}
+
+/// Admits a request to the session at that index, which is in this cell, and gives the host on which it was opened. After an error
+/// the sessions are as before.
+fn admit_to<E, F, N, R>(
+    rt: &R,
+    cell: &SessionCell<E, F, N>,
+    sessions: &mut Vec<OpenSession>,
+    at: usize,
+    request: Request,
+) -> Result<u32, AllocError>
+where
+    E: Engine + Drop,
+    F: Feed,
+    N: Name,
+    R: Wait,
+    requires at { at < length sessions.old.items }
+    requires cell { slice_get N.queues at ≡ Some cell.now.0 }
+    requires seated { AreSeated sessions.old.items N.queues }
+    requires frontend { request.frontend ≡ 0 }
+    requires few { admitted_at sessions.old.items at < most_requests }
+    ensures ok { OnOk result ((o : OpenSession) → slice_get sessions.old.items at ≡ Some o
+        → sessions.new.items ≡ slice_set sessions.old.items at (with_request o request)) }
+    ensures err { OnErr result (sessions.new.items ≡ sessions.old.items) }
+{
+    let session = &mut sessions[at];
+    match cell.admit(rt, &mut session.pass, request) {
+        Ok(()) => {
+            session.requests += 1;
+            Ok(session.host)
+        }
+        Err(_) => Err(AllocError),
+    }
+}

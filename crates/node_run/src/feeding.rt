@@ -1,0 +1,148 @@
+//! The feeder: it takes in the stream while the workers run.
+
+ghost use Rattle.std.specs.Prelude.{◌≡◌, ℕ, ◌≤◌, List, length, IfOk};
+ghost use Rattle.nb_outside.specs.Counts.{HasRisen, HasRisenBy};
+ghost use Rattle.nb_outside.specs.Streams.{Takes};
+ghost use Rattle.node_intake.specs.Taking.{HasTaken, EndsSo};
+ghost use Rattle.node_run.specs.Admitted.{AreOpen, AreSeated};
+
+use crate::desk::AdmissionDesk;
+use crate::open_session::OpenSession;
+use host_workers::{Gate, Hosts, worker};
+use nb_outside::{Feed, Feeds, Source};
+use node_intake::{Handed, IntakeEnd, take_in_at};
+use plain_data::Items;
+use reply_frames::NodeError;
+use session_core::Engine;
+use session_gate::Name;
+use session_queues::Queues;
+use std::alloc::{AllocError, Global};
+use std::sync::Wait;
+use std::thread;
+use std::thread::Threads;
+
+/// What was taken in, with the sessions that are open.
+#[derive(Drop)]
+pub struct FedIn {
+    pub sessions: Vec<OpenSession>,
+    /// The errors, in order, but for that of a broken stream.
+    pub errors: Items<NodeError>,
+    /// Where the stream stops being frames.
+    pub broken: Option<u64>,
+    pub end: IntakeEnd,
+}
+
+/// What was taken in at the desk.
+fn handed_in<E: Engine + Drop, Q: Feeds, N: Name, R: Wait>(
+    handed: Handed<AdmissionDesk<'_, E, Q, N, R>>,
+    end: IntakeEnd,
+) -> FedIn
+    ensures sessions { result.sessions.items ≡ handed.desk }
+    ensures seated { AreSeated result.sessions.items N.queues }
+    ensures rest { (result.errors ≡ handed.errors) × (result.broken ≡ handed.broken) × (result.end ≡ end) }
+{
+    let Handed {
+        desk,
+        errors,
+        broken,
+    } = handed;
+    FedIn {
+        sessions: desk.into_sessions(),
+        errors,
+        broken,
+        end,
+    }
+}
+
+/// Takes in the stream: each session is opened, and each request admitted and its host woken, as soon as its frame is there.
+fn feed<E, S, Q, N, R>(
+    rt: &R,
+    alloc: Global,
+    hosts: u32,
+    source: &mut S,
+    feeds: &mut Q,
+    node: &Hosts<E, Q::Feed, N>,
+    queues: Vec<Queues>,
+) -> Result<FedIn, AllocError>
+where
+    E: Engine + Drop,
+    S: Source,
+    Q: Feeds,
+    N: Name,
+    R: Wait,
+    requires queues { (N.queues ≡ queues.items) × (length queues.items ≡ 256) }
+    requires hosts { N.hosts ≡ hosts }
+    requires gives { Q.gives feeds.old ≡ N.gives }
+    ensures told { (bytes : List ℕ) × Takes (S.left source.old) (S.left source.new) bytes
+        × IfOk result (λ fed. (taken : HasTaken hosts bytes (λ node. AreOpen node.sessions fed.sessions.items N.queues × (fed.errors ≡ node.errors)) fed.broken)
+            × EndsSo fed.end (S.left source.new) taken.rest) }
+    ensures seated { IfOk result (λ fed. AreSeated fed.sessions.items N.queues) }
+    ensures failed { IfOk result (λ fed. fed.end ≡ IntakeEnd.Failed → HasRisen (S.faults source.old) (S.faults source.new)) }
+    ensures too_many { IfOk result (λ fed. fed.end ≡ IntakeEnd.TooMany → HasRisenBy 4294967295 (S.reads source.old) (S.reads source.new)) }
+    ensures faults_stay { S.faults source.old ≤ S.faults source.new }
+{
+    let desk = AdmissionDesk::new(rt, alloc, node, feeds, hosts, queues);
+    match take_in_at(alloc, source, hosts, desk) {
+        Ok((handed, end)) => Ok(handed_in(handed, end)),
+        Err(error) => Err(error),
+    }
+}
+
+/// Takes in the stream while each host has so many workers, as far as threads can be made. Once all is taken in, and the workers
+/// have returned, it returns too.
+pub fn feed_workers<E, S, Q, G, N, R>(
+    rt: &R,
+    alloc: Global,
+    hosts: u32,
+    workers: u32,
+    source: &mut S,
+    feeds: &mut Q,
+    gate: &G,
+    node: &Hosts<E, Q::Feed, N>,
+    queues: Vec<Queues>,
+) -> Result<FedIn, AllocError>
+where
+    E: Engine + Drop + Send,
+    S: Source,
+    Q: Feeds,
+    Q::Feed: Send,
+    G: Gate + Sync,
+    N: Name + Send + Sync,
+    R: Threads + Wait + Sync,
+    requires queues { (N.queues ≡ queues.items) × (length queues.items ≡ 256) }
+    requires hosts { N.hosts ≡ hosts }
+    requires gives { Q.gives feeds.old ≡ N.gives }
+    ensures told { (bytes : List ℕ) × Takes (S.left source.old) (S.left source.new) bytes
+        × IfOk result (λ fed. (taken : HasTaken hosts bytes (λ node. AreOpen node.sessions fed.sessions.items N.queues × (fed.errors ≡ node.errors)) fed.broken)
+            × EndsSo fed.end (S.left source.new) taken.rest) }
+    ensures seated { IfOk result (λ fed. AreSeated fed.sessions.items N.queues) }
+    ensures failed { IfOk result (λ fed. fed.end ≡ IntakeEnd.Failed → HasRisen (S.faults source.old) (S.faults source.new)) }
+    ensures too_many { IfOk result (λ fed. fed.end ≡ IntakeEnd.TooMany → HasRisenBy 4294967295 (S.reads source.old) (S.reads source.new)) }
+    ensures faults_stay { S.faults source.old ≤ S.faults source.new }
+{
+    thread::scope(
+        thread::scope_env(),
+        rt,
+        |scope| -> Result<FedIn, AllocError>
+            requires queues { (N.queues ≡ queues.items) × (length queues.items ≡ 256) }
+            requires hosts { N.hosts ≡ hosts }
+            requires gives { Q.gives feeds.now ≡ N.gives }
+            ensures told { (bytes : List ℕ) × Takes (S.left source.entry.now) (S.left source.exit.now) bytes
+                × IfOk result (λ fed. (taken : HasTaken hosts bytes (λ node. AreOpen node.sessions fed.sessions.items N.queues × (fed.errors ≡ node.errors)) fed.broken)
+                    × EndsSo fed.end (S.left source.exit.now) taken.rest) }
+            ensures seated { IfOk result (λ fed. AreSeated fed.sessions.items N.queues) }
+            ensures failed { IfOk result (λ fed. fed.end ≡ IntakeEnd.Failed → HasRisen (S.faults source.entry.now) (S.faults source.exit.now)) }
+            ensures too_many { IfOk result (λ fed. fed.end ≡ IntakeEnd.TooMany → HasRisenBy 4294967295 (S.reads source.entry.now) (S.reads source.exit.now)) }
+            ensures faults_stay { S.faults source.entry.now ≤ S.faults source.exit.now }
+        {
+            for host in 0..hosts {
+                for _ in 0..workers {
+                    let _ = scope.spawn(move || worker(rt, alloc, node, host, gate));
+                }
+            }
+            let fed = feed(rt, alloc, hosts, source, feeds, node, queues);
+            node.close(rt);
+            fed
+        },
+    )
+}
