@@ -9,7 +9,7 @@ ghost use Rattle.node_intake.specs.Intake.{most_requests};
 ghost use Rattle.node_run.specs.Admitted.{AreSeated, admitted_at, with_request};
 ghost use Rattle.node_run.specs.declared.open_session.OpenSession.{OpenSession};
 
-use crate::open_session::OpenSession;
+use crate::open_session::{OpenSession, Unsent};
 use host_workers::Hosts;
 use nb_outside::{Feed, Feeds};
 use node_intake::Desk;
@@ -27,6 +27,8 @@ pub struct AdmissionDesk<'a, E: Engine, Q: Feeds, N: Name, R> {
     node: &'a Hosts<E, Q::Feed, N>,
     feeds: &'a mut Q,
     hosts: u32,
+    /// Whether what sessions answer is read as it comes.
+    is_read: bool,
     /// The queues of the sessions that aren't open yet, those of the next one last.
     queues: Vec<Queues>,
     /// The sessions that are open, in order.
@@ -56,6 +58,7 @@ impl<'a, E: Engine + Drop, Q: Feeds, N: Name, R> AdmissionDesk<'a, E, Q, N, R> {
         feeds: &'a mut Q,
         hosts: u32,
         queues: Vec<Queues>,
+        is_read: bool,
     ) -> AdmissionDesk<'a, E, Q, N, R>
         requires queues { (N.queues ≡ queues.items) × (length queues.items ≡ 256) }
         requires hosts { N.hosts ≡ hosts }
@@ -69,6 +72,7 @@ impl<'a, E: Engine + Drop, Q: Feeds, N: Name, R> AdmissionDesk<'a, E, Q, N, R> {
             node,
             feeds,
             hosts,
+            is_read,
             queues,
             sessions: Vec::new(alloc),
         }
@@ -84,6 +88,7 @@ impl<'a, E: Engine + Drop, Q: Feeds, N: Name, R> AdmissionDesk<'a, E, Q, N, R> {
             node: _,
             feeds: _,
             hosts: _,
+            is_read: _,
             queues: _,
             sessions,
         } = self;
@@ -94,6 +99,8 @@ impl<'a, E: Engine + Drop, Q: Feeds, N: Name, R> AdmissionDesk<'a, E, Q, N, R> {
 impl<'a, E: Engine + Drop, Q: Feeds, N: Name, R: Wait> Desk for AdmissionDesk<'a, E, Q, N, R> {
     ghost use Rattle.std.specs.Prelude.{◌<◌, length};
     ghost use Rattle.node_run.specs.Admitted.{AreOpen, admitted_at};
+    ghost use Rattle.node_run.specs.Unsent.{AreKept};
+    ghost use Rattle.node_run.proofs.Keeping.{kept_all, kept_on};
 
     ghost holds = { λ os ts. AreOpen ts os N.queues };
 
@@ -102,6 +109,12 @@ impl<'a, E: Engine + Drop, Q: Feeds, N: Name, R: Wait> Desk for AdmissionDesk<'a
     ghost asked = { λ os at. admitted_at os at };
 
     ghost is_host = { λ host. host < N.hosts };
+
+    ghost keeps = { λ os later. AreKept os later };
+
+    ghost keeps_all = { λ os. kept_all os };
+
+    ghost keeps_on = { λ os later last h k. kept_on os later last h k };
 
     fn sessions(&self) -> usize {
         self.sessions.len()
@@ -179,6 +192,25 @@ where
             cell.give(rt, lease);
         }
         Take::Elsewhere(_) | Take::Sealed(_) | Take::Unopened | Take::Out => {}
+    }
+}
+
+/// Closes the reader of a session that was just opened on this host, so that nothing of it is copied for a reader.
+fn close_unread<E, F, N, R>(rt: &R, cell: &SessionCell<E, F, N>, host: u32, reader: Reader)
+where
+    E: Engine + Drop,
+    F: Feed,
+    N: Name,
+    R: Wait,
+    requires { reader.out_queue ≡ cell.now.0.out }
+{
+    match cell.take(rt, host) {
+        Take::Taken(lease) => {
+            let mut lease = lease;
+            let _ = lease.close_reader(rt, reader);
+            cell.give(rt, lease);
+        }
+        _ => {}
     }
 }
 

@@ -1,0 +1,43 @@
+-- What a link is sent: the frames of the errors of its node, and of the entries of each session's journal. Those of one error, or of one
+-- entry, go out together.
+use Rattle.std.specs.Prelude.{◌≡◌, ℕ, ◌+◌, List, [], ◌∷◌, ◌++◌}
+use Rattle.session_core.specs.declared.entry.Entry.{Entry}
+use Rattle.reply_frames.specs.declared.node.NodeError.{NodeError}
+use Rattle.reply_frames.specs.Nodes.{frame_of}
+use Rattle.reply_frames.specs.Replies.{entry_frames, entry_length}
+use Rattle.node_intake.specs.Intake.{Taken, Node}
+use Rattle.node_serve.specs.Interleaving.{Interleaves}
+
+-- the frame of each error, with running numbers from the first on
+pub error_units : ℕ → List NodeError → List (List ℕ)
+error_units first [] = []
+error_units first (e ∷ errors) = frame_of first e ∷ error_units (first + 1) errors
+
+-- the frames of each entry of a kernel's journal, with running numbers from the first on
+pub entry_units : ℕ → ℕ → List Entry → List (List ℕ)
+entry_units kernel first [] = []
+entry_units kernel first (e ∷ es) = entry_frames kernel e first ∷ entry_units kernel (first + entry_length e) es
+
+-- for each session, those of its journal, numbered from 1
+pub session_units : List Taken → List (List Entry) → List (List (List ℕ))
+session_units [] journals = []
+session_units (s ∷ sessions) [] = []
+session_units (s ∷ sessions) (es ∷ journals) = entry_units s.kernel 1 es ∷ session_units sessions journals
+
+-- those of the errors of a node, and of each session, which has this journal
+abbrev pub units_of : Node → List (List Entry) → List (List (List ℕ))
+units_of node journals = error_units 1 node.errors ∷ session_units node.sessions journals
+
+-- one after the other
+pub joined : List (List ℕ) → List ℕ
+joined [] = []
+joined (unit ∷ units) = unit ++ joined units
+
+-- All that there is to send of a node whose sessions have these journals: the errors in order, and each session's entries in their
+-- order, one in between the others in any way.
+abbrev pub IsAllOf : Node → List (List Entry) → List ℕ → Type 0
+IsAllOf node journals bytes = (units : List (List ℕ)) × Interleaves (units_of node journals) units × (bytes ≡ joined units)
+
+-- the first bytes of it
+abbrev pub IsFrontOf : Node → List (List Entry) → List ℕ → Type 0
+IsFrontOf node journals bytes = (rest : List ℕ) × IsAllOf node journals (bytes ++ rest)
