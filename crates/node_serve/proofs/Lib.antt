@@ -1,1 +1,3 @@
 pub mod Interleaving
+pub mod Fronts
+pub mod Pieces

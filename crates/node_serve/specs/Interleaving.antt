@@ -20,3 +20,10 @@ module _ {A : Type 0} where
   IsPutTo [] x longer = ⊥
   IsPutTo (l ∷ lists) x longer =
       (longer ≡ (l ++ x ∷ []) ∷ lists) ⊎ ((others : List (List A)) × IsPutTo lists x others × (longer ≡ l ∷ others))
+
+  -- each list is the front of the longer one
+  abbrev pub AreFronts : List (List A) → List (List A) → Type 0
+  AreFronts [] [] = Unit {0}
+  AreFronts [] (m ∷ longer) = ⊥
+  AreFronts (l ∷ lists) [] = ⊥
+  AreFronts (l ∷ lists) (m ∷ longer) = ((more : List A) × (m ≡ l ++ more)) × AreFronts lists longer

@@ -1,3 +1,3 @@
 pub mod Interleaving
 pub mod Units
-pub mod Links
+pub mod Sent
