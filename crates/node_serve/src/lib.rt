@@ -1,6 +1,7 @@
 //! Sessions served over a link.
 #![tactic(auto)]
 
+mod bell;
 mod sending;
 mod shared_feeds;
 
