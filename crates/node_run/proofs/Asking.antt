@@ -1,5 +1,5 @@
 -- What was asked of a session that has one producer, once all is answered.
-use Rattle.std.proofs.Common.{◌≡◌, ◌==◌, ◌≤◌, ◌<◌, ◌⊎◌, ℕ, zero, suc, Bool, true, false, cond, List, [], ◌∷◌, ◌++◌, filter, map, refl, sym, ap, ◌∙◌, subst, append_assoc, inl, inr, eq-eqb, arith}
+use Rattle.std.proofs.Common.{◌≡◌, ◌==◌, ◌≤◌, ◌⊎◌, ℕ, zero, suc, Bool, true, false, cond, List, [], ◌∷◌, ◌++◌, filter, map, refl, sym, ap, ◌∙◌, subst, append_assoc, inl, inr, eq-eqb, arith}
 use Rattle.ruled_queue.specs.Rule.{of, Keeps}
 use Rattle.session_core.specs.declared.request.Header.{Header}
 use Rattle.session_core.specs.declared.request.Channel.{Channel}
@@ -8,7 +8,7 @@ use Rattle.session_core.specs.declared.entry.Entry.{Entry}
 use Rattle.session_core.specs.declared.entry.Entry.TheVariants.{Opened, Ran, Died, Dead, Sealed, Moved, Adopted, Refused, Resumed}
 use Rattle.session_core.specs.Asks.{is_main}
 use Rattle.session_core.specs.Meanings.{Meaning}
-use Rattle.session_core.specs.Legal.{IsLegal, asked, main_asked, control_asked}
+use Rattle.session_core.specs.Legal.{IsLegal, asked, main_asked}
 use Rattle.session_queues.specs.declared.items.MainItem.{MainItem}
 use Rattle.session_queues.specs.declared.items.MainItem.TheVariants.{Opening, Asked}
 use Rattle.session_queues.specs.Items.{number_of, frontend_of}

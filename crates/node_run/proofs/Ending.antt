@@ -115,6 +115,10 @@ pub if_ok_three : {A E : Type 0} {P Q R S : A → Type 0} (r : Result A E) → I
 if_ok_three (Ok x) p q s f = f x p q s
 if_ok_three (Err e) p q s f = tt
 
+pub if_ok_all : {A E X : Type 0} (P : A → X → Type 0) (Q : X → Type 0) (r : Result A E) → ((x : X) → Q x → IfOk r (λ a. P a x)) → IfOk r (λ a. (x : X) → Q x → P a x)
+if_ok_all P Q (Ok a) h = h
+if_ok_all P Q (Err e) h = tt
+
 -- ---- what is written of it
 
 are_journals : (meaning : Meaning) (hosts : ℕ) (gives : Answers) (ss : List Taken) (runs : List ServedSession) → AreRuns meaning hosts gives ss runs → AreJournals meaning hosts gives ss (journals_of runs)

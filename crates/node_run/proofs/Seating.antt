@@ -1,8 +1,9 @@
 -- Sessions that are opened one after the other, and requests that are admitted to them.
-use Rattle.std.proofs.Common.{◌≡◌, ℕ, zero, suc, ◌+◌, ◌<◌, Bool, true, false, cond, List, [], ◌∷◌, ◌++◌, length, get_or, Some, refl, sym, ap, ◌∙◌, subst, eq-eqb, arith}
+use Rattle.std.proofs.Common.{◌≡◌, ℕ, zero, suc, ◌+◌, ◌<◌, ◌≤◌, Bool, true, false, cond, List, [], ◌∷◌, ◌++◌, length, get_or, Some, refl, sym, ap, ◌∙◌, subst, eq-eqb, arith}
 use Rattle.std.specs.Prelude.{slice_get, slice_set, drop}
 use mathlib.Core.List.{reverse}
-use Rattle.std.proofs.lemmas.List.{length-append, reverse-append}
+use Rattle.std.proofs.lemmas.List.{length-append, length-set, reverse-append}
+use Rattle.std.proofs.lemmas.Option.{slice_get_read}
 use Rattle.ruled_queue.specs.Rule.{knows, grown}
 use Rattle.session_core.specs.declared.request.Header.{Header}
 use Rattle.session_core.specs.declared.request.Channel.{Channel}
@@ -18,7 +19,7 @@ use Rattle.session_gate.proofs.Popping.{as_main_main, as_main_control, as_contro
 use Rattle.node_intake.specs.Intake.{Taken}
 use Rattle.node_intake.specs.Sessions.{new_session, with_more}
 use Rattle.node_run.specs.declared.open_session.OpenSession.{OpenSession}
-use Rattle.node_run.specs.Admitted.{pass_of, IsOpen, AreOpen, AreSeated, admitted_at, with_request}
+use Rattle.node_run.specs.Admitted.{pass_of, IsOpen, AreOpen, AreSeated, admitted_at, with_request, HasAdmitted}
 
 -- ---- lists
 
@@ -28,11 +29,23 @@ drop_first zero (y ∷ xs) x rest is = let same : y ∷ xs ≡ x ∷ rest = is i
 drop_first (suc n) [] x rest is = cc
 drop_first (suc n) (y ∷ xs) x rest is = drop_first n xs x rest is
 
-pub drop_rest : {X : Type 0} (n : ℕ) (xs : List X) (x : X) (rest : List X) → drop n xs ≡ x ∷ rest → drop (n + 1) xs ≡ rest
-drop_rest zero [] x rest is = cc
-drop_rest zero (y ∷ xs) x rest is = let same : y ∷ xs ≡ x ∷ rest = is in let also : xs ≡ rest = cc in also
-drop_rest (suc n) [] x rest is = cc
-drop_rest (suc n) (y ∷ xs) x rest is = drop_rest n xs x rest is
+drop_after : {X : Type 0} (n : ℕ) (xs : List X) (x : X) (rest : List X) → drop n xs ≡ x ∷ rest → drop (suc n) xs ≡ rest
+drop_after zero [] x rest is = cc
+drop_after zero (y ∷ xs) x rest is = let same : y ∷ xs ≡ x ∷ rest = is in let also : xs ≡ rest = cc in also
+drop_after (suc n) [] x rest is = cc
+drop_after (suc n) (y ∷ xs) x rest is = drop_after n xs x rest is
+
+pub drop_rest : {X : Type 0} (n m : ℕ) (xs : List X) (x : X) (rest : List X) → m ≡ n + 1 → drop n xs ≡ x ∷ rest → drop m xs ≡ rest
+drop_rest n m xs x rest more is = let same : m ≡ suc n = omega (arith, more) in ap (λ k. drop k xs) same ∙ drop_after n xs x rest is
+
+set_same : {X : Type 0} (xs : List X) (at : ℕ) (x : X) → slice_get xs at ≡ Some x → slice_set xs at x ≡ xs
+set_same [] at x there = refl
+set_same (y ∷ xs) zero x there = let is : Some y ≡ Some x = there in let same : x ≡ y = cc in ap (λ z. z ∷ xs) same
+set_same (y ∷ xs) (suc at) x there = ap (λ zs. y ∷ zs) (set_same xs at x there)
+
+-- what is read at an index is there
+pub read_there : {X : Type 0} (xs : List X) (at : ℕ) (x : X) → at < length xs → x ≡ get_or xs at x → slice_get xs at ≡ Some x
+read_there xs at x within is = slice_get_read xs (length xs) at x refl within is
 
 -- the last of a list is the first of its reverse
 pub last_first : {X : Type 0} (old new : List X) (x : X) → old ≡ new ++ x ∷ [] → reverse old ≡ x ∷ reverse new
@@ -68,6 +81,11 @@ seated_set (p ∷ os) (r ∷ qs) zero o q seated listed of number =
     let same : r ≡ q = cc in
     (subst (λ (z : SharedQueues). IsPassOf z o.pass) (sym same) of, number, seated.2)
 seated_set (p ∷ os) (r ∷ qs) (suc at) o q seated listed of number = (seated.0, seated.1, seated_set os qs at o q seated.2 listed of number)
+
+pub seated_few : (os : List OpenSession) (qs : List SharedQueues) → AreSeated os qs → length os ≤ length qs
+seated_few [] qs seated = omega arith
+seated_few (o ∷ os) [] seated = absurd seated
+seated_few (o ∷ os) (q ∷ qs) seated = let rest = seated_few os qs seated.2 in omega arith
 
 -- ---- sessions
 
@@ -163,3 +181,34 @@ still_by_kind q p r false of number = (of, number)
 
 pub still_seated : (q : SharedQueues) (p : Producer) (r : Request) → IsPassOf q p → p.number ≡ 0 → IsPassOf q (admitted_by p r) × ((admitted_by p r).number ≡ 0)
 still_seated q p r of number = still_by_kind q p r (is_control r) of number
+
+-- ---- what the calls of the desk leave
+
+-- what an admission leaves is as before, if it wasn't done
+pub none_admitted : (os new : List OpenSession) (at : ℕ) (o p : OpenSession) → new ≡ slice_set os at p → slice_get os at ≡ Some o → p ≡ o → new ≡ os
+none_admitted os new at o p is there same = is ∙ ap (slice_set os at) same ∙ set_same os at o there
+
+pub admitted_seated : (os new : List OpenSession) (qs : List SharedQueues) (at : ℕ) (q : SharedQueues) (r : Request) → AreSeated os qs → slice_get qs at ≡ Some q → HasAdmitted os at r new → AreSeated new qs
+admitted_seated os new qs at q r seated listed (o, there, is) =
+    let old = seated_at os qs at o q seated there listed in
+    let now = still_seated q o.pass r old.0 old.1 in
+    subst (λ l. AreSeated l qs) (sym is) (seated_set os qs at (with_request o r) q seated listed now.0 now.1)
+
+pub admitted_length : (os new : List OpenSession) (at : ℕ) (r : Request) → HasAdmitted os at r new → length new ≡ length os
+admitted_length os new at r (o, there, is) = ap length is ∙ length-set os at (with_request o r)
+
+pub admitted_open : (os new : List OpenSession) (qs : List SharedQueues) (at : ℕ) (r : Request) (ts : List Taken) (s : Taken) → r.frontend ≡ 0 → HasAdmitted os at r new → AreOpen ts os qs → slice_get ts at ≡ Some s
+    → AreOpen (slice_set ts at (with_more s r)) new qs
+admitted_open os new qs at r ts s zero_is (o, there, is) are here =
+    let (q, listed, open_is) = open_at ts os qs at s o are here there in
+    subst (λ l. AreOpen (slice_set ts at (with_more s r)) l qs) (sym is) (open_set ts os qs at (with_more s r) (with_request o r) q are listed (is_open_more q s o r open_is zero_is))
+
+-- the queues of the next session are the last of those that are left
+pub next_listed : (n : ℕ) (qs old new : List SharedQueues) (q : SharedQueues) → drop n qs ≡ reverse old → old ≡ new ++ q ∷ [] → slice_get qs n ≡ Some q
+next_listed n qs old new q is parts = drop_first n qs q (reverse new) (is ∙ last_first old new q parts)
+
+pub next_left : (n m : ℕ) (qs old new : List SharedQueues) (q : SharedQueues) → m ≡ n + 1 → drop n qs ≡ reverse old → old ≡ new ++ q ∷ [] → drop m qs ≡ reverse new
+next_left n m qs old new q more is parts = drop_rest n m qs q (reverse new) more (is ∙ last_first old new q parts)
+
+pub first_seated : (q : SharedQueues) (kernel host : ℕ) (request : Header) (channel : Channel) (p : Producer) → p ≡ first_pass q (Opening kernel host request channel) → IsPassOf q p × (p.number ≡ 0)
+first_seated q kernel host request channel p is = ((ap (λ x. x.main_queue) is, ap (λ x. x.control_queue) is), ap (λ x. x.number) is)

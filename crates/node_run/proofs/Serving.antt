@@ -1,5 +1,5 @@
 -- Sessions that are served to their end, one after the other.
-use Rattle.std.proofs.Common.{◌≡◌, ℕ, zero, suc, ◌+◌, ◌<◌, List, [], ◌∷◌, ◌++◌, length, Some, refl, sym, ap, ◌∙◌, subst, append_assoc, arith}
+use Rattle.std.proofs.Common.{◌≡◌, ℕ, zero, suc, ◌+◌, ◌<◌, List, [], ◌∷◌, ◌++◌, length, Option, Some, refl, sym, ap, ◌∙◌, subst, append_assoc, arith}
 use Rattle.std.specs.Prelude.{slice_get, drop}
 use mathlib.Core.List.{reverse}
 use Rattle.std.proofs.lemmas.List.{append-nil, reverse-reverse, length-reverse, length-append}
@@ -12,11 +12,14 @@ use Rattle.session_core.proofs.Feeding.{first_answers}
 use Rattle.session_queues.specs.declared.shared.SharedQueues.{SharedQueues}
 use Rattle.session_queues.specs.Passes.{IsPassOf}
 use Rattle.session_queues.specs.Ends.{FoundNothing}
-use Rattle.session_gate.specs.Answered.{as_main, as_control}
+use Rattle.session_gate.specs.Answered.{as_main}
 use Rattle.session_gate.specs.Facts.{Holds}
 use Rattle.session_gate.specs.Custodies.{IsFinished}
 use Rattle.host_workers.specs.Tables.{AreNumbered, IsTable}
+use Rattle.reply_frames.specs.declared.node.NodeError.{NodeError}
 use Rattle.node_intake.specs.Intake.{Taken}
+use Rattle.node_intake.specs.declared.session.IntakeEnd.{IntakeEnd}
+use Rattle.node_intake.specs.Taking.{HasTaken, EndsSo}
 use Rattle.node_run.specs.declared.open_session.OpenSession.{OpenSession}
 use Rattle.node_run.specs.Admitted.{IsOpen, AreOpen, AreSeated}
 use Rattle.node_run.specs.Journals.{Answers, IsJournalOf, ServedSession, IsRunOf, AreRuns}
@@ -28,9 +31,9 @@ use Rattle.node_run.proofs.Asking.{main_is, control_is, main_requests_are, begin
 module _ {E F : Type 0} (seen : F → SeenFeed) where
   pub is_journal : (meaning : Meaning) (hosts : ℕ) (gives : Answers) (q : SharedQueues) (number : ℕ) (s : Taken) (o : OpenSession) (h : Holds E F) → IsOpen q s o → IsFinished hosts q number o.pass gives seen h → FoundNothing h.ends
       → IsLegal meaning h.hosts h.entries → HasFed (seen h.feed).made h.entries (seen h.feed) → IsJournalOf meaning hosts (gives s.kernel) s h.entries
-  is_journal meaning hosts gives q number s o h open fin none legal fed =
-      let main = main_is h.kernel h.entries h.ends fin.1 none _ (fin.5 ∙ ap (λ p. p.main.lists) open.pass) (fin.6 ∙ ap (λ p. p.main.given) open.pass) in
-      let control = control_is h.kernel h.entries h.ends fin.1 none _ (fin.7 ∙ ap (λ p. p.control.lists) open.pass) (fin.8 ∙ ap (λ p. p.control.given) open.pass) in
+  is_journal meaning hosts gives q number s o h is fin none legal fed =
+      let main = main_is h.kernel h.entries h.ends fin.1 none _ (fin.5 ∙ ap (λ p. p.main.lists) is.pass) (fin.6 ∙ ap (λ p. p.main.given) is.pass) in
+      let control = control_is h.kernel h.entries h.ends fin.1 none _ (fin.7 ∙ ap (λ p. p.control.lists) is.pass) (fin.8 ∙ ap (λ p. p.control.given) is.pass) in
       let first = begins meaning h.hosts s.kernel h.kernel h.entries s.host s.request s.channel (as_main s.requests) _ legal main in
       record {
         legal = subst (λ n. IsLegal meaning n h.entries) fin.4 legal;
@@ -106,7 +109,7 @@ next_served meaning hosts gives queues all left rest cells cells_left runs new o
     let numbered : AreNumbered so_far.done (cell ∷ reverse cells_left) = subst (AreNumbered so_far.done) turned so_far.numbered in
     let same = same_queues queues rest o so_far.done cell next numbered.0 listed in
     let fewer = ap length parts ∙ length-append cells_left (cell ∷ []) in
-    let after : drop (so_far.done + 1) queues ≡ next.left = drop_rest so_far.done queues next.queue next.left next.parts in
+    let after : drop (so_far.done + 1) queues ≡ next.left = drop_rest so_far.done (so_far.done + 1) queues next.queue next.left refl next.parts in
     record {
       done = so_far.done + 1;
       numbered = numbered.1;
@@ -124,6 +127,10 @@ next_served meaning hosts gives queues all left rest cells cells_left runs new o
           );
     }
 
+pub none_left : {X : Type 0} (xs : List X) → length xs ≡ 0 → xs ≡ []
+none_left [] is = refl
+none_left (x ∷ xs) is = absurd (omega (arith, is))
+
 open_none : (later : List Taken) (queues : List SharedQueues) → AreOpen later [] queues → later ≡ []
 open_none [] queues are = refl
 open_none (s ∷ later) queues are = absurd are
@@ -134,3 +141,16 @@ all_served meaning hosts gives queues all rest cells runs so_far none ts are =
     let end = so_far.served ts are in
     let nothing = open_none end.1 (drop so_far.done queues) (subst (λ os. AreOpen end.1 os (drop so_far.done queues)) none end.4) in
     subst (λ ss. AreRuns meaning hosts gives ss runs) (sym (end.2 ∙ ap (λ l. end.0 ++ l) nothing ∙ append-nil end.0)) end.3
+
+-- ---- what the feeder hands on
+
+-- it is taken in there what was at the desk
+pub handed_on : (hosts : ℕ) (bytes : List ℕ) (queues : List SharedQueues) (desk sessions : List OpenSession) (before errors : List NodeError) (broken_before broken : Option ℕ) (end_before end : IntakeEnd) (left : Option (List ℕ))
+    → sessions ≡ desk → errors ≡ before → broken ≡ broken_before → end ≡ end_before
+    → (taken : HasTaken hosts bytes (λ node. AreOpen node.sessions desk queues × (before ≡ node.errors)) broken_before) × EndsSo end_before left taken.rest
+    → (taken : HasTaken hosts bytes (λ node. AreOpen node.sessions sessions queues × (errors ≡ node.errors)) broken) × EndsSo end left taken.rest
+handed_on hosts bytes queues desk sessions before errors broken_before broken end_before end left s e b d told =
+    subst (λ (x : List OpenSession). (taken : HasTaken hosts bytes (λ node. AreOpen node.sessions x queues × (errors ≡ node.errors)) broken) × EndsSo end left taken.rest) (sym s)
+    (subst (λ (x : List NodeError). (taken : HasTaken hosts bytes (λ node. AreOpen node.sessions desk queues × (x ≡ node.errors)) broken) × EndsSo end left taken.rest) (sym e)
+    (subst (λ (x : Option ℕ). (taken : HasTaken hosts bytes (λ node. AreOpen node.sessions desk queues × (before ≡ node.errors)) x) × EndsSo end left taken.rest) (sym b)
+    (subst (λ (x : IntakeEnd). (taken : HasTaken hosts bytes (λ node. AreOpen node.sessions desk queues × (before ≡ node.errors)) broken_before) × EndsSo x left taken.rest) (sym d) told)))

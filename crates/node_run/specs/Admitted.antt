@@ -1,5 +1,5 @@
 -- What the feeder has of the sessions that are open.
-use Rattle.std.specs.Prelude.{◌≡◌, ℕ, zero, suc, ◌+◌, List, [], ◌∷◌, false, length}
+use Rattle.std.specs.Prelude.{◌≡◌, ℕ, zero, suc, ◌+◌, List, [], ◌∷◌, false, length, Some, slice_get, slice_set}
 use Rattle.ruled_queue.specs.Rule.{knows}
 use Rattle.session_core.specs.declared.request.Request.{Request}
 use Rattle.session_queues.specs.declared.items.MainItem.TheVariants.{Opening}
@@ -51,3 +51,7 @@ abbrev pub admitted_at : List OpenSession → ℕ → ℕ
 admitted_at [] at = 0
 admitted_at (o ∷ os) zero = o.requests
 admitted_at (o ∷ os) (suc at) = admitted_at os at
+
+-- one request more was admitted to the session at this index
+abbrev pub HasAdmitted : List OpenSession → ℕ → Request → List OpenSession → Type 0
+HasAdmitted old at r new = (o : OpenSession) × (slice_get old at ≡ Some o) × (new ≡ slice_set old at (with_request o r))

@@ -1,21 +1,17 @@
 //! The desk of a run: sessions are opened in their cells, and requests are admitted to them, while workers run.
 
-ghost use Rattle.std.specs.Prelude.{◌≡◌, ◌+◌, ◌<◌, List, [], ◌∷◌, ◌++◌, length, slice_get, slice_set, Some, OnOk, OnErr, MatchResult};
-ghost use Rattle.nb_outside.specs.Feeds.{HasAll};
-ghost use Rattle.session_queues.specs.declared.items.MainItem.{MainItem};
-ghost use Rattle.session_queues.specs.Passes.{admitted_by};
-ghost use Rattle.session_queues.specs.Ends.{first_pass};
+ghost use Rattle.std.specs.Prelude.{◌≡◌, ◌<◌, [], cond, length, slice_get, Some, OnOk, OnErr};
+ghost use Rattle.session_queues.specs.Passes.{IsPassOf, admitted_by};
 ghost use Rattle.node_intake.specs.Intake.{most_requests};
-ghost use Rattle.node_run.specs.Admitted.{AreSeated, admitted_at, with_request};
-ghost use Rattle.node_run.specs.declared.open_session.OpenSession.{OpenSession};
+ghost use Rattle.node_run.specs.Admitted.{AreSeated, admitted_at, HasAdmitted};
 
-use crate::open_session::{OpenSession, Unsent};
+use crate::open_session::OpenSession;
 use host_workers::Hosts;
 use nb_outside::{Feed, Feeds};
 use node_intake::Desk;
 use session_core::{Channel, Engine, Header, Request};
 use session_gate::{Name, SessionCell, Take};
-use session_queues::{Queues, Reader};
+use session_queues::{Pass, Queues, Reader};
 use std::alloc::{AllocError, Global};
 use std::marker::Model;
 use std::sync::Wait;
@@ -27,8 +23,6 @@ pub struct AdmissionDesk<'a, E: Engine, Q: Feeds, N: Name, R> {
     node: &'a Hosts<E, Q::Feed, N>,
     feeds: &'a mut Q,
     hosts: u32,
-    /// Whether what sessions answer is read as it comes.
-    is_read: bool,
     /// The queues of the sessions that aren't open yet, those of the next one last.
     queues: Vec<Queues>,
     /// The sessions that are open, in order.
@@ -58,7 +52,6 @@ impl<'a, E: Engine + Drop, Q: Feeds, N: Name, R> AdmissionDesk<'a, E, Q, N, R> {
         feeds: &'a mut Q,
         hosts: u32,
         queues: Vec<Queues>,
-        is_read: bool,
     ) -> AdmissionDesk<'a, E, Q, N, R>
         requires queues { (N.queues ≡ queues.items) × (length queues.items ≡ 256) }
         requires hosts { N.hosts ≡ hosts }
@@ -72,7 +65,6 @@ impl<'a, E: Engine + Drop, Q: Feeds, N: Name, R> AdmissionDesk<'a, E, Q, N, R> {
             node,
             feeds,
             hosts,
-            is_read,
             queues,
             sessions: Vec::new(alloc),
         }
@@ -80,7 +72,7 @@ impl<'a, E: Engine + Drop, Q: Feeds, N: Name, R> AdmissionDesk<'a, E, Q, N, R> {
 
     /// The sessions that are open.
     pub fn into_sessions(self) -> Vec<OpenSession>
-        ensures sessions { result.items ≡ self }
+        ensures sessions { result.items ≡ self.entry }
         ensures seated { AreSeated result.items N.queues }
     {
         let AdmissionDesk {
@@ -88,7 +80,6 @@ impl<'a, E: Engine + Drop, Q: Feeds, N: Name, R> AdmissionDesk<'a, E, Q, N, R> {
             node: _,
             feeds: _,
             hosts: _,
-            is_read: _,
             queues: _,
             sessions,
         } = self;
@@ -99,8 +90,6 @@ impl<'a, E: Engine + Drop, Q: Feeds, N: Name, R> AdmissionDesk<'a, E, Q, N, R> {
 impl<'a, E: Engine + Drop, Q: Feeds, N: Name, R: Wait> Desk for AdmissionDesk<'a, E, Q, N, R> {
     ghost use Rattle.std.specs.Prelude.{◌<◌, length};
     ghost use Rattle.node_run.specs.Admitted.{AreOpen, admitted_at};
-    ghost use Rattle.node_run.specs.Unsent.{AreKept};
-    ghost use Rattle.node_run.proofs.Keeping.{kept_all, kept_on};
 
     ghost holds = { λ os ts. AreOpen ts os N.queues };
 
@@ -109,12 +98,6 @@ impl<'a, E: Engine + Drop, Q: Feeds, N: Name, R: Wait> Desk for AdmissionDesk<'a
     ghost asked = { λ os at. admitted_at os at };
 
     ghost is_host = { λ host. host < N.hosts };
-
-    ghost keeps = { λ os later. AreKept os later };
-
-    ghost keeps_all = { λ os. kept_all os };
-
-    ghost keeps_on = { λ os later last h k. kept_on os later last h k };
 
     fn sessions(&self) -> usize {
         self.sessions.len()
@@ -143,11 +126,12 @@ impl<'a, E: Engine + Drop, Q: Feeds, N: Name, R: Wait> Desk for AdmissionDesk<'a
             unreachable!()
         };
         let engine = E::opened(alloc, host);
-        match self.node.cell(number).open(
+        let cell = self.node.cell(number);
+        match cell.open(
             self.rt, alloc, queues, kernel, self.hosts, engine, feed, host, request, channel,
         ) {
             Ok((pass, reader)) => {
-                close_reader(self.rt, self.node.cell(number), host, reader);
+                close_reader(self.rt, cell, host, reader);
                 self.sessions.push_reserved(OpenSession {
                     kernel,
                     host,
@@ -164,14 +148,10 @@ impl<'a, E: Engine + Drop, Q: Feeds, N: Name, R: Wait> Desk for AdmissionDesk<'a
     }
 
     fn admit(&mut self, at: usize, request: Request) -> Result<(), AllocError> {
-        let host = admit_to(
-            self.rt,
-            self.node.cell(at as u32),
-            &mut self.sessions,
-            at,
-            request,
-        )?;
-        self.node.wake(self.rt, host, at as u32);
+        let node = self.node;
+        let number = at as u32;
+        let host = admit_to(self.rt, node.cell(number), &mut self.sessions, at, request)?;
+        node.wake(self.rt, host, number);
         Ok(())
     }
 }
@@ -195,23 +175,23 @@ where
     }
 }
 
-/// Closes the reader of a session that was just opened on this host, so that nothing of it is copied for a reader.
-fn close_unread<E, F, N, R>(rt: &R, cell: &SessionCell<E, F, N>, host: u32, reader: Reader)
+/// Admits a request on this pass. Whether it was; if not, memory ran out.
+fn admit_on<E, F, N, R>(
+    rt: &R,
+    cell: &SessionCell<E, F, N>,
+    pass: &mut Pass,
+    request: Request,
+) -> bool
 where
     E: Engine + Drop,
     F: Feed,
     N: Name,
     R: Wait,
-    requires { reader.out_queue ≡ cell.now.0.out }
+    requires pass { IsPassOf cell.now.0 pass.old }
+    requires number { request.frontend ≡ pass.old.number }
+    ensures { pass.new ≡ cond result (admitted_by pass.old request) pass.old }
 {
-    match cell.take(rt, host) {
-        Take::Taken(lease) => {
-            let mut lease = lease;
-            let _ = lease.close_reader(rt, reader);
-            cell.give(rt, lease);
-        }
-        _ => {}
-    }
+    cell.admit(rt, pass, request).is_ok()
 }
 
 /// Admits a request to the session at that index, which is in this cell, and gives the host on which it was opened. After an error
@@ -233,16 +213,13 @@ where
     requires seated { AreSeated sessions.old.items N.queues }
     requires frontend { request.frontend ≡ 0 }
     requires few { admitted_at sessions.old.items at < most_requests }
-    ensures ok { OnOk result ((o : OpenSession) → slice_get sessions.old.items at ≡ Some o
-        → sessions.new.items ≡ slice_set sessions.old.items at (with_request o request)) }
+    ensures ok { OnOk result (HasAdmitted sessions.old.items at request sessions.new.items) }
     ensures err { OnErr result (sessions.new.items ≡ sessions.old.items) }
 {
     let session = &mut sessions[at];
-    match cell.admit(rt, &mut session.pass, request) {
-        Ok(()) => {
-            session.requests += 1;
-            Ok(session.host)
-        }
-        Err(_) => Err(AllocError),
+    if !admit_on(rt, cell, &mut session.pass, request) {
+        return Err(AllocError);
     }
+    session.requests += 1;
+    Ok(session.host)
 }

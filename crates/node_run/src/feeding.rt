@@ -18,8 +18,8 @@ use session_gate::Name;
 use session_queues::Queues;
 use std::alloc::{AllocError, Global};
 use std::sync::Wait;
-use std::thread;
-use std::thread::Threads;
+use std::thread::{Threads, join_mut};
+use std::{mem, thread};
 
 /// What was taken in, with the sessions that are open.
 #[derive(Drop)]
@@ -37,9 +37,9 @@ fn handed_in<E: Engine + Drop, Q: Feeds, N: Name, R: Wait>(
     handed: Handed<AdmissionDesk<'_, E, Q, N, R>>,
     end: IntakeEnd,
 ) -> FedIn
-    ensures sessions { result.sessions.items ≡ handed.desk }
+    ensures sessions { result.sessions.items ≡ handed.entry.desk }
     ensures seated { AreSeated result.sessions.items N.queues }
-    ensures rest { (result.errors ≡ handed.errors) × (result.broken ≡ handed.broken) × (result.end ≡ end) }
+    ensures rest { (result.errors ≡ handed.entry.errors) × (result.broken ≡ handed.entry.broken) × (result.end ≡ end) }
 {
     let Handed {
         desk,
@@ -75,7 +75,7 @@ where
     requires gives { Q.gives feeds.old ≡ N.gives }
     ensures told { (bytes : List ℕ) × Takes (S.left source.old) (S.left source.new) bytes
         × IfOk result (λ fed. (taken : HasTaken hosts bytes (λ node. AreOpen node.sessions fed.sessions.items N.queues × (fed.errors ≡ node.errors)) fed.broken)
-            × EndsSo fed.end (S.left source.new) taken.rest) }
+        × EndsSo fed.end (S.left source.new) taken.rest) }
     ensures seated { IfOk result (λ fed. AreSeated fed.sessions.items N.queues) }
     ensures failed { IfOk result (λ fed. fed.end ≡ IntakeEnd.Failed → HasRisen (S.faults source.old) (S.faults source.new)) }
     ensures too_many { IfOk result (λ fed. fed.end ≡ IntakeEnd.TooMany → HasRisenBy 4294967295 (S.reads source.old) (S.reads source.new)) }
@@ -86,6 +86,31 @@ where
         Ok((handed, end)) => Ok(handed_in(handed, end)),
         Err(error) => Err(error),
     }
+}
+
+/// Runs so many workers of each host, as far as threads can be made, until the feeder has closed and no session waits for a worker.
+fn run_workers<E, F, G, N, R>(
+    rt: &R,
+    alloc: Global,
+    hosts: u32,
+    workers: u32,
+    gate: &G,
+    node: &Hosts<E, F, N>,
+)
+where
+    E: Engine + Drop + Send,
+    F: Feed + Send,
+    G: Gate + Sync,
+    N: Name + Send + Sync,
+    R: Threads + Wait + Sync,
+{
+    thread::scope(thread::scope_env(), rt, |scope| {
+        for host in 0..hosts {
+            for _ in 0..workers {
+                let _ = scope.spawn(move || worker(rt, alloc, node, host, gate));
+            }
+        }
+    });
 }
 
 /// Takes in the stream while each host has so many workers, as far as threads can be made. Once all is taken in, and the workers
@@ -114,35 +139,33 @@ where
     requires gives { Q.gives feeds.old ≡ N.gives }
     ensures told { (bytes : List ℕ) × Takes (S.left source.old) (S.left source.new) bytes
         × IfOk result (λ fed. (taken : HasTaken hosts bytes (λ node. AreOpen node.sessions fed.sessions.items N.queues × (fed.errors ≡ node.errors)) fed.broken)
-            × EndsSo fed.end (S.left source.new) taken.rest) }
+        × EndsSo fed.end (S.left source.new) taken.rest) }
     ensures seated { IfOk result (λ fed. AreSeated fed.sessions.items N.queues) }
     ensures failed { IfOk result (λ fed. fed.end ≡ IntakeEnd.Failed → HasRisen (S.faults source.old) (S.faults source.new)) }
     ensures too_many { IfOk result (λ fed. fed.end ≡ IntakeEnd.TooMany → HasRisenBy 4294967295 (S.reads source.old) (S.reads source.new)) }
     ensures faults_stay { S.faults source.old ≤ S.faults source.new }
 {
-    thread::scope(
-        thread::scope_env(),
+    let mut queues = queues;
+    let ((), fed) = join_mut(
         rt,
-        |scope| -> Result<FedIn, AllocError>
+        &mut || run_workers(rt, alloc, hosts, workers, gate, node),
+        &mut || -> Result<FedIn, AllocError>
             requires queues { (N.queues ≡ queues.items) × (length queues.items ≡ 256) }
             requires hosts { N.hosts ≡ hosts }
             requires gives { Q.gives feeds.now ≡ N.gives }
             ensures told { (bytes : List ℕ) × Takes (S.left source.entry.now) (S.left source.exit.now) bytes
                 × IfOk result (λ fed. (taken : HasTaken hosts bytes (λ node. AreOpen node.sessions fed.sessions.items N.queues × (fed.errors ≡ node.errors)) fed.broken)
-                    × EndsSo fed.end (S.left source.exit.now) taken.rest) }
+                × EndsSo fed.end (S.left source.exit.now) taken.rest) }
             ensures seated { IfOk result (λ fed. AreSeated fed.sessions.items N.queues) }
             ensures failed { IfOk result (λ fed. fed.end ≡ IntakeEnd.Failed → HasRisen (S.faults source.entry.now) (S.faults source.exit.now)) }
             ensures too_many { IfOk result (λ fed. fed.end ≡ IntakeEnd.TooMany → HasRisenBy 4294967295 (S.reads source.entry.now) (S.reads source.exit.now)) }
             ensures faults_stay { S.faults source.entry.now ≤ S.faults source.exit.now }
         {
-            for host in 0..hosts {
-                for _ in 0..workers {
-                    let _ = scope.spawn(move || worker(rt, alloc, node, host, gate));
-                }
-            }
-            let fed = feed(rt, alloc, hosts, source, feeds, node, queues);
+            let all = mem::replace(&mut queues, Vec::new(alloc));
+            let fed = feed(rt, alloc, hosts, source, feeds, node, all);
             node.close(rt);
             fed
         },
-    )
+    );
+    fed
 }

@@ -21,6 +21,3 @@ mod write;
 pub use end::RunEnd;
 pub use run::{NodeRun, run_sessions, run_stream, status_of};
 pub use streams::{SinkFault, write_all};
-
-#[cfg(test)]
-mod tests;

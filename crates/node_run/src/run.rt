@@ -94,9 +94,12 @@ where
         end,
     } = fed;
     let mut errors = errors;
-    if push_broken(end, broken, &mut errors).is_err() {
-        discard(cells);
-        return Err(AllocError);
+    match push_broken(end, broken, &mut errors) {
+        Ok(()) => {}
+        Err(error) => {
+            discard(cells);
+            return Err(error);
+        }
     }
     let runs = finish_all(rt, alloc, cells, sessions, gate)?;
     Ok(NodeRun {
@@ -111,7 +114,7 @@ fn make_queues(alloc: Global) -> Result<Vec<Queues>, AllocError>
     ensures { IfOk result (λ queues. length queues.items ≡ 256) }
 {
     let mut queues = Vec::new(alloc);
-    for _ in 0..256u32 {
+    for number in 0..256u32 {
         queues.push(Queues::new(alloc)?)?;
     }
     Ok(queues)

@@ -1,4 +1,3 @@
-use Rattle.std.proofs.Common.{◌≡◌, length}
 use Rattle.node_run.proofs.Serving.{ServedSoFar}
 use Rattle.node_run.proofs.finishing.finish_all.Given as goal
 

@@ -1,0 +1,65 @@
+use Rattle.std.proofs.Common.{◌≡◌, ap, ◌∙◌, sym, refl, subst, List, [], ◌∷◌, ◌++◌, length, arith}
+use Rattle.std.proofs.lemmas.List.{length-append}
+use Rattle.session_queues.specs.declared.shared.SharedQueues.{SharedQueues}
+use Rattle.session_queues.specs.Ends.{OnOut}
+use Rattle.session_gate.proofs.Keeping.{same_queues}
+use Rattle.node_intake.specs.Sessions.{new_session}
+use Rattle.node_run.specs.declared.open_session.OpenSession.{OpenSession}
+use Rattle.node_run.specs.Admitted.{AreOpen, AreSeated}
+use Rattle.node_run.proofs.Seating.{next_listed, next_left, seated_more, first_seated, open_more, open_new}
+use Rattle.node_run.proofs.desk.AdmissionDeskDesk.open.Goals as goal
+
+pub open-requires-2-clause-name : goal.open-requires-2-clause-name
+open-requires-2-clause-name g c =
+    let qs = g.N.Name.queues in
+    let n = length c.self.inside.sessions.items in
+    let q = c.in-Some.queues in
+    let listed = next_listed n qs c.self.inside.queues.items c.pop.new.self.items q c.self.invariant.3 c.in-Some.ensures.items in
+    let count = c.self.inside.sessions.ok.0 in
+    let told = c.len-number.ensures in
+    let same = c.reserve.ensures.len in
+    let number : n ≡ c.len-number.result = omega (arith, count, told, same) in
+    (same_queues qs n c.len-number.result q c.cell-cell.result.now.0 listed c.cell-cell.ensures.0 number, c.self.invariant.0)
+
+pub close_reader-requires : goal.close_reader-requires
+close_reader-requires g c =
+    let qs = g.N.Name.queues in
+    let n = length c.self.inside.sessions.items in
+    let q = c.in-Some.queues in
+    let listed = next_listed n qs c.self.inside.queues.items c.pop.new.self.items q c.self.invariant.3 c.in-Some.ensures.items in
+    let count = c.self.inside.sessions.ok.0 in
+    let told = c.len-number.ensures in
+    let same = c.reserve.ensures.len in
+    let number : n ≡ c.len-number.result = omega (arith, count, told, same) in
+    ap (λ (r : OnOut). r.out_queue) c.in-Ok.ensures.1 ∙ ap (λ (z : SharedQueues). z.out) (same_queues qs n c.len-number.result q c.cell-cell.result.now.0 listed c.cell-cell.ensures.0 number)
+
+pub invariant_of-self-in-Ok : goal.invariant_of-self-in-Ok
+invariant_of-self-in-Ok g c =
+    let qs = g.N.Name.queues in
+    let os = c.self.inside.sessions.items in
+    let old = c.self.inside.queues.items in
+    let new = c.pop.new.self.items in
+    let q = c.in-Some.queues in
+    let parts = c.in-Some.ensures.items in
+    let listed = next_listed (length os) qs old new q c.self.invariant.3 parts in
+    let o : OpenSession = record { kernel = c.args.kernel; host = c.args.host; requests = 0; pass = c.in-Ok.pass } in
+    let all : c.push_reserved.new.self.items ≡ os ++ o ∷ [] = c.push_reserved.ensures.items ∙ ap (λ l. l ++ o ∷ []) c.reserve.ensures.items in
+    let first = first_seated q c.args.kernel c.args.host c.args.request c.args.channel c.in-Ok.pass c.in-Ok.ensures.0 in (
+      c.self.invariant.0,
+      c.open.ensures.same ∙ c.self.invariant.1,
+      c.self.invariant.2,
+      next_left (length os) (length c.push_reserved.new.self.items) qs old new q (ap length all ∙ length-append os (o ∷ [])) c.self.invariant.3 parts,
+      subst (λ l. AreSeated l qs) (sym all) (seated_more os qs o q c.self.invariant.4 listed first.0 first.1),
+    )
+
+pub returns-in-Ok-clause-ok : goal.returns-in-Ok-clause-ok
+returns-in-Ok-clause-ok g c = λ ts are.
+    let qs = g.N.Name.queues in
+    let os = c.self.inside.sessions.items in
+    let q = c.in-Some.queues in
+    let listed = next_listed (length os) qs c.self.inside.queues.items c.pop.new.self.items q c.self.invariant.3 c.in-Some.ensures.items in
+    let o : OpenSession = record { kernel = c.args.kernel; host = c.args.host; requests = 0; pass = c.in-Ok.pass } in
+    let s = new_session c.args.kernel c.args.host c.args.request c.args.channel in
+    let all : c.push_reserved.new.self.items ≡ os ++ o ∷ [] = c.push_reserved.ensures.items ∙ ap (λ l. l ++ o ∷ []) c.reserve.ensures.items in
+    subst (λ l. AreOpen (ts ++ s ∷ []) l qs) (sym all)
+    (open_more ts os qs s o q (subst (λ (l : List OpenSession). AreOpen ts l qs) (sym c.self.view_is) are) listed (open_new q c.args.kernel c.args.host c.args.request c.args.channel o refl refl c.in-Ok.ensures.0))

@@ -1,5 +1,0 @@
-pub mod Admitting
-pub mod Turning
-pub mod Sharing
-pub mod Joining
-pub mod Owning
