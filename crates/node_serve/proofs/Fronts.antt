@@ -4,7 +4,7 @@ use Rattle.node_serve.specs.Interleaving.{Interleaves, IsPutTo, AreFronts}
 use Rattle.node_serve.proofs.Interleaving.{goes_on}
 
 module _ {A : Type 0} where
-  put_at : (before after : List (List A)) (l : List A) (x : A) → IsPutTo (before ++ l ∷ after) x (before ++ (l ++ x ∷ []) ∷ after)
+  pub put_at : (before after : List (List A)) (l : List A) (x : A) → IsPutTo (before ++ l ∷ after) x (before ++ (l ++ x ∷ []) ∷ after)
   put_at [] after l x = inl refl
   put_at (b ∷ before) after l x = inr (before ++ (l ++ x ∷ []) ∷ after, put_at before after l x, refl)
 

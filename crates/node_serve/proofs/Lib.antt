@@ -1,3 +1,9 @@
 pub mod Interleaving
 pub mod Fronts
 pub mod Pieces
+pub mod Sendings
+pub mod Telling
+pub mod Ending
+pub mod Serving
+pub mod Closing
+pub mod Passing

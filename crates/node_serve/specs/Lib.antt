@@ -1,3 +1,6 @@
 pub mod Interleaving
 pub mod Units
 pub mod Sent
+pub mod Service
+pub mod Hearing
+pub mod Links

@@ -1,11 +1,14 @@
 -- What a link is sent: the frames of the errors of its node, and of the entries of each session's journal. Those of one error, or of one
 -- entry, go out together.
-use Rattle.std.specs.Prelude.{◌≡◌, ℕ, ◌+◌, List, [], ◌∷◌, ◌++◌}
+use Rattle.std.specs.Prelude.{◌≡◌, ℕ, ◌+◌, List, [], ◌∷◌, ◌++◌, map, take}
 use Rattle.session_core.specs.declared.entry.Entry.{Entry}
 use Rattle.reply_frames.specs.declared.node.NodeError.{NodeError}
 use Rattle.reply_frames.specs.Nodes.{frame_of}
 use Rattle.reply_frames.specs.Replies.{entry_frames, entry_length}
 use Rattle.node_intake.specs.Intake.{Taken, Node}
+use Rattle.node_run.specs.declared.open_session.OpenSession.{OpenSession}
+use Rattle.node_run.specs.Journals.{ServedSession, journal_of}
+use Rattle.node_run.specs.Unsent.{read_of}
 use Rattle.node_serve.specs.Interleaving.{Interleaves}
 
 -- the frame of each error, with running numbers from the first on
@@ -33,11 +36,33 @@ pub joined : List (List ℕ) → List ℕ
 joined [] = []
 joined (unit ∷ units) = unit ++ joined units
 
+-- all of these lists: each list's units in their order, one in between the others in any way
+abbrev pub AllOf : List (List (List ℕ)) → List ℕ → Type 0
+AllOf lists bytes = (units : List (List ℕ)) × Interleaves lists units × (bytes ≡ joined units)
+
+-- the first bytes of that
+abbrev pub FrontOf : List (List (List ℕ)) → List ℕ → Type 0
+FrontOf lists bytes = (rest : List ℕ) × AllOf lists (bytes ++ rest)
+
 -- All that there is to send of a node whose sessions have these journals: the errors in order, and each session's entries in their
 -- order, one in between the others in any way.
 abbrev pub IsAllOf : Node → List (List Entry) → List ℕ → Type 0
-IsAllOf node journals bytes = (units : List (List ℕ)) × Interleaves (units_of node journals) units × (bytes ≡ joined units)
+IsAllOf node journals bytes = AllOf (units_of node journals) bytes
 
 -- the first bytes of it
 abbrev pub IsFrontOf : Node → List (List Entry) → List ℕ → Type 0
-IsFrontOf node journals bytes = (rest : List ℕ) × IsAllOf node journals (bytes ++ rest)
+IsFrontOf node journals bytes = FrontOf (units_of node journals) bytes
+
+-- ---- while the link is served
+
+-- those of what was read of a session
+abbrev pub read_units : OpenSession → List (List ℕ)
+read_units o = entry_units o.kernel 1 (read_of o)
+
+-- those of the first errors, and of what was read of each session
+abbrev pub units_so_far : ℕ → List NodeError → List OpenSession → List (List (List ℕ))
+units_so_far told errors os = error_units 1 (take told errors) ∷ map read_units os
+
+-- those of a session that was served
+abbrev pub run_units : ServedSession → List (List ℕ)
+run_units run = entry_units run.0 1 (journal_of run)
