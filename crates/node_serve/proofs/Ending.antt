@@ -27,15 +27,18 @@ use Rattle.node_serve.proofs.Sendings.{front_of_all}
 
 same_rest : (a b c : List ℕ) → a ++ b ≡ a ++ c → b ≡ c
 same_rest [] b c is = is
-same_rest (x ∷ a) b c is = let rest : a ++ b ≡ a ++ c = cc in same_rest a b c rest
+same_rest (x ∷ a) b c is =
+    let all : x ∷ (a ++ b) ≡ x ∷ (a ++ c) = is in
+    let rest : a ++ b ≡ a ++ c = cc in
+    same_rest a b c rest
 
 some_line : (a b : Line) → Some a ≡ Some b → a ≡ b
 some_line a b is = cc
 
 left_same : (start mid now : Option Line) (taken one two : List ℕ) → WentOn start mid taken one → WentOn start now taken two → left_of now ≡ left_of mid
 left_same None mid now taken one two first then = ap left_of (then ∙ sym first)
-left_same (Some line) mid now taken one two (r, parts, is) (s, also, as) =
-    ap left_of as ∙ ap Some (same_rest taken s r (sym also ∙ parts)) ∙ sym (ap left_of is)
+left_same (Some line) mid now taken one two (r, parts, is) (s, also, same) =
+    ap left_of same ∙ ap Some (same_rest taken s r (sym also ∙ parts)) ∙ sym (ap left_of is)
 
 same_units : (meaning : Meaning) (hosts : ℕ) (gives : Answers) (ts : List Taken) (runs : List ServedSession) → AreRuns meaning hosts gives ts runs → map run_units runs ≡ session_units ts (journals_of runs)
 same_units meaning hosts gives [] [] are = refl

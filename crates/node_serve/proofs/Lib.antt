@@ -2,8 +2,8 @@ pub mod Interleaving
 pub mod Fronts
 pub mod Pieces
 pub mod Sendings
-pub mod Telling
+pub mod Tellings
 pub mod Ending
 pub mod Serving
-pub mod Closing
+pub mod Closings
 pub mod Passing

@@ -12,13 +12,13 @@ use Rattle.node_serve.specs.Units.{error_units, entry_units}
 use Rattle.node_serve.specs.Sent.{Wire, Tells, IsSending}
 use Rattle.node_serve.proofs.Fronts.{put_at}
 use Rattle.node_serve.proofs.Sendings.{tells_more}
-use Rattle.node_serve.proofs.Telling.{error_next, error_put, entry_next, number_next}
+use Rattle.node_serve.proofs.Tellings.{error_next, error_put, entry_next, number_next}
 
 pub take_all : {X : Type 0} (n : ℕ) (xs : List X) → length xs ≤ n → take n xs ≡ xs
 take_all zero [] few = refl
 take_all zero (x ∷ xs) few = absurd (omega arith)
 take_all (suc n) [] few = refl
-take_all (suc n) (x ∷ xs) few = ap (λ z. x ∷ z) (take_all n xs (omega arith))
+take_all (suc n) (x ∷ xs) few = let less : length xs ≤ n = omega arith in ap (λ z. x ∷ z) (take_all n xs less)
 
 abbrev pub ErrorsTold : Wire → Wire → List NodeError → ℕ → ℕ → Type 0
 ErrorsTold first now errors told at = (start : Wire) (taken : List ℕ) (lists : List (List (List ℕ))) → IsSending start first taken (error_units 1 (take told errors) ∷ lists) → IsSending start now taken (error_units 1 (take at errors) ∷ lists)

@@ -167,15 +167,15 @@ cut_on start old new taken lists line stays was is risen s = record {
 -- ---- other lists
 
 all_as : (lists later : List (List (List ℕ))) (sent : List ℕ) → ((units : List (List ℕ)) → Interleaves lists units → Interleaves later units) → AllOf lists sent → AllOf later sent
-all_as lists later sent as all = (all.0, as all.0 all.1, all.2)
+all_as lists later sent turn all = (all.0, turn all.0 all.1, all.2)
 
 sends_as : (cut : Bool) (lists later : List (List (List ℕ))) (sent : List ℕ) → ((units : List (List ℕ)) → Interleaves lists units → Interleaves later units) → Sends cut lists sent → Sends cut later sent
-sends_as true lists later sent as front = (front.0, all_as lists later (sent ++ front.0) as front.1)
-sends_as false lists later sent as all = all_as lists later sent as all
+sends_as true lists later sent turn front = (front.0, all_as lists later (sent ++ front.0) turn front.1)
+sends_as false lists later sent turn all = all_as lists later sent turn all
 
 pub lists_as : (start now : Wire) (taken : List ℕ) (lists later : List (List (List ℕ))) → ((units : List (List ℕ)) → Interleaves lists units → Interleaves later units) → IsSending start now taken lists → IsSending start now taken later
-lists_as start now taken lists later as s =
-    record { sent = s.sent; went = s.went; sends = sends_as now.cut lists later s.sent as s.sends; stays = s.stays; risen = s.risen; kept = s.kept }
+lists_as start now taken lists later turn s =
+    record { sent = s.sent; went = s.went; sends = sends_as now.cut lists later s.sent turn s.sends; stays = s.stays; risen = s.risen; kept = s.kept }
 
 -- at the start nothing is sent
 pub starts : (w : Wire) (lists : List (List (List ℕ))) → w.cut ≡ false → Interleaves lists [] → IsSending w w [] lists

@@ -23,13 +23,13 @@ use Rattle.node_serve.specs.Hearing.{Heeds}
 use Rattle.node_serve.specs.declared.service.Heard.{Heard}
 use Rattle.node_serve.proofs.Interleaving.{lists_more}
 use Rattle.node_serve.proofs.Sendings.{tells_more, taken_on, lists_as, starts}
-use Rattle.node_serve.proofs.Telling.{take_front, kept_on}
+use Rattle.node_serve.proofs.Tellings.{take_front, kept_on}
 
 abbrev Holds : List SharedQueues → List OpenSession → List Taken → Type 0
 Holds queues os ts = AreOpen ts os queues
 
 took_as : (hosts : ℕ) (bytes : List ℕ) (held : Held) (P Q : Node → Type 0) → ((node : Node) → P node → Q node) → TookSoFar hosts bytes held P → TookSoFar hosts bytes held Q
-took_as hosts bytes held P Q as t = record { bodies = t.bodies; are_bodies = t.are_bodies; is_stream = t.is_stream; place = t.place; is_node = as _ t.is_node }
+took_as hosts bytes held P Q turn t = record { bodies = t.bodies; are_bodies = t.are_bodies; is_stream = t.is_stream; place = t.place; is_node = turn _ t.is_node }
 
 stands_still : (queues : List SharedQueues) (old new : Intake (List OpenSession)) → AreAlike old.desk new.desk → new.errors.items ≡ old.errors.items → (node : Node) → StandsFor (Holds queues) old node → StandsFor (Holds queues) new node
 stands_still queues old new alike same node s =

@@ -40,13 +40,19 @@ impl Bell {
 
 /// A gate that rings once a session was put back.
 #[derive(Drop)]
-pub(crate) struct RingingGate<'a, G, R> {
-    pub(crate) rt: &'a R,
-    pub(crate) gate: &'a G,
-    pub(crate) bell: &'a Bell,
+pub(crate) struct RingingGate<'r, 'g, 'b, G, R> {
+    rt: &'r R,
+    gate: &'g G,
+    bell: &'b Bell,
 }
 
-impl<'a, G: Gate, R: Wait> Gate for RingingGate<'a, G, R> {
+impl<'r, 'g, 'b, G, R> RingingGate<'r, 'g, 'b, G, R> {
+    pub(crate) fn new(rt: &'r R, gate: &'g G, bell: &'b Bell) -> RingingGate<'r, 'g, 'b, G, R> {
+        RingingGate { rt, gate, bell }
+    }
+}
+
+impl<'r, 'g, 'b, G: Gate, R: Wait> Gate for RingingGate<'r, 'g, 'b, G, R> {
     fn cross(&self, host: u32, session: u32) {
         self.gate.cross(host, session);
     }

@@ -1,6 +1,6 @@
 //! Once nothing more is taken in, what the workers left is done, session by session, and told.
 
-ghost use Rattle.std.specs.Prelude.{◌≡◌, List, ◌∷◌, ◌++◌, ℕ, length, map, IfOk, OnOk, OnErr};
+ghost use Rattle.std.specs.Prelude.{◌≡◌, List, ◌∷◌, ◌++◌, ℕ, length, map, IfOk, OnOk};
 ghost use Rattle.session_core.specs.declared.entry.Entry.{Entry};
 ghost use Rattle.session_queues.specs.Passes.{IsPassOf};
 ghost use Rattle.host_workers.specs.Tables.{IsTable};
@@ -117,7 +117,7 @@ where
     ensures ok { IfOk result (λ run. (start : Wire) (taken : List ℕ) (before after : List (List (List ℕ)))
         → IsSending start (wire (L.line link.old) (L.faults link.old) is_cut.old) taken (before ++ read_units session ∷ after)
         → IsSending start (wire (L.line link.new) (L.faults link.new) is_cut.new) taken (before ++ run_units run ∷ after)) }
-    ensures err { OnErr result (GoesOn (wire (L.line link.old) (L.faults link.old) is_cut.old) (wire (L.line link.new) (L.faults link.new) is_cut.new)) }
+    ensures goes { GoesOn (wire (L.line link.old) (L.faults link.old) is_cut.old) (wire (L.line link.new) (L.faults link.new) is_cut.new) }
 {
     match close_one(rt, alloc, cell, session, gate) {
         Ok(closed) => {
@@ -161,7 +161,7 @@ where
     ensures ok { IfOk result (λ runs. (start : Wire) (taken : List ℕ) (errors : List (List ℕ))
         → IsSending start (wire (L.line link.old) (L.faults link.old) is_cut.old) taken (errors ∷ map read_units sessions.items)
         → IsSending start (wire (L.line link.new) (L.faults link.new) is_cut.new) taken (errors ∷ map run_units runs.items)) }
-    ensures err { OnErr result (GoesOn (wire (L.line link.old) (L.faults link.old) is_cut.old) (wire (L.line link.new) (L.faults link.new) is_cut.new)) }
+    ensures goes { GoesOn (wire (L.line link.old) (L.faults link.old) is_cut.old) (wire (L.line link.new) (L.faults link.new) is_cut.new) }
 {
     let mut cells = cells;
     let mut runs = Vec::new(alloc);

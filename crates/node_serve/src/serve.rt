@@ -1,6 +1,6 @@
 //! A link is served by the workers of its sessions.
 
-ghost use Rattle.std.specs.Prelude.{◌≡◌, ◌≤◌, ℕ, false, List, length, Some, IfOk, OnErr};
+ghost use Rattle.std.specs.Prelude.{◌≡◌, ◌≤◌, ℕ, false, List, length, Some, IfOk};
 ghost use Rattle.nb_outside.specs.Counts.{HasRisen};
 ghost use Rattle.host_workers.specs.Tables.{IsTable};
 ghost use Rattle.node_intake.specs.Taking.{EndsSo};
@@ -51,7 +51,7 @@ fn fed_by<E: Engine + Drop, Q: Feeds, N: Name, R: Wait>(
     service: Service<'_, E, Q, N, R>,
     end: IntakeEnd,
 ) -> Fed
-    ensures fed { (start now : Wire) → InService N.hosts N.queues start now service.framer service.node service.told → EndsSo end (left_of now.line) service.framer.bytes → IsEnd (Some end) now.cut
+    ensures fed { (start now : Wire) → InService N.hosts N.queues start now service.entry.framer service.entry.node service.entry.told → EndsSo end (left_of now.line) service.entry.framer.bytes → IsEnd (Some end) now.cut
         → IsFed N.hosts N.queues start now result.sessions.items result.errors result.broken result.end result.told }
 {
     let Service {
@@ -97,7 +97,7 @@ where
     requires gives { Q.gives feeds.old ≡ N.gives }
     requires whole { is_cut.old ≡ false }
     ensures ok { IfOk result (λ fed. IsFed hosts N.queues (wire (L.line link.old) (L.faults link.old) is_cut.old) (wire (L.line link.new) (L.faults link.new) is_cut.new) fed.sessions.items fed.errors fed.broken fed.end fed.told) }
-    ensures err { OnErr result (GoesOn (wire (L.line link.old) (L.faults link.old) is_cut.old) (wire (L.line link.new) (L.faults link.new) is_cut.new)) }
+    ensures goes { GoesOn (wire (L.line link.old) (L.faults link.old) is_cut.old) (wire (L.line link.new) (L.faults link.new) is_cut.new) }
 {
     let desk = AdmissionDesk::new(rt, alloc, node, feeds, hosts, queues, true);
     let mut service = Service {
@@ -110,6 +110,27 @@ where
         Ok(end) => Ok(fed_by(service, end)),
         Err(error) => Err(error),
     }
+}
+
+/// Runs so many workers of each host, as far as threads can be made. They ring the bell.
+fn run_ringing<E, F, G, N, R>(
+    rt: &R,
+    alloc: Global,
+    hosts: u32,
+    workers: u32,
+    gate: &G,
+    bell: &Bell,
+    node: &Hosts<E, F, N>,
+)
+where
+    E: Engine + Drop + Send,
+    F: Feed + Send,
+    G: Gate + Sync,
+    N: Name + Send + Sync,
+    R: Threads + Wait + Sync,
+{
+    let ringing = RingingGate::new(rt, gate, bell);
+    run_workers(rt, alloc, hosts, workers, &ringing, node);
 }
 
 /// Takes in what the link gives while each host has so many workers, as far as threads can be made. Once nothing more is taken in, and
@@ -139,27 +160,21 @@ where
     requires gives { Q.gives feeds.old ≡ N.gives }
     requires whole { is_cut.old ≡ false }
     ensures ok { IfOk result (λ fed. IsFed hosts N.queues (wire (L.line link.old) (L.faults link.old) is_cut.old) (wire (L.line link.new) (L.faults link.new) is_cut.new) fed.sessions.items fed.errors fed.broken fed.end fed.told) }
-    ensures err { OnErr result (GoesOn (wire (L.line link.old) (L.faults link.old) is_cut.old) (wire (L.line link.new) (L.faults link.new) is_cut.new)) }
+    ensures goes { GoesOn (wire (L.line link.old) (L.faults link.old) is_cut.old) (wire (L.line link.new) (L.faults link.new) is_cut.new) }
 {
     let bell = Bell::new();
-    let ringing = RingingGate {
-        rt,
-        gate,
-        bell: &bell,
-    };
-    let ringing = &ringing;
     let bell = &bell;
     let mut queues = queues;
     let ((), fed) = join_mut(
         rt,
-        &mut || run_workers(rt, alloc, hosts, workers, ringing, node),
+        &mut || run_ringing(rt, alloc, hosts, workers, gate, bell, node),
         &mut || -> Result<Fed, AllocError>
             requires queues { (N.queues ≡ queues.items) × (length queues.items ≡ 256) }
             requires hosts { N.hosts ≡ hosts }
             requires gives { Q.gives feeds.now ≡ N.gives }
             requires whole { is_cut.now ≡ false }
             ensures ok { IfOk result (λ fed. IsFed hosts N.queues (wire (L.line link.entry.now) (L.faults link.entry.now) is_cut.entry.now) (wire (L.line link.exit.now) (L.faults link.exit.now) is_cut.exit.now) fed.sessions.items fed.errors fed.broken fed.end fed.told) }
-            ensures err { OnErr result (GoesOn (wire (L.line link.entry.now) (L.faults link.entry.now) is_cut.entry.now) (wire (L.line link.exit.now) (L.faults link.exit.now) is_cut.exit.now)) }
+            ensures goes { GoesOn (wire (L.line link.entry.now) (L.faults link.entry.now) is_cut.entry.now) (wire (L.line link.exit.now) (L.faults link.exit.now) is_cut.exit.now) }
         {
             let all = mem::replace(&mut queues, Vec::new(alloc));
             let fed = converse(rt, alloc, hosts, link, is_cut, feeds, bell, node, all);
@@ -205,7 +220,7 @@ where
     requires fed { (start : Wire) × IsFed N.hosts N.queues start (wire (L.line link.old) (L.faults link.old) is_cut.old) fed.sessions.items fed.errors fed.broken fed.end fed.told }
     ensures ok { (start : Wire) → IsFed N.hosts N.queues start (wire (L.line link.old) (L.faults link.old) is_cut.old) fed.sessions.items fed.errors fed.broken fed.end fed.told
         → IfOk result (λ report. IsReported E.meaning N.hosts N.gives start (wire (L.line link.new) (L.faults link.new) is_cut.new) report.end report.errors report.runs.items) }
-    ensures err { OnErr result (GoesOn (wire (L.line link.old) (L.faults link.old) is_cut.old) (wire (L.line link.new) (L.faults link.new) is_cut.new)) }
+    ensures goes { GoesOn (wire (L.line link.old) (L.faults link.old) is_cut.old) (wire (L.line link.new) (L.faults link.new) is_cut.new) }
 {
     let Fed {
         sessions,

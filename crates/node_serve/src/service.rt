@@ -1,6 +1,6 @@
 //! A link is heard and told while the workers of its sessions run.
 
-ghost use Rattle.std.specs.Prelude.{◌≡◌, ◌<◌, ◌≤◌, false, Some, length, IfOk, OnOk, OnErr};
+ghost use Rattle.std.specs.Prelude.{◌≡◌, ◌<◌, ◌≤◌, false, Some, length, IfOk, OnOk};
 ghost use Rattle.jupyter_frames.specs.Framing.{IsBegun};
 ghost use Rattle.node_intake.specs.Taking.{EndsSo, EndsOrGoesOn};
 ghost use Rattle.node_serve.specs.Sent.{Wire, wire, left_of, GoesOn};
@@ -60,7 +60,7 @@ impl<'a, E: Engine + Drop, Q: Feeds, N: Name, R: Wait> Service<'a, E, Q, N, R> {
         ensures ok { OnOk result ((start : Wire) → InService N.hosts N.queues start (wire (L.line link.old) (L.faults link.old) is_cut.old) self.old.framer self.old.node self.old.told
             → InService N.hosts N.queues start (wire (L.line link.new) (L.faults link.new) is_cut.new) self.new.framer self.new.node self.new.told) }
         ensures held { OnOk result (self.new.framer ≡ self.old.framer) }
-        ensures err { OnErr result (GoesOn (wire (L.line link.old) (L.faults link.old) is_cut.old) (wire (L.line link.new) (L.faults link.new) is_cut.new)) }
+        ensures goes { GoesOn (wire (L.line link.old) (L.faults link.old) is_cut.old) (wire (L.line link.new) (L.faults link.new) is_cut.new) }
     {
         match next_frames(alloc, &mut self.node.desk, at) {
             Ok(Some(frames)) => match tell(link, is_cut, frames.as_slice()) {
@@ -87,7 +87,7 @@ impl<'a, E: Engine + Drop, Q: Feeds, N: Name, R: Wait> Service<'a, E, Q, N, R> {
         ensures ok { OnOk result ((start : Wire) → InService N.hosts N.queues start (wire (L.line link.old) (L.faults link.old) is_cut.old) self.old.framer self.old.node self.old.told
             → InService N.hosts N.queues start (wire (L.line link.new) (L.faults link.new) is_cut.new) self.new.framer self.new.node self.new.told) }
         ensures held { OnOk result (self.new.framer ≡ self.old.framer) }
-        ensures err { OnErr result (GoesOn (wire (L.line link.old) (L.faults link.old) is_cut.old) (wire (L.line link.new) (L.faults link.new) is_cut.new)) }
+        ensures goes { GoesOn (wire (L.line link.old) (L.faults link.old) is_cut.old) (wire (L.line link.new) (L.faults link.new) is_cut.new) }
     {
         let errors = self.node.errors.as_slice();
         if errors.len() <= self.told {
@@ -112,7 +112,7 @@ impl<'a, E: Engine + Drop, Q: Feeds, N: Name, R: Wait> Service<'a, E, Q, N, R> {
         ensures ok { OnOk result ((start : Wire) → InService N.hosts N.queues start (wire (L.line link.old) (L.faults link.old) is_cut.old) self.old.framer self.old.node self.old.told
             → InService N.hosts N.queues start (wire (L.line link.new) (L.faults link.new) is_cut.new) self.new.framer self.new.node self.new.told) }
         ensures held { OnOk result (self.new.framer ≡ self.old.framer) }
-        ensures err { OnErr result (GoesOn (wire (L.line link.old) (L.faults link.old) is_cut.old) (wire (L.line link.new) (L.faults link.new) is_cut.new)) }
+        ensures goes { GoesOn (wire (L.line link.old) (L.faults link.old) is_cut.old) (wire (L.line link.new) (L.faults link.new) is_cut.new) }
     {
         match self.tell_one_error(alloc, link, is_cut) {
             Ok(has_told) => self.tell_sessions(alloc, link, is_cut, has_told),
@@ -131,7 +131,7 @@ impl<'a, E: Engine + Drop, Q: Feeds, N: Name, R: Wait> Service<'a, E, Q, N, R> {
         ensures ok { OnOk result ((start : Wire) → InService N.hosts N.queues start (wire (L.line link.old) (L.faults link.old) is_cut.old) self.old.framer self.old.node self.old.told
             → InService N.hosts N.queues start (wire (L.line link.new) (L.faults link.new) is_cut.new) self.new.framer self.new.node self.new.told) }
         ensures held { OnOk result (self.new.framer ≡ self.old.framer) }
-        ensures err { OnErr result (GoesOn (wire (L.line link.old) (L.faults link.old) is_cut.old) (wire (L.line link.new) (L.faults link.new) is_cut.new)) }
+        ensures goes { GoesOn (wire (L.line link.old) (L.faults link.old) is_cut.old) (wire (L.line link.new) (L.faults link.new) is_cut.new) }
     {
         let mut has_told = has_told;
         for at in 0..256usize {
@@ -196,7 +196,7 @@ impl<'a, E: Engine + Drop, Q: Feeds, N: Name, R: Wait> Service<'a, E, Q, N, R> {
             → InService N.hosts N.queues start (wire (L.line link.new) (L.faults link.new) is_cut.new) self.new.framer self.new.node self.new.told) }
         ensures ends { IfOk result (λ heard. EndsOrGoesOn (end_in heard) (left_of (L.line link.new)) self.new.framer.bytes × IsEnd (end_in heard) is_cut.new) }
         ensures room { length room.new ≡ length room.old }
-        ensures err { OnErr result (GoesOn (wire (L.line link.old) (L.faults link.old) is_cut.old) (wire (L.line link.new) (L.faults link.new) is_cut.new)) }
+        ensures goes { GoesOn (wire (L.line link.old) (L.faults link.old) is_cut.old) (wire (L.line link.new) (L.faults link.new) is_cut.new) }
     {
         match link.poll(room, patience) {
             Polled::Bytes(count) => self.take_piece(alloc, hosts, &room[..count]),
@@ -230,7 +230,7 @@ impl<'a, E: Engine + Drop, Q: Feeds, N: Name, R: Wait> Service<'a, E, Q, N, R> {
             → InService N.hosts N.queues start (wire (L.line link.new) (L.faults link.new) is_cut.new) self.new.framer self.new.node self.new.told) }
         ensures ends { IfOk result (λ end. EndsOrGoesOn end (left_of (L.line link.new)) self.new.framer.bytes × IsEnd end is_cut.new) }
         ensures room { length room.new ≡ length room.old }
-        ensures err { OnErr result (GoesOn (wire (L.line link.old) (L.faults link.old) is_cut.old) (wire (L.line link.new) (L.faults link.new) is_cut.new)) }
+        ensures goes { GoesOn (wire (L.line link.old) (L.faults link.old) is_cut.old) (wire (L.line link.new) (L.faults link.new) is_cut.new) }
     {
         let rings = bell.rings(rt);
         match self.tell_ready(alloc, link, is_cut) {
@@ -265,7 +265,7 @@ impl<'a, E: Engine + Drop, Q: Feeds, N: Name, R: Wait> Service<'a, E, Q, N, R> {
         ensures ok { OnOk result ((start : Wire) → InService N.hosts N.queues start (wire (L.line link.old) (L.faults link.old) is_cut.old) self.old.framer self.old.node self.old.told
             → InService N.hosts N.queues start (wire (L.line link.new) (L.faults link.new) is_cut.new) self.new.framer self.new.node self.new.told) }
         ensures ends { IfOk result (λ end. EndsSo end (left_of (L.line link.new)) self.new.framer.bytes × IsEnd (Some end) is_cut.new) }
-        ensures err { OnErr result (GoesOn (wire (L.line link.old) (L.faults link.old) is_cut.old) (wire (L.line link.new) (L.faults link.new) is_cut.new)) }
+        ensures goes { GoesOn (wire (L.line link.old) (L.faults link.old) is_cut.old) (wire (L.line link.new) (L.faults link.new) is_cut.new) }
     {
         let Ok(mut room) = read_room(alloc) else {
             return Err(AllocError);

@@ -1,6 +1,6 @@
 //! A link is told errors and entries, each by the frames of one unit. Once it met a fault it is told nothing more.
 
-ghost use Rattle.std.specs.Prelude.{◌≡◌, ℕ, ◌+◌, ◌≤◌, ◌<◌, List, ◌∷◌, ◌++◌, length, map, take, IfOk, OnOk, OnErr, MatchOption};
+ghost use Rattle.std.specs.Prelude.{◌≡◌, ℕ, ◌+◌, ◌≤◌, ◌<◌, List, ◌∷◌, ◌++◌, length, map, take, IfOk, OnOk, MatchOption};
 ghost use Rattle.reply_frames.specs.Nodes.{frame_of};
 ghost use Rattle.reply_frames.specs.Replies.{entry_frames, entry_length};
 ghost use Rattle.node_run.specs.Unsent.{AreAlike, AreCounted, frames_in};
@@ -26,7 +26,7 @@ pub(crate) fn tell<L: Link>(
     bytes: &[u8],
 ) -> Result<(), AllocError>
     ensures ok { OnOk result (Tells (wire (L.line link.old) (L.faults link.old) is_cut.old) (wire (L.line link.new) (L.faults link.new) is_cut.new) bytes.now) }
-    ensures err { OnErr result (GoesOn (wire (L.line link.old) (L.faults link.old) is_cut.old) (wire (L.line link.new) (L.faults link.new) is_cut.new)) }
+    ensures goes { GoesOn (wire (L.line link.old) (L.faults link.old) is_cut.old) (wire (L.line link.new) (L.faults link.new) is_cut.new) }
 {
     if *is_cut {
         return Ok(());
@@ -50,7 +50,7 @@ pub(crate) fn tell_error<L: Link>(
     error: &NodeError,
 ) -> Result<(), AllocError>
     ensures ok { OnOk result (Tells (wire (L.line link.old) (L.faults link.old) is_cut.old) (wire (L.line link.new) (L.faults link.new) is_cut.new) (frame_of running error.now)) }
-    ensures err { OnErr result (GoesOn (wire (L.line link.old) (L.faults link.old) is_cut.old) (wire (L.line link.new) (L.faults link.new) is_cut.new)) }
+    ensures goes { GoesOn (wire (L.line link.old) (L.faults link.old) is_cut.old) (wire (L.line link.new) (L.faults link.new) is_cut.new) }
 {
     match node_error_frame(alloc, running, error) {
         Ok(frame) => tell(link, is_cut, frame.as_slice()),
@@ -69,7 +69,7 @@ pub(crate) fn tell_errors<L: Link>(
     ensures ok { OnOk result ((start : Wire) (taken : List ℕ) (lists : List (List (List ℕ)))
         → IsSending start (wire (L.line link.old) (L.faults link.old) is_cut.old) taken (error_units 1 (take told errors.now) ∷ lists)
         → IsSending start (wire (L.line link.new) (L.faults link.new) is_cut.new) taken (error_units 1 errors.now ∷ lists)) }
-    ensures err { OnErr result (GoesOn (wire (L.line link.old) (L.faults link.old) is_cut.old) (wire (L.line link.new) (L.faults link.new) is_cut.new)) }
+    ensures goes { GoesOn (wire (L.line link.old) (L.faults link.old) is_cut.old) (wire (L.line link.new) (L.faults link.new) is_cut.new) }
 {
     for at in told..errors.len() {
         match tell_error(alloc, link, is_cut, at as u64 + 1, &errors[at]) {
@@ -119,7 +119,7 @@ fn tell_entry<L: Link>(
 ) -> Result<u64, AllocError>
     ensures ok { OnOk result (Tells (wire (L.line link.old) (L.faults link.old) is_cut.old) (wire (L.line link.new) (L.faults link.new) is_cut.new) (entry_frames kernel entry.now running)) }
     ensures next { IfOk result (λ next. next ≡ running + entry_length entry.now) }
-    ensures err { OnErr result (GoesOn (wire (L.line link.old) (L.faults link.old) is_cut.old) (wire (L.line link.new) (L.faults link.new) is_cut.new)) }
+    ensures goes { GoesOn (wire (L.line link.old) (L.faults link.old) is_cut.old) (wire (L.line link.new) (L.faults link.new) is_cut.new) }
 {
     let (frames, next) = match frames_of(alloc, kernel, entry, running) {
         Ok(told) => told,
@@ -146,7 +146,7 @@ pub(crate) fn tell_rest<L: Link>(
     ensures ok { OnOk result ((start : Wire) (taken : List ℕ) (before after : List (List (List ℕ)))
         → IsSending start (wire (L.line link.old) (L.faults link.old) is_cut.old) taken (before ++ entry_units kernel 1 (take place entries.now) ∷ after)
         → IsSending start (wire (L.line link.new) (L.faults link.new) is_cut.new) taken (before ++ entry_units kernel 1 entries.now ∷ after)) }
-    ensures err { OnErr result (GoesOn (wire (L.line link.old) (L.faults link.old) is_cut.old) (wire (L.line link.new) (L.faults link.new) is_cut.new)) }
+    ensures goes { GoesOn (wire (L.line link.old) (L.faults link.old) is_cut.old) (wire (L.line link.new) (L.faults link.new) is_cut.new) }
 {
     let mut running = next;
     for at in place..entries.len() {

@@ -1,7 +1,7 @@
 use Rattle.std.proofs.Common.{◌≡◌, length}
 use Rattle.node_run.proofs.Serving.{ServedSoFar}
 use Rattle.node_serve.specs.Sent.{wire, GoesOn}
-use Rattle.node_serve.proofs.Closing.{ToldSoFar}
+use Rattle.node_serve.proofs.Closings.{ToldSoFar}
 use Rattle.node_serve.proofs.closing.close_all.Given as goal
 
 abbrev pub invariant-loop-session : goal.invariant-loop-session

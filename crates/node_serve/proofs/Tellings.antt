@@ -16,9 +16,10 @@ use Rattle.node_serve.specs.Units.{error_units, entry_units, read_units, units_s
 -- ---- errors
 
 errors_more : (first : ℕ) (errors : List NodeError) (e : NodeError) → error_units first (errors ++ e ∷ []) ≡ error_units first errors ++ frame_of (first + length errors) e ∷ []
-errors_more first [] e = ap (λ n. frame_of n e ∷ []) (omega arith)
+errors_more first [] e = let same : first ≡ first + 0 = omega arith in ap (λ n. frame_of n e ∷ []) same
 errors_more first (d ∷ errors) e =
-    ap (λ z. frame_of first d ∷ z) (errors_more (first + 1) errors e ∙ ap (λ n. error_units (first + 1) errors ++ frame_of n e ∷ []) (omega arith))
+    let same : first + 1 + length errors ≡ first + suc (length errors) = omega arith in
+    ap (λ z. frame_of first d ∷ z) (errors_more (first + 1) errors e ∙ ap (λ n. error_units (first + 1) errors ++ frame_of n e ∷ []) same)
 
 take_next : {X : Type 0} (xs : List X) (n : ℕ) (x : X) → slice_get xs n ≡ Some x → take (suc n) xs ≡ take n xs ++ x ∷ []
 take_next [] n x there = cc
@@ -28,20 +29,22 @@ take_next (y ∷ xs) (suc n) x there = ap (λ z. y ∷ z) (take_next xs n x ther
 take_few : {X : Type 0} (xs : List X) (n : ℕ) → n ≤ length xs → length (take n xs) ≡ n
 take_few xs zero few = refl
 take_few [] (suc n) few = absurd (omega arith)
-take_few (x ∷ xs) (suc n) few = ap suc (take_few xs n (omega arith))
+take_few (x ∷ xs) (suc n) few = let less : n ≤ length xs = omega arith in ap suc (take_few xs n less)
 
 pub take_front : {X : Type 0} (xs more : List X) (n : ℕ) → n ≤ length xs → take n (xs ++ more) ≡ take n xs
 take_front xs more zero few = refl
 take_front [] more (suc n) few = absurd (omega arith)
-take_front (x ∷ xs) more (suc n) few = ap (λ z. x ∷ z) (take_front xs more n (omega arith))
+take_front (x ∷ xs) more (suc n) few = let less : n ≤ length xs = omega arith in ap (λ z. x ∷ z) (take_front xs more n less)
 
 pub error_next : (errors : List NodeError) (told next running : ℕ) (e : NodeError) → slice_get errors told ≡ Some e → told < length errors → next ≡ told + 1 → running ≡ told + 1
     → error_units 1 (take next errors) ≡ error_units 1 (take told errors) ++ frame_of running e ∷ []
 error_next errors told next running e there within is number =
     let same : next ≡ suc told = omega (arith, is) in
-    let size = take_few errors told (omega arith) in
+    let few : told ≤ length errors = omega arith in
+    let size = take_few errors told few in
+    let running_is : 1 + length (take told errors) ≡ running = omega (arith, size, number) in
     ap (λ n. error_units 1 (take n errors)) same ∙ ap (error_units 1) (take_next errors told e there) ∙ errors_more 1 (take told errors) e
-    ∙ ap (λ n. error_units 1 (take told errors) ++ frame_of n e ∷ []) (omega (arith, size, number))
+    ∙ ap (λ n. error_units 1 (take told errors) ++ frame_of n e ∷ []) running_is
 
 pub error_put : (errors : List NodeError) (told next : ℕ) (bytes : List ℕ) (lists : List (List (List ℕ))) → error_units 1 (take next errors) ≡ error_units 1 (take told errors) ++ bytes ∷ []
     → IsPutTo (error_units 1 (take told errors) ∷ lists) bytes (error_units 1 (take next errors) ∷ lists)
@@ -54,9 +57,10 @@ frames_more [] e = omega arith
 frames_more (d ∷ es) e = let rest = frames_more es e in omega (arith, rest)
 
 entries_more : (kernel first : ℕ) (es : List Entry) (e : Entry) → entry_units kernel first (es ++ e ∷ []) ≡ entry_units kernel first es ++ entry_frames kernel e (first + frames_in es) ∷ []
-entries_more kernel first [] e = ap (λ n. entry_frames kernel e n ∷ []) (omega arith)
+entries_more kernel first [] e = let same : first ≡ first + 0 = omega arith in ap (λ n. entry_frames kernel e n ∷ []) same
 entries_more kernel first (d ∷ es) e =
-    ap (λ z. entry_frames kernel d first ∷ z) (entries_more kernel (first + entry_length d) es e ∙ ap (λ n. entry_units kernel (first + entry_length d) es ++ entry_frames kernel e n ∷ []) (omega arith))
+    let same : first + entry_length d + frames_in es ≡ first + (entry_length d + frames_in es) = omega arith in
+    ap (λ z. entry_frames kernel d first ∷ z) (entries_more kernel (first + entry_length d) es e ∙ ap (λ n. entry_units kernel (first + entry_length d) es ++ entry_frames kernel e n ∷ []) same)
 
 -- at the next index
 pub entry_next : (kernel running at next : ℕ) (es : List Entry) (e : Entry) → slice_get es at ≡ Some e → next ≡ at + 1 → running ≡ 1 + frames_in (take at es)
@@ -106,11 +110,6 @@ set_twice (z ∷ xs) (suc at) x y = ap (λ l. z ∷ l) (set_twice xs at x y)
 
 some_same : {X : Type 0} (x y : X) → Some x ≡ Some y → x ≡ y
 some_same x y is = cc
-
--- an entry was read, and then the number set
-pub record IsNext (old new : List OpenSession) (u : List ℕ) : Type 0 where
-  pub put : IsPutTo (map read_units old) u (map read_units new)
-  pub counted : AreCounted old → AreCounted new
 
 next_by : (old mid new : List OpenSession) (at later : ℕ) (next : NextEntry) (o : OpenSession) (out : OnOut) (u : List ℕ) → slice_get old at ≡ Some o → o.reader ≡ Some out → next.kernel ≡ o.kernel → next.first ≡ o.next
     → mid ≡ slice_set old at (record o { reader = Some (with_entry out next.entry) }) → HasNumbered mid at later new → AreCounted old
