@@ -171,7 +171,15 @@ impl<'a, E: Engine + Drop, Q: Feeds, N: Name, R: Wait> Desk for AdmissionDesk<'a
             self.rt, alloc, queues, kernel, self.hosts, engine, feed, host, request, channel,
         ) {
             Ok((pass, reader)) => {
-                let reader = kept_reader(self.rt, self.node, number, host, self.is_read, cell, reader);
+                let reader = kept_reader(
+                    self.rt,
+                    self.node,
+                    number,
+                    host,
+                    self.is_read,
+                    cell,
+                    reader,
+                );
                 self.sessions.push_reserved(OpenSession {
                     kernel,
                     host,

@@ -23,7 +23,5 @@ pub use end::RunEnd;
 pub use feeding::run_workers;
 pub use finishing::discard;
 pub use open_session::{NextEntry, OpenSession};
-pub use run::{
-    NodeRun, end_after, make_queues, push_broken, run_sessions, run_stream, status_of,
-};
+pub use run::{NodeRun, end_after, make_queues, push_broken, run_sessions, run_stream, status_of};
 pub use streams::{SinkFault, write_all};

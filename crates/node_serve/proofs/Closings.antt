@@ -28,7 +28,7 @@ pub session_told : (start old new : Wire) (taken : List ℕ) (before after : Lis
     → IsSending start old taken (before ++ read_units o ∷ after) → IsSending start new taken (before ++ run_units run ∷ after)
 session_told start old new taken before after o run kernel place entries rest is parts number same journal tells s =
     let first : read_units o ≡ entry_units kernel 1 (take place entries) =
-        ap (λ k. entry_units k 1 (read_of o)) (sym is) ∙ ap (entry_units kernel 1) (sym (first_read (read_of o) entries rest place parts number)) in
+    ap (λ k. entry_units k 1 (read_of o)) (sym is) ∙ ap (entry_units kernel 1) (sym (first_read (read_of o) entries rest place parts number)) in
     let last : entry_units kernel 1 entries ≡ run_units run = ap (λ k. entry_units k 1 entries) (sym same) ∙ ap (entry_units run.0 1) (sym journal) in
     subst (λ u. IsSending start new taken (before ++ u ∷ after)) last (tells (subst (λ u. IsSending start old taken (before ++ u ∷ after)) first s))
 
@@ -77,8 +77,8 @@ next_told queues left first mid now all more rest runs new o run q done t parts 
       let old = subst (λ (os : List OpenSession). IsSending start mid taken (before ++ map read_units os)) parts (t.sending start taken errors s) in
       let told = tells start taken before (map read_units rest) old in
       let lists : before ++ run_units run ∷ map read_units rest ≡ (errors ∷ map run_units new) ++ map read_units rest =
-          sym (append_assoc before (run_units run ∷ []) (map read_units rest))
-          ∙ ap (λ z. (errors ∷ z) ++ map read_units rest) (sym (ap (map run_units) push ∙ map_more runs run)) in
+      sym (append_assoc before (run_units run ∷ []) (map read_units rest))
+      ∙ ap (λ z. (errors ∷ z) ++ map read_units rest) (sym (ap (map run_units) push ∙ map_more runs run)) in
       subst (λ ls. IsSending start now taken ls) lists told;
 }
 

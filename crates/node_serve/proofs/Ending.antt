@@ -69,13 +69,13 @@ pub reported : (meaning : Meaning) (hosts : ℕ) (gives : Answers) (queues : Lis
 reported meaning hosts gives queues start mid now sessions errors later broken end told run_end link_end runs fed are_errors is ends are_runs s =
     let left = left_same start.line mid.line now.line fed.taken fed.sending.sent s.sent fed.sending.went s.went in
     let run : HasRun meaning hosts gives run_end fed.taken (left_of mid.line) later runs =
-        has_run meaning hosts gives fed.taken (left_of mid.line) (λ ts. AreOpen ts sessions queues) errors broken end run_end later runs fed.took fed.ends is are_errors are_runs in
+    has_run meaning hosts gives fed.taken (left_of mid.line) (λ ts. AreOpen ts sessions queues) errors broken end run_end later runs fed.took fed.ends is are_errors are_runs in
     let lists : error_units 1 later ∷ map run_units runs ≡ units_of run.node (journals_of runs) =
-        ap (λ es. error_units 1 es ∷ map run_units runs) run.errors_are ∙ ap (λ z. error_units 1 run.node.errors ∷ z) (same_units meaning hosts gives run.node.sessions runs run.are_runs) in
+    ap (λ es. error_units 1 es ∷ map run_units runs) run.errors_are ∙ ap (λ z. error_units 1 run.node.errors ∷ z) (same_units meaning hosts gives run.node.sessions runs run.are_runs) in
     let all = has_sent now.cut mid.cut end broken run.node (journals_of runs) s.sent fed.is_end s.kept (subst (λ ls. Sends now.cut ls s.sent) lists s.sends) in
     let sure : HasSent link_end run_end run.node (journals_of runs) s.sent =
-        subst (λ (e : LinkEnd). HasSent e run_end run.node (journals_of runs) s.sent) (sym ends)
-        (subst (λ (e : RunEnd). HasSent (link_end_of now.cut e) e run.node (journals_of runs) s.sent) (sym is) all) in
+    subst (λ (e : LinkEnd). HasSent e run_end run.node (journals_of runs) s.sent) (sym ends)
+    (subst (λ (e : RunEnd). HasSent (link_end_of now.cut e) e run.node (journals_of runs) s.sent) (sym is) all) in
     let served : HasServed meaning hosts gives link_end fed.taken (left_of mid.line) s.sent later runs = record { run_end = run_end; run = run; has_sent = sure } in
     record {
       taken = fed.taken;

@@ -45,7 +45,7 @@ entries_on first old new kernel entries place at next running e is within after 
     let there = read_there entries at e within is in
     let more = entry_next kernel running at next entries e there after number in
     let put : IsPutTo (before ++ entry_units kernel 1 (take at entries) ∷ later) (entry_frames kernel e running) (before ++ entry_units kernel 1 (take next entries) ∷ later) =
-        subst (λ u. IsPutTo (before ++ entry_units kernel 1 (take at entries) ∷ later) (entry_frames kernel e running) (before ++ u ∷ later)) (sym more) (put_at before later (entry_units kernel 1 (take at entries)) (entry_frames kernel e running)) in
+    subst (λ u. IsPutTo (before ++ entry_units kernel 1 (take at entries) ∷ later) (entry_frames kernel e running) (before ++ u ∷ later)) (sym more) (put_at before later (entry_units kernel 1 (take at entries)) (entry_frames kernel e running)) in
     tells_more start old new taken (entry_frames kernel e running) (before ++ entry_units kernel 1 (take at entries) ∷ later) (before ++ entry_units kernel 1 (take next entries) ∷ later) tells put (on start taken before later s)
 
 pub number_on : (entries : List Entry) (at next running later : ℕ) (e : Entry) → e ≡ get_or entries at e → at < length entries → next ≡ at + 1 → running ≡ 1 + frames_in (take at entries) → later ≡ running + entry_length e → later ≡ 1 + frames_in (take next entries)

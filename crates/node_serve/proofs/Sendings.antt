@@ -46,10 +46,12 @@ taken_more (Some line) old new taken sent piece (rest, parts, is) gives =
 went_both : (start old new : Option Line) (taken sent more said : List ℕ) → WentOn start old taken sent → WentOn old new more said → WentOn start new (taken ++ more) (sent ++ said)
 went_both None old new taken sent more said went on = subst (λ line. WentOn line new more said) went on
 went_both (Some line) old new taken sent more said (rest, parts, is) on =
-    let g = subst (λ l. WentOn l new more said) is on in
-    (g.0, parts ∙ ap (λ z. taken ++ z) g.1 ∙ sym (append_assoc taken more g.0),
-        g.2 ∙ ap (λ z. let l : Line = record { gave = z; left = g.0; sent = (line.sent ++ sent) ++ said } in Some l) (append_assoc line.gave taken more)
-        ∙ ap (λ z. let l : Line = record { gave = line.gave ++ (taken ++ more); left = g.0; sent = z } in Some l) (append_assoc line.sent sent said))
+    let g = subst (λ l. WentOn l new more said) is on in (
+      g.0,
+      parts ∙ ap (λ z. taken ++ z) g.1 ∙ sym (append_assoc taken more g.0),
+      g.2 ∙ ap (λ z. let l : Line = record { gave = z; left = g.0; sent = (line.sent ++ sent) ++ said } in Some l) (append_assoc line.gave taken more)
+          ∙ ap (λ z. let l : Line = record { gave = line.gave ++ (taken ++ more); left = g.0; sent = z } in Some l) (append_assoc line.sent sent said),
+    )
 
 -- ---- what goes on
 
@@ -214,3 +216,6 @@ tells_front old new bytes was is adds stays risen = record {
   stays = stays;
   risen = λ cut. inr risen;
 }
+
+pub adds_goes : (old new : Wire) (bytes : List ℕ) → Adds old.line new.line bytes → old.faults ≤ new.faults → GoesOn old new
+adds_goes old new bytes adds stays = record { taken = []; sent = bytes; went = sent_more old.line old.line new.line [] [] bytes (went_none old.line) adds; stays = stays }

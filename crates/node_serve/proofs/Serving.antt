@@ -65,7 +65,7 @@ go_on told old new units few kept all =
     let more = kept_on old.desk new.desk kept.desk in
     let errors : take told new.errors.items ≡ take told old.errors.items = ap (take told) kept.errors.1 ∙ take_front old.errors.items kept.errors.0 told few in
     let lists : units_so_far told new.errors.items new.desk ≡ units_so_far told old.errors.items old.desk ++ more.others =
-        ap (λ es. error_units 1 es ∷ map read_units new.desk) errors ∙ ap (λ z. error_units 1 (take told old.errors.items) ∷ z) more.units in
+    ap (λ es. error_units 1 es ∷ map read_units new.desk) errors ∙ ap (λ z. error_units 1 (take told old.errors.items) ∷ z) more.units in
     subst (λ ls. Interleaves ls units) (sym lists) (lists_more (units_so_far told old.errors.items old.desk) more.others units all more.empty)
 
 -- a piece comes
@@ -112,7 +112,7 @@ pub fed : (hosts : ℕ) (queues : List SharedQueues) (start now : Wire) (held : 
 fed hosts queues start now held node told sessions errors broken end desk are place seated readable s ends is_end =
     let IsThen : Node → Type 0 = λ (n : Node). AreOpen n.sessions sessions queues × (errors ≡ n.errors) in
     let all = all_taken hosts s.taken held (StandsFor (Holds queues) node) IsThen broken end (left_of now.line) s.took
-        (λ (n : Node) (st : StandsFor (Holds queues) node n). (subst (λ (os : List OpenSession). AreOpen n.sessions os queues) (sym desk) st.sessions, are ∙ st.errors)) place ends in
+    (λ (n : Node) (st : StandsFor (Holds queues) node n). (subst (λ (os : List OpenSession). AreOpen n.sessions os queues) (sym desk) st.sessions, are ∙ st.errors)) place ends in
     record {
       taken = s.taken;
       took = all.0;

@@ -120,15 +120,15 @@ next_by old mid new at later next o out u there is_read kernel first is (s, here
     let found : slice_get mid at ≡ Some p = ap (λ l. slice_get l at) is ∙ get_set old at o p there in
     let same : s ≡ p = some_same s p (sym here ∙ found) in
     let all : new ≡ slice_set old at q =
-        set ∙ ap (λ (x : OpenSession). slice_set mid at (record x { next = later })) same ∙ ap (λ l. slice_set l at q) is ∙ set_twice old at p q in
+    set ∙ ap (λ (x : OpenSession). slice_set mid at (record x { next = later })) same ∙ ap (λ l. slice_set l at q) is ∙ set_twice old at p q in
     let before : read_of o ≡ out.entries = ap entries_of is_read in
     let count : o.next ≡ 1 + frames_in out.entries = counted_at old at o counted there ∙ ap (λ es. 1 + frames_in es) before in
     let more : read_units q ≡ read_units o ++ u ∷ [] =
-        entries_more o.kernel 1 out.entries next.entry
-        ∙ ap (λ n. entry_units o.kernel 1 out.entries ++ entry_frames o.kernel next.entry n ∷ []) (sym count ∙ sym first)
-        ∙ ap (λ k. entry_units o.kernel 1 out.entries ++ entry_frames k next.entry next.first ∷ []) (sym kernel)
-        ∙ ap (λ b. entry_units o.kernel 1 out.entries ++ b ∷ []) (sym bytes)
-        ∙ ap (λ es. entry_units o.kernel 1 es ++ u ∷ []) (sym before) in
+    entries_more o.kernel 1 out.entries next.entry
+    ∙ ap (λ n. entry_units o.kernel 1 out.entries ++ entry_frames o.kernel next.entry n ∷ []) (sym count ∙ sym first)
+    ∙ ap (λ k. entry_units o.kernel 1 out.entries ++ entry_frames k next.entry next.first ∷ []) (sym kernel)
+    ∙ ap (λ b. entry_units o.kernel 1 out.entries ++ b ∷ []) (sym bytes)
+    ∙ ap (λ es. entry_units o.kernel 1 es ++ u ∷ []) (sym before) in
     let grown = frames_more out.entries next.entry in
     let right : IsCounted q = omega (arith, number, first, count, grown) in
     (subst (λ l. IsPutTo (map read_units old) u (map read_units l)) (sym all) (put_set old at o q u there more), subst AreCounted (sym all) (counted_set old at q counted right))

@@ -281,7 +281,16 @@ where
     };
     let mut is_cut = false;
     match converse_beside_workers(
-        rt, alloc, hosts, workers, link, &mut is_cut, feeds, gate, &node, queues,
+        rt,
+        alloc,
+        hosts,
+        workers,
+        link,
+        &mut is_cut,
+        feeds,
+        gate,
+        &node,
+        queues,
     ) {
         Ok(fed) => close_fed(rt, alloc, link, &mut is_cut, node.into_cells(), fed, gate),
         Err(error) => {

@@ -93,7 +93,13 @@ impl<'a, E: Engine + Drop, Q: Feeds, N: Name, R: Wait> Service<'a, E, Q, N, R> {
         if errors.len() <= self.told {
             return Ok(false);
         }
-        match tell_error(alloc, link, is_cut, self.told as u64 + 1, &errors[self.told]) {
+        match tell_error(
+            alloc,
+            link,
+            is_cut,
+            self.told as u64 + 1,
+            &errors[self.told],
+        ) {
             Ok(()) => {
                 self.told += 1;
                 Ok(true)
@@ -158,12 +164,7 @@ impl<'a, E: Engine + Drop, Q: Feeds, N: Name, R: Wait> Service<'a, E, Q, N, R> {
     }
 
     /// Takes in what came.
-    fn take_piece(
-        &mut self,
-        alloc: Global,
-        hosts: u32,
-        piece: &[u8],
-    ) -> Result<Heard, AllocError>
+    fn take_piece(&mut self, alloc: Global, hosts: u32, piece: &[u8]) -> Result<Heard, AllocError>
         requires hosts { N.hosts ≡ hosts }
         requires begun { IsBegun self.old.framer.bytes }
         ensures took { IfOk result (λ heard. Heeds N.queues hosts self.old.framer self.old.node self.old.told piece.now heard self.new.framer self.new.node self.new.told) }

@@ -20,11 +20,7 @@ use std::alloc::{AllocError, Global};
 use std::sync::Wait;
 
 /// Sends the bytes, unless the link met a fault before.
-pub(crate) fn tell<L: Link>(
-    link: &mut L,
-    is_cut: &mut bool,
-    bytes: &[u8],
-) -> Result<(), AllocError>
+pub(crate) fn tell<L: Link>(link: &mut L, is_cut: &mut bool, bytes: &[u8]) -> Result<(), AllocError>
     ensures ok { OnOk result (Tells (wire (L.line link.old) (L.faults link.old) is_cut.old) (wire (L.line link.new) (L.faults link.new) is_cut.new) bytes.now) }
     ensures goes { GoesOn (wire (L.line link.old) (L.faults link.old) is_cut.old) (wire (L.line link.new) (L.faults link.new) is_cut.new) }
 {

@@ -9,5 +9,5 @@ invariant-loop-at g l =
     let first = wire (g.L.Link.line l.initial.link) (g.L.Link.faults l.initial.link) l.initial.is_cut in
     let now = wire (g.L.Link.line l.link) (g.L.Link.faults l.link) l.is_cut in
     ((start : Wire) (taken : List ℕ) (before after : List (List (List ℕ))) → IsSending start first taken (before ++ entry_units l.kernel 1 (take l.place l.entries) ∷ after)
-        → IsSending start now taken (before ++ entry_units l.kernel 1 (take l.at l.entries) ∷ after))
+    → IsSending start now taken (before ++ entry_units l.kernel 1 (take l.at l.entries) ∷ after))
     × (l.running ≡ 1 + frames_in (take l.at l.entries)) × GoesOn first now

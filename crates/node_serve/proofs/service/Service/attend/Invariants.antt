@@ -10,5 +10,5 @@ invariant-loop g l =
     let now = wire (g.L.Link.line l.link) (g.L.Link.faults l.link) l.is_cut in
     (goal.iterator-loop g).can_next l.iterator' × (goal.iterator-loop g).is_finite l.iterator'
     × ((start : Wire) → InService g.N.Name.hosts g.N.Name.queues start first l.initial.self.framer l.initial.self.node l.initial.self.told
-        → InService g.N.Name.hosts g.N.Name.queues start now l.self.framer l.self.node l.self.told)
+    → InService g.N.Name.hosts g.N.Name.queues start now l.self.framer l.self.node l.self.told)
     × IsBegun l.self.framer.bytes × (0 < length l.room.items) × (l.is_cut ≡ false) × GoesOn first now

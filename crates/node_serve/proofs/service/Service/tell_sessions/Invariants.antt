@@ -8,5 +8,5 @@ invariant-loop-at g l =
     let first = wire (g.L.Link.line l.initial.link) (g.L.Link.faults l.initial.link) l.initial.is_cut in
     let now = wire (g.L.Link.line l.link) (g.L.Link.faults l.link) l.is_cut in
     ((start : Wire) → InService g.N.Name.hosts g.N.Name.queues start first l.initial.self.framer l.initial.self.node l.initial.self.told
-        → InService g.N.Name.hosts g.N.Name.queues start now l.self.framer l.self.node l.self.told)
+    → InService g.N.Name.hosts g.N.Name.queues start now l.self.framer l.self.node l.self.told)
     × (l.self.framer ≡ l.initial.self.framer) × GoesOn first now
