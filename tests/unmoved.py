@@ -6,8 +6,8 @@
 A case has a list of codes (`unmoved`), of which the first so many begin a session (`first`), lists of weights (`under`), how many
 `sessions` there are, and of how many requests each is (`length`). Of 32 requests 10 are moves, 17 cells, 2 cells that aren't stored, 2
 silent cells, and 1 is a restart, or a move if the case has `restarts` false: each by chance. The k-th cell since the opening or the last
-restart is the k-th code if k is at most `first`, by a chance of 7 in 8; else any of the codes. A sixth of the moves come on control,
-and so before all other requests. A move is from the host where the session is to one of the other two of three. Chance is a sequence of
+restart is the k-th code if k is at most `first`, by a chance of 7 in 8; else any of the codes. All requests come on shell, and so in
+their order in every schedule. A move is from the host where the session is to one of the other two of three. Chance is a sequence of
 numbers of its own, so a file gives the same sessions everywhere.
 Python 3, standard library.
 """
@@ -38,25 +38,21 @@ def code_of(case, chance, cells):
 
 
 def request_of(case, chance, cells):
-    """A request: its channel, type and content. cells: how many cells came since the opening or the last restart."""
+    """A request: its type and content. cells: how many cells came since the opening or the last restart."""
     which = chance.below(32)
     if which == 31 and case.get("restarts", True):
-        return "shell", "shutdown_request", {"restart": True}
+        return "shutdown_request", {"restart": True}
     if which < 10 or which == 31:
         weights = case["under"][chance.below(len(case["under"]))]
-        return "shell" if chance.below(6) else "control", "migrate_request", dict(zip(WEIGHTS, weights))
+        return "migrate_request", dict(zip(WEIGHTS, weights))
     more = {27: {"store_history": False}, 28: {"store_history": False}, 29: {"silent": True}, 30: {"silent": True}}.get(which, {})
-    return "shell", "execute_request", {"code": code_of(case, chance, cells), **more}
-
-
-def is_on_control(request):
-    return request[0] == "control"
+    return "execute_request", {"code": code_of(case, chance, cells), **more}
 
 
 def with_hosts(requests, chance):
-    """Says in each move where it goes; those on control are the first."""
+    """Says in each move where it goes."""
     host = 0
-    for _, kind, content in sorted(requests, key=lambda it: not is_on_control(it)):
+    for kind, content in requests:
         if kind == "migrate_request":
             host = (host + 1 + chance.below(HOSTS - 1)) % HOSTS
             content["to"] = host
@@ -65,11 +61,11 @@ def with_hosts(requests, chance):
 
 def session(case, number):
     """The requests of a session of a case, in order."""
-    chance, requests, cells = Chance(number * 2654435761), [], 0
+    chance, requests, cells = Chance(number * 2654435761 + 1), [], 0
     chance.below(1)
     for _ in range(case["length"]):
         requests.append(request_of(case, chance, cells))
-        cells = {"execute_request": cells + 1, "shutdown_request": 0}.get(requests[-1][1], cells)
+        cells = {"execute_request": cells + 1, "shutdown_request": 0}.get(requests[-1][0], cells)
     return with_hosts(requests, chance)
 
 
@@ -86,9 +82,9 @@ def stream(of_sessions, moves):
         yield {"content": {"host": 0}, "header": {**header, "msg_id": "m0", "msg_type": "kernel_open_request"}, "kernel": f"{kernel:032x}"}
     for at in range(max(map(len, of_sessions))):
         for kernel, requests in enumerate(of_sessions):
-            if at < len(requests) and (moves or requests[at][1] != "migrate_request"):
-                channel, kind, content = requests[at]
-                yield {"channel": channel, "content": content, "header": {**header, "msg_id": f"m{at + 1}", "msg_type": kind}, "kernel": f"{kernel:032x}"}
+            if at < len(requests) and (moves or requests[at][0] != "migrate_request"):
+                kind, content = requests[at]
+                yield {"content": content, "header": {**header, "msg_id": f"m{at + 1}", "msg_type": kind}, "kernel": f"{kernel:032x}"}
 
 
 def told(messages, count):
@@ -115,8 +111,8 @@ def main(words):
         made = sessions(json.load(it)["cases"])
     for case, number, requests in made[int(words[0]) - 1 :][:1] if words else made:
         print(f"{case['name']}, session {number}")
-        for channel, kind, content in requests:
-            print(f"  {channel:<8} {kind:<17} {json.dumps(content, ensure_ascii=False)}")
+        for kind, content in requests:
+            print(f"  {kind:<17} {json.dumps(content, ensure_ascii=False)}")
 
 
 if __name__ == "__main__":
