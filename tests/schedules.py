@@ -22,6 +22,7 @@ import cells
 import checkpoints
 import frames
 import histories
+import reader
 from unmoved import WEIGHTS, Chance
 
 MOST_HOSTS, MOST_WORKERS = 64, 16
@@ -60,11 +61,22 @@ def request_of(case, chance, hosts):
     return "shell", "execute_request", {"code": codes[chance.below(len(codes))], **more}
 
 
-def stream(case, number):
-    """The hosts, the workers and the messages of a stream. A session is opened when its first request comes."""
+def chance_of(number):
     chance = Chance(number * 2654435761)
     chance.below(1)
-    hosts, workers, sessions = hosts_of(case, chance), 1 + chance.below(MOST_WORKERS), 1 + chance.below(case["sessions"])
+    return chance
+
+
+def stream(case, number):
+    """The hosts, the workers and the messages of a stream."""
+    chance = chance_of(number)
+    hosts, workers = hosts_of(case, chance), 1 + chance.below(MOST_WORKERS)
+    return hosts, workers, asked_on(case, chance, hosts)
+
+
+def asked_on(case, chance, hosts):
+    """The messages of a stream for so many hosts. A session is opened when its first request comes."""
+    sessions = 1 + chance.below(case["sessions"])
     told, asked = [], [0] * sessions
     for _ in range(sessions * (4 + chance.below(case["length"]))):
         kernel = chance.below(sessions)
@@ -72,7 +84,7 @@ def stream(case, number):
             told.append(message(kernel, 0, "shell", "kernel_open_request", {"host": chance.below(hosts)}))
         asked[kernel] += 1
         told.append(message(kernel, asked[kernel], *request_of(case, chance, hosts)))
-    return hosts, workers, told
+    return told
 
 
 def framed(messages):
@@ -191,6 +203,9 @@ class Replay:
             return {"entry": "ran", **self.cell(content)}
         if kind == "kernel_info_request":
             return {"entry": "ran", "reply": "info"}
+        if kind == "is_complete_request":
+            how, _, indent = reader.completeness(content["code"]).partition(" ")
+            return {"entry": "ran", "reply": how, "indent": int(indent or 0)}
         if content["restart"]:
             self.begin()
         self.is_dead = not content["restart"]

@@ -1,2 +1,3 @@
 pub mod Small
 pub mod Pieces
+pub mod Copied

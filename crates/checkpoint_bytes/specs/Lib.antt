@@ -2,3 +2,4 @@ pub mod Texts
 pub mod Plain
 pub mod Marks
 pub mod Examples
+pub mod Sessions

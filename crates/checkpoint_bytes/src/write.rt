@@ -1,11 +1,14 @@
-ghost use Rattle.std.specs.Prelude.{ℕ, ◌≡◌, ◌+◌, ◌++◌, ◌<◌, ◌^◌, true, All, length, slice_index_or, IfOk, OnOk};
+ghost use Rattle.std.specs.Prelude.{ℕ, ◌≡◌, ◌+◌, ◌++◌, ◌<◌, ◌^◌, true, false, All, length, slice_index_or, IfOk, OnOk};
 ghost use Rattle.graph_model.specs.declared.graph.Version.{Version};
 ghost use Rattle.std.specs.List.{flat_map};
 ghost use Rattle.py_heap.specs.References.{IsClosed};
+ghost use Rattle.graph_model.specs.Plans.{NamesOf, IsFeasible};
+ghost use Rattle.part_bytes.specs.Sizing.{holds_handle};
 ghost use Rattle.part_bytes.specs.Texts.{four};
 ghost use Rattle.part_bytes.specs.Plain.{IsText, IsPlainPart};
 ghost use Rattle.checkpoint_bytes.specs.Marks.{AreMarksOf};
 ghost use Rattle.checkpoint_bytes.specs.Texts as spec;
+ghost use Rattle.checkpoint_bytes.specs.Sessions.{IsWithinBounds, IsMovableIfCopied, TellsOf};
 ghost use Rattle.checkpoint_bytes.specs.Plain.{IsPlainCell, IsPlainVersion, IsPlainIfCopied, IsPlainCheckpoint};
 
 use crate::marks::marks_of;
@@ -101,7 +104,8 @@ fn write_whole_version(
     copied: bool,
     version: &Version,
 ) -> Result<(), AllocError>
-    requires { IsClosed state.now }
+    requires closed { IsClosed state.now }
+    requires movable { copied ≡ true → holds_handle version.now.names state.now ≡ false }
     ensures bytes { OnOk result (out.new ≡ out.old ++ spec.version_bytes state.now copied version.now) }
     ensures plain { OnOk result (IsPlainVersion version.now) }
     ensures part { OnOk result (copied ≡ true → IsPlainPart state.now version.now.names) }
@@ -139,6 +143,7 @@ fn write_versions(
     plan: &Plan,
 ) -> Result<(), AllocError>
     requires closed { IsClosed state.now }
+    requires movable { (k : ℕ) (d : Version) → k < length versions.now → IsMovableIfCopied state.now plan.now (k + 1) (slice_index_or versions.now k d) }
     requires marks { AreMarksOf plan.now.copied (length versions.now + 1) marks.now }
     ensures bytes { OnOk result (out.new ≡ out.old ++ spec.versions_bytes state.now plan.now versions.now) }
     ensures plain { OnOk result (All IsPlainVersion versions.now) }
@@ -156,15 +161,20 @@ fn write_versions(
     Ok(())
 }
 
-/// The text of a session under a plan: its state, its history graph, and the plan with the parts that it copies. The state's
-/// count, and all that the text counts, number fewer than 2^32, and names have at most 255 bytes: else it is want of memory.
+/// The text of a session under a plan that is feasible: its state, its history graph, and the plan with the parts that it copies.
+/// The graph has to be without a fault, its versions that hold the parts of the state, and its cells within the bounds that a
+/// reader allows. The state's count, and all that the text counts, number fewer than 2^32, and names have at most 255 bytes: else it
+/// is want of memory.
 pub fn write_checkpoint(
     alloc: Global,
     state: &State,
     graph: &Graph,
     plan: &Plan,
 ) -> Result<Items<u8>, AllocError>
-    requires { IsClosed state.now }
+    requires session { TellsOf graph.now state.now }
+    requires cells { All IsWithinBounds graph.now.cells }
+    requires names { NamesOf graph.now plan.now }
+    requires feasible { IsFeasible graph.now plan.now }
     ensures bytes { IfOk result (λ bytes. bytes ≡ spec.checkpoint_text state.now graph.now plan.now) }
     ensures plain { OnOk result (IsPlainCheckpoint state.now graph.now plan.now) }
 {

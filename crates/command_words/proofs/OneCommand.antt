@@ -9,7 +9,7 @@ use Rattle.std.proofs.lemmas.List.Elements.{All-tail}
 use Rattle.graph_model.specs.declared.plan.Weights.{Weights}
 use Rattle.plan_model.specs.Weighing.{AreSmall}
 use Rattle.command_words.specs.declared.words.Command.{Command}
-use Rattle.command_words.specs.declared.words.Command.TheVariants.{Run, Plan, Save, Restore}
+use Rattle.command_words.specs.declared.words.Command.TheVariants.{Run, Plan, Save, Restore, Made, Serve}
 use Rattle.command_words.specs.declared.settings.Kind.{Kind}
 use Rattle.command_words.specs.declared.settings.Kind.TheVariants.{Hosts, Workers}
 use Rattle.command_words.specs.Grammar.{Form, Spaced, Joined, Setting, weight_words, most, spelled, words_of, setting_words, IsWithin, IsAllowed, IsSet, IsCommand}
@@ -94,18 +94,25 @@ same_weights v w a b same =
 
 -- ---- commands
 
+few : (most n : ℕ) → most < 2 ^ 64 → IsWithin 1 most n → n < 2 ^ 64
+few most n l within = omega (arith, l, within.1)
+
 -- the third letter of a command's first word
 abbrev third : Command → ℕ
 third (Run h w) = 110
 third (Plan w) = 97
 third (Save w) = 118
 third Restore = 115
+third (Made n) = 100
+third (Serve n) = 114
 
 third_at : (words : List (List ℕ)) (c : Command) → IsCommand words c → byte 2 words ≡ third c
 third_at words (Run h w) is = ap (byte 2) is.2
 third_at words (Plan w) is = ap (byte 2) is.1
 third_at words (Save w) is = ap (byte 2) is.1
 third_at words Restore is = ap (byte 2) is
+third_at words (Made n) is = ap (byte 2) is.1
+third_at words (Serve n) is = ap (byte 2) is.2
 
 pub one_command : (words : List (List ℕ)) (c d : Command) → IsCommand words c → IsCommand words d → c ≡ d
 one_command words (Run h w) (Run g v) a b =
@@ -116,4 +123,8 @@ one_command words (Run h w) (Run g v) a b =
 one_command words (Plan v) (Plan w) a b = ap Plan (same_weights v w a.0 b.0 (ap (drop 1) (sym a.1 ∙ b.1)))
 one_command words (Save v) (Save w) a b = ap Save (same_weights v w a.0 b.0 (ap (drop 1) (sym a.1 ∙ b.1)))
 one_command words Restore Restore a b = refl
+one_command words (Made m) (Made n) a b =
+    ap Made (decimal_injective m n (few 4000 m (omega arith) a.0) (few 4000 n (omega arith) b.0) (ap (λ (ws : List (List ℕ)). get_or ws 1 []) (sym a.1 ∙ b.1)))
+one_command words (Serve m) (Serve n) a b =
+    ap Serve (decimal_injective m n (few 100 m (omega arith) a.0) (few 100 n (omega arith) b.0) (ap (λ (ws : List (List ℕ)). get_or ws 2 []) (sym a.2 ∙ b.2)))
 one_command words c d a b = let same = sym (third_at words c a) ∙ third_at words d b in let no : ⊥ = omega (arith, same) in absurd no

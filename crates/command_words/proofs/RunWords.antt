@@ -14,7 +14,7 @@ use Rattle.clap.specs.declared.error.kind.ErrorKind.TheVariants.{OutOfMemory}
 use Rattle.command_words.specs.declared.settings.Kind.{Kind}
 use Rattle.command_words.specs.declared.settings.Kind.TheVariants.{Hosts, Workers}
 use Rattle.command_words.specs.declared.words.Command.{Command}
-use Rattle.command_words.specs.declared.words.Command.TheVariants.{Run, Plan, Save, Restore}
+use Rattle.command_words.specs.declared.words.Command.TheVariants.{Run, Plan, Save, Restore, Made, Serve}
 use Rattle.command_words.specs.Grammar.{Form, Spaced, Joined, Setting, most, name_of, spelled, words_of, setting_words, IsWithin, IsAllowed, IsCommand}
 use Rattle.command_words.specs.Line.{is_hyphens, label_of, line, IsRead, RunIs}
 use Rattle.command_words.proofs.Digits.{digits_begin}
@@ -220,6 +220,8 @@ as_read (Some (Run h w)) words hosts workers are_hosts are_workers clean passes 
 as_read (Some (Plan v)) words hosts workers are_hosts are_workers clean passes some = absurd some
 as_read (Some (Save v)) words hosts workers are_hosts are_workers clean passes some = absurd some
 as_read (Some Restore) words hosts workers are_hosts are_workers clean passes some = absurd some
+as_read (Some (Made n)) words hosts workers are_hosts are_workers clean passes some = absurd some
+as_read (Some (Serve n)) words hosts workers are_hosts are_workers clean passes some = absurd some
 
 -- words that clap refuses for a cause
 refused : (kinds : Kinds) (e : Error) → HasKind kinds e → kind_of e ≢ OutOfMemory → kinds ≢ []

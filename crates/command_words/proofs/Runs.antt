@@ -4,7 +4,7 @@ use Rattle.std.specs.Prelude.{All, AllPairs}
 use Rattle.std.proofs.lemmas.List.Elements.{All-cons}
 use Rattle.std.proofs.lemmas.List.Kept.{AllPairs-cons}
 use Rattle.command_words.specs.declared.words.Command.{Command}
-use Rattle.command_words.specs.declared.words.Command.TheVariants.{Run, Plan, Save, Restore}
+use Rattle.command_words.specs.declared.words.Command.TheVariants.{Run, Plan, Save, Restore, Made, Serve}
 use Rattle.command_words.specs.declared.settings.Kind.{Kind}
 use Rattle.command_words.specs.declared.settings.Kind.TheVariants.{Hosts, Workers}
 use Rattle.command_words.specs.Grammar.{Form, Spaced, Joined, Setting, name_of, spelled, IsAllowed, Says, IsCommand}
@@ -149,3 +149,5 @@ no_run words none (Run h w) is = none h w is
 no_run words none (Plan w) is = let same = ap (byte 0) is.1 in let no : ⊥ = omega (arith, same) in no
 no_run words none (Save w) is = let same = ap (byte 0) is.1 in let no : ⊥ = omega (arith, same) in no
 no_run words none Restore is = let same = ap (byte 2) is in let no : ⊥ = omega (arith, same) in no
+no_run words none (Made n) is = let same = ap (byte 0) is.1 in let no : ⊥ = omega (arith, same) in no
+no_run words none (Serve n) is = let same = ap (byte 0) is.2 in let no : ⊥ = omega (arith, same) in no

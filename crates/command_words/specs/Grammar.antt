@@ -4,7 +4,7 @@ use Rattle.std.specs.Fmt.{decimal}
 use Rattle.graph_model.specs.declared.plan.Weights.{Weights}
 use Rattle.plan_model.specs.Weighing.{AreSmall}
 use Rattle.command_words.specs.declared.words.Command.{Command}
-use Rattle.command_words.specs.declared.words.Command.TheVariants.{Run, Plan, Save, Restore}
+use Rattle.command_words.specs.declared.words.Command.TheVariants.{Run, Plan, Save, Restore, Made, Serve}
 use Rattle.command_words.specs.declared.settings.Kind.{Kind}
 use Rattle.command_words.specs.declared.settings.Kind.TheVariants.{Hosts, Workers}
 
@@ -66,9 +66,11 @@ pub record Says (settings : List Setting) (hosts workers : ℕ) : Type 0 where
   pub hosts_set : IsSet settings Hosts hosts
   pub workers_set : IsSet settings Workers workers
 
--- the words say this command; no weight exceeds 1,000,000
+-- the words say this command; no weight exceeds 1,000,000; there are at most 4,000 cells, and at most 100 links; an address is any word
 abbrev pub IsCommand : List (List ℕ) → Command → Type 0
 IsCommand words (Run hosts workers) = (settings : List Setting) × Says settings hosts workers × (words ≡ codes "run" ∷ setting_words settings)
 IsCommand words (Plan w) = AreSmall w × (words ≡ codes "plan" ∷ weight_words w)
 IsCommand words (Save w) = AreSmall w × (words ≡ codes "save" ∷ weight_words w)
 IsCommand words Restore = words ≡ codes "restore" ∷ []
+IsCommand words (Made cells) = IsWithin 1 4000 cells × (words ≡ codes "made" ∷ decimal cells ∷ [])
+IsCommand words (Serve links) = IsWithin 1 100 links × (address : List ℕ) × (words ≡ codes "serve" ∷ address ∷ decimal links ∷ [])

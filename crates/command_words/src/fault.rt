@@ -1,6 +1,6 @@
 use crate::numbers::number_of;
 use crate::settings::{Kind, label, most_of};
-use crate::words::MOST_WEIGHT;
+use crate::words::{MOST_CELLS, MOST_LINKS, MOST_WEIGHT};
 use std::fmt;
 
 /// How many bytes of a word are shown.
@@ -27,6 +27,42 @@ const WEIGHTS: [Weight; 4] = [
     Weight::PerStep,
 ];
 
+/// What `made` and `serve` take a number of.
+#[derive(Clone, Copy, Debug)]
+pub enum Counted {
+    /// The cells of `made`.
+    Cells,
+    /// The links of `serve`.
+    Links,
+}
+
+impl Counted {
+    /// The greatest number.
+    fn most(self) -> u64 {
+        match self {
+            Counted::Cells => MOST_CELLS,
+            Counted::Links => MOST_LINKS,
+        }
+    }
+
+    /// The range of the number, as people read it.
+    fn range(self) -> &'static str {
+        match self {
+            Counted::Cells => "it has to be a number from 1 to 4,000",
+            Counted::Links => "it has to be a number from 1 to 100",
+        }
+    }
+}
+
+impl fmt::Display for Counted {
+    fn fmt<W: fmt::Write>(&self, f: &mut fmt::Formatter<W>) -> fmt::Result {
+        f.write_str(match self {
+            Counted::Cells => "number of cells",
+            Counted::Links => "number of links",
+        })
+    }
+}
+
 /// The first word that can't stand where it is, or what is missing after the last word.
 #[derive(Clone, Copy, Debug)]
 pub enum WordFault<'a> {
@@ -46,6 +82,12 @@ pub enum WordFault<'a> {
     NoWeight(Weight),
     /// A weight isn't a number in its range.
     BadWeight(Weight, &'a str),
+    /// The address of `serve` is missing.
+    NoAddress,
+    /// A number of cells or links is missing.
+    NoCount(Counted),
+    /// It isn't a number in its range.
+    BadCount(Counted, &'a str),
     /// The command takes no more words.
     TooMany(&'a str),
 }
@@ -80,7 +122,7 @@ impl fmt::Display for Quoted<'_> {
 const WEIGHT_IS: &str = "it has to be a number from 0 to 1,000,000";
 
 /// Which commands there are.
-const COMMANDS: &str = "The commands are run, save, plan and restore";
+const COMMANDS: &str = "The commands are run, serve, save, plan, restore and made";
 
 /// Which settings there are.
 const SETTINGS: &str =
@@ -115,6 +157,16 @@ impl fmt::Display for WordFault<'_> {
             }
             WordFault::BadWeight(weight, word) => {
                 write!(f, "the weight {weight} is {}: {WEIGHT_IS}", Quoted(word))
+            }
+            WordFault::NoAddress => write!(
+                f,
+                "the address is missing: serve takes one, as 127.0.0.1:8765, [::1]:8765, or a port alone"
+            ),
+            WordFault::NoCount(counted) => {
+                write!(f, "the {counted} is missing: {}", counted.range())
+            }
+            WordFault::BadCount(counted, word) => {
+                write!(f, "the {counted} is {}: {}", Quoted(word), counted.range())
             }
             WordFault::TooMany(word) => write!(f, "{} is a word too many", Quoted(word)),
         }
@@ -235,6 +287,25 @@ fn weights_fault(words: &[String]) -> Option<WordFault<'_>> {
     more_than(words, WEIGHTS.len())
 }
 
+/// What is wrong with the words of which this one is the number.
+fn count_fault(words: &[String], place: usize, counted: Counted) -> Option<WordFault<'_>> {
+    match words.get(place) {
+        None => Some(WordFault::NoCount(counted)),
+        Some(word) if number_of(word.as_str(), 1, counted.most()).is_none() => {
+            Some(WordFault::BadCount(counted, word.as_str()))
+        }
+        Some(_) => more_than(words, place.saturating_add(1)),
+    }
+}
+
+/// What is wrong with the words after `serve`.
+fn serve_fault(words: &[String]) -> Option<WordFault<'_>> {
+    if words.is_empty() {
+        return Some(WordFault::NoAddress);
+    }
+    count_fault(words, 1, Counted::Links)
+}
+
 /// What is wrong with these words, if they are no command.
 pub fn word_fault(words: &[String]) -> Option<WordFault<'_>> {
     let [first, rest @ ..] = words else {
@@ -244,6 +315,8 @@ pub fn word_fault(words: &[String]) -> Option<WordFault<'_>> {
         "run" => run_fault(rest),
         "save" | "plan" => weights_fault(rest),
         "restore" => more_than(rest, 0),
+        "made" => count_fault(rest, 0, Counted::Cells),
+        "serve" => serve_fault(rest),
         word => Some(WordFault::NoCommand(word)),
     }
 }

@@ -32,3 +32,6 @@ pub const UNLIKE: u8 = 9;
 
 /// 4,294,967,295 reads each took a byte.
 pub const TOO_MANY_READS: u8 = 10;
+
+/// The door met a fault.
+pub const DOOR_FAULT: u8 = 11;

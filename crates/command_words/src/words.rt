@@ -21,6 +21,10 @@ pub enum Command {
     Save(Weights),
     /// `restore`: the state of a checkpoint.
     Restore,
+    /// `made n`: the stream with this many cells is made and served, and its answers are counted.
+    Made(u32),
+    /// `serve address links`: so many links are served. Where they come is for who makes the door.
+    Serve(u32),
 }
 
 /// The greatest weight.
@@ -68,6 +72,38 @@ fn save_of(words: &[String]) -> Option<Command>
     }
 }
 
+/// The greatest number of cells that `made` takes.
+pub const MOST_CELLS: u64 = 4_000;
+
+/// The greatest number of links that `serve` takes.
+pub const MOST_LINKS: u64 = 100;
+
+/// The command `made` with the number that this word says.
+fn made_of(words: &[String]) -> Option<Command>
+    ensures { MatchOption result ((c : Asked) → ¬ IsCommand (codes "made" ∷ map string_bytes words.now) c) (IsCommand (codes "made" ∷ map string_bytes words.now)) }
+{
+    let [cells] = words else {
+        return None;
+    };
+    match number_of(cells.as_str(), 1, MOST_CELLS) {
+        Some(cells) => Some(Command::Made(cells as u32)),
+        None => None,
+    }
+}
+
+/// The command `serve` with an address, which is any word, and the number that the word after it says.
+fn serve_of(words: &[String]) -> Option<Command>
+    ensures { MatchOption result ((c : Asked) → ¬ IsCommand (codes "serve" ∷ map string_bytes words.now) c) (IsCommand (codes "serve" ∷ map string_bytes words.now)) }
+{
+    let [_address, links] = words else {
+        return None;
+    };
+    match number_of(links.as_str(), 1, MOST_LINKS) {
+        Some(links) => Some(Command::Serve(links as u32)),
+        None => None,
+    }
+}
+
 /// The command with this first word, and these after it.
 fn command_with(alloc: Global, first: &str, words: &[String]) -> Result<Option<Command>, AllocError>
     ensures command { IfOk result (λ o. MatchOption o ((c : Asked) → ¬ IsCommand (first.now ∷ map string_bytes words.now) c) (IsCommand (first.now ∷ map string_bytes words.now))) }
@@ -78,6 +114,8 @@ fn command_with(alloc: Global, first: &str, words: &[String]) -> Result<Option<C
         "plan" => Ok(plan_of(words)),
         "save" => Ok(save_of(words)),
         "restore" if words.is_empty() => Ok(Some(Command::Restore)),
+        "made" => Ok(made_of(words)),
+        "serve" => Ok(serve_of(words)),
         _ => Ok(None),
     }
 }

@@ -1,7 +1,7 @@
 //! The notebook server: frames with requests come in, frames with replies go out.
 //!
 //! The contract of `run::top` is what the program does; everything else here is below it. `main` makes the real source,
-//! sink and feeds, calls it with a gate that holds nobody, and ends with its status.
+//! sink, door and feeds, calls it with a gate that holds nobody, and ends with its status.
 //!
 //! The contract leaves open when memory runs out, so a body that always answers 5 meets it. Therefore the tables of cases run each
 //! command on its happy path. The tests here are of what no table can give the program: a source, a sink or a feed that fails,
@@ -12,6 +12,8 @@
 mod draw_tests;
 #[cfg(test)]
 mod fault_tests;
+#[cfg(test)]
+mod link_tests;
 pub mod run;
 mod say;
 mod streams;
@@ -22,12 +24,14 @@ mod thread_tests;
 #[cfg(test)]
 mod waiting;
 
-use command_words::{status, word_fault};
+use command_words::{Command, command_of, status, word_fault};
 use host_workers::OpenGate;
+use nb_links::TcpDoor;
 use nb_outside::{RandomFeeds, StdSink, StdSource};
 use run::top;
 use std::alloc::{AllocError, Global};
 use std::env::Env;
+use std::net::{Ipv4Addr, Net, SocketAddr, TcpListener};
 use std::process::ExitCode;
 use std::{env, io};
 
@@ -47,6 +51,49 @@ fn say_fault(rt: &HostRuntime, words: &[String]) {
     }
 }
 
+/// The address that a word says: an address with a port, or a port alone, which is one of this machine's own loopback.
+fn address_of(word: &str) -> Option<SocketAddr> {
+    match word.parse::<u16>() {
+        Ok(port) => Some(SocketAddr::from((Ipv4Addr::LOCALHOST, port))),
+        Err(_) => match word.parse::<SocketAddr>() {
+            Ok(address) => Some(address),
+            Err(_) => None,
+        },
+    }
+}
+
+/// Listens at the address that a word says, and says on standard error where that is, or why there is no listening there.
+fn listener_at(rt: HostRuntime, word: &str) -> Option<TcpListener> {
+    let Some(address) = address_of(word) else {
+        let _ = eprintln!(rt;
+            "elastic_notebook: {word:?} is no address: serve takes one, as 127.0.0.1:8765, [::1]:8765, or a port alone"
+        );
+        return None;
+    };
+    match TcpListener::bind(&rt, address) {
+        Ok(listener) => {
+            if let Ok(bound) = listener.local_addr() {
+                let _ = eprintln!(rt; "elastic_notebook: serves at {bound}");
+            }
+            Some(listener)
+        }
+        Err(error) => {
+            let _ = eprintln!(rt; "elastic_notebook: can't listen at {address}: {error}");
+            None
+        }
+    }
+}
+
+/// The door that these words ask for. If they ask for none, or for one at which there is no listening, it fails at its first call.
+fn door_of(rt: HostRuntime, words: &[String]) -> TcpDoor {
+    match (command_of(rt.alloc(), words), words) {
+        (Ok(Some(Command::Serve(_))), [_, address, _]) => {
+            TcpDoor::new(listener_at(rt, address.as_str()))
+        }
+        _ => TcpDoor::new(None),
+    }
+}
+
 fn main(rt: HostRuntime) -> ExitCode {
     let words = match words_of(&rt) {
         Ok(words) => words,
@@ -61,12 +108,14 @@ fn main(rt: HostRuntime) -> ExitCode {
     };
     let mut source = StdSource::new(rt.stdin());
     let mut sink = StdSink::new(rt.stdout());
+    let mut door = door_of(rt, words.as_slice());
     let mut feeds = RandomFeeds::new(rt);
     let status = top(
         &rt,
         words.as_slice(),
         &mut source,
         &mut sink,
+        &mut door,
         &mut feeds,
         &OpenGate,
     );

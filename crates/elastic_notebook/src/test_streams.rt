@@ -2,10 +2,12 @@
 
 use crate::run::top;
 use host_workers::OpenGate;
+use nb_links::TcpDoor;
 use nb_outside::{Drawn, MemFeeds, MemSink, MemSource};
 use std::alloc::{AllocError, Global};
 use std::sync::Wait;
 use std::thread::Threads;
+use std::time::Clock;
 
 /// What a frame asks.
 #[derive(Drop)]
@@ -79,7 +81,7 @@ pub fn frames_of(alloc: Global, asked: &[Asked]) -> Result<Vec<u8>, AllocError> 
 
 /// What a command answers and writes for these bytes, if a session's feed gives these draws and then fails, and the calls of the
 /// source and of the sink with these numbers fail.
-fn answered_by<R: AllocGlobal + Threads + Wait + Sync>(
+fn answered_by<R: AllocGlobal + Threads + Wait + Clock + Sync>(
     rt: &R,
     words: &[&str],
     input: &[u8],
@@ -100,6 +102,7 @@ fn answered_by<R: AllocGlobal + Threads + Wait + Sync>(
         all.as_slice(),
         &mut source,
         &mut sink,
+        &mut TcpDoor::new(None),
         &mut feeds,
         &OpenGate,
     );
@@ -108,7 +111,7 @@ fn answered_by<R: AllocGlobal + Threads + Wait + Sync>(
 }
 
 /// The same of a command that draws nothing.
-pub fn answered<R: AllocGlobal + Threads + Wait + Sync>(
+pub fn answered<R: AllocGlobal + Threads + Wait + Clock + Sync>(
     rt: &R,
     words: &[&str],
     input: &[u8],
@@ -119,7 +122,7 @@ pub fn answered<R: AllocGlobal + Threads + Wait + Sync>(
 }
 
 /// The same of a command whose calls don't fail.
-pub fn answered_drawing<R: AllocGlobal + Threads + Wait + Sync>(
+pub fn answered_drawing<R: AllocGlobal + Threads + Wait + Clock + Sync>(
     rt: &R,
     words: &[&str],
     input: &[u8],
@@ -129,7 +132,7 @@ pub fn answered_drawing<R: AllocGlobal + Threads + Wait + Sync>(
 }
 
 /// How often the text comes in the bytes.
-fn count_of(bytes: &[u8], text: &str) -> usize {
+pub fn count_of(bytes: &[u8], text: &str) -> usize {
     if text.is_empty() {
         return 0;
     }
@@ -141,7 +144,7 @@ fn count_of(bytes: &[u8], text: &str) -> usize {
 
 /// What is wrong with what a command answers and writes, if a session's feed gives these draws: the status, if it isn't 0, and each
 /// text that doesn't come in it this number of times.
-pub fn wrong<R: AllocGlobal + Threads + Wait + Sync>(
+pub fn wrong<R: AllocGlobal + Threads + Wait + Clock + Sync>(
     rt: &R,
     words: &[&str],
     input: &[u8],

@@ -6,12 +6,14 @@ use crate::waiting::{
     CountingGate, DrawsAfter, FrameSource, HoldingGate, ReadsAfter, Seen, WaitingFeeds,
 };
 use host_workers::Gate;
+use nb_links::TcpDoor;
 use nb_outside::MemSink;
 use std::alloc::{AllocError, Global};
 use std::sync::Wait;
 use std::sync::atomic::AtomicBool;
 use std::test::Fail;
 use std::thread::Threads;
+use std::time::Clock;
 
 /// The frames that open a session and ask its cells.
 fn push_frames(
@@ -59,7 +61,7 @@ fn frames_of(alloc: Global, sessions: &[&[&str]]) -> Result<Vec<Vec<u8>>, AllocE
 }
 
 /// The status of a run of these sessions on two hosts with one worker each.
-fn ran<R: AllocGlobal + Threads + Wait + Sync, G: Gate + Sync>(
+fn ran<R: AllocGlobal + Threads + Wait + Clock + Sync, G: Gate + Sync>(
     rt: &R,
     seen: &Seen,
     sessions: &[&[&str]],
@@ -84,6 +86,7 @@ fn ran<R: AllocGlobal + Threads + Wait + Sync, G: Gate + Sync>(
         words.as_slice(),
         &mut source,
         &mut sink,
+        &mut TcpDoor::new(None),
         &mut feeds,
         gate,
     ))

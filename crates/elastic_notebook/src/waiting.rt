@@ -1,10 +1,14 @@
 //! Gates, feeds and sources that wait for one another. A wait is counted in turns, and one that lasts too long is noted.
 
-ghost use Rattle.std.specs.Prelude.{◌≤◌, length};
+ghost use Rattle.std.specs.Prelude.{◌≡◌, ◌≤◌, ◌<◌, ℕ, None, length};
+ghost use Rattle.nb_outside.specs.Counts.{HasRisen};
 
+use crate::test_streams::count_of;
 use host_workers::Gate;
+use nb_links::{Door, DoorEnd, Link, Polled, SendEnd};
 use nb_outside::{Drawn, Feed, Feeds, ReadEnd, Source};
 use std::alloc::{AllocError, Global};
+use std::sync::Wait;
 use std::sync::atomic::{AtomicBool, AtomicU64, Ordering};
 use std::thread;
 
@@ -247,5 +251,149 @@ impl<'a> Source for FrameSource<'a> {
             self.reads = self.reads.saturating_add(1);
         }
         ReadEnd::Bytes(count)
+    }
+}
+
+/// A link whose peer sends its last frames only once a text was sent to it so often. It tells nothing.
+#[derive(Drop)]
+pub struct WaitingLink {
+    first: Option<Vec<u8>>,
+    text: &'static str,
+    times: usize,
+    last: Option<Vec<u8>>,
+    sent: Vec<u8>,
+    turns: u32,
+    /// Whether memory ran out, or a wait lasted too long, or a piece had no room for what there is.
+    failed: bool,
+    faults: u64,
+}
+
+impl WaitingLink {
+    pub fn new(
+        alloc: Global,
+        first: Vec<u8>,
+        text: &'static str,
+        times: usize,
+        last: Vec<u8>,
+    ) -> WaitingLink {
+        WaitingLink {
+            first: Some(first),
+            text,
+            times,
+            last: Some(last),
+            sent: Vec::new(alloc),
+            turns: 0,
+            failed: false,
+            faults: 0,
+        }
+    }
+
+    /// Counts a fault.
+    fn fail(&mut self)
+        ensures stays { self.old.faults ≤ self.new.faults }
+        ensures risen { HasRisen self.old.faults self.new.faults }
+    {
+        self.failed = true;
+        self.faults = self.faults.saturating_add(1);
+    }
+
+    /// Gives what the peer sends now.
+    fn give(&mut self, bytes: Vec<u8>, into: &mut [u8]) -> Polled
+        requires { 0 < length into.old }
+        ensures given { (n : ℕ) → result ≡ Polled.Bytes n → (0 < n) × (n ≤ length into.old) }
+        ensures stays { self.old.faults ≤ self.new.faults }
+        ensures failed { result ≡ Polled.Failed → HasRisen self.old.faults self.new.faults }
+    {
+        let count = bytes.len();
+        if count == 0 || into.len() < count {
+            self.fail();
+            return Polled::Failed;
+        }
+        into[..count].copy_from_slice(bytes.as_slice());
+        Polled::Bytes(count)
+    }
+}
+
+impl Link for WaitingLink {
+    ghost faults = { λ link. link.faults };
+
+    ghost line = { λ _. None };
+
+    fn poll(&mut self, into: &mut [u8], _patience: u32) -> Polled {
+        if let Some(bytes) = self.first.take() {
+            return self.give(bytes, into);
+        }
+        if self.last.is_none() {
+            return Polled::End;
+        }
+        if count_of(self.sent.as_slice(), self.text) < self.times && self.turns < MOST_TURNS {
+            self.turns += 1;
+            thread::yield_now();
+            return Polled::NotYet;
+        }
+        if self.turns == MOST_TURNS {
+            self.failed = true;
+        }
+        match self.last.take() {
+            Some(bytes) => self.give(bytes, into),
+            None => Polled::End,
+        }
+    }
+
+    fn send(&mut self, bytes: &[u8]) -> SendEnd {
+        match self.sent.extend_from_slice(bytes) {
+            Ok(()) => SendEnd::Wrote(bytes.len()),
+            Err(_) => SendEnd::OutOfMemory,
+        }
+    }
+
+    fn close(&mut self) {}
+}
+
+/// A door at which one link comes.
+#[derive(Drop)]
+pub struct WaitingDoor {
+    coming: Option<WaitingLink>,
+    back: Option<WaitingLink>,
+    faults: u64,
+}
+
+impl WaitingDoor {
+    pub fn new(link: WaitingLink) -> WaitingDoor {
+        WaitingDoor {
+            coming: Some(link),
+            back: None,
+            faults: 0,
+        }
+    }
+
+    /// Whether the link was given back, and no wait lasted too long.
+    pub fn is_well(&self) -> bool {
+        match &self.back {
+            Some(link) => !link.failed,
+            None => false,
+        }
+    }
+}
+
+impl Door for WaitingDoor {
+    type Link = WaitingLink;
+
+    ghost faults = { λ door. door.faults };
+
+    ghost passed = { λ _. None };
+
+    fn next_link<R: Wait>(&mut self, _rt: &R) -> DoorEnd<WaitingLink> {
+        match self.coming.take() {
+            Some(link) => DoorEnd::Came(link),
+            None => {
+                self.faults = self.faults.saturating_add(1);
+                DoorEnd::Failed
+            }
+        }
+    }
+
+    fn close_link(&mut self, link: WaitingLink) {
+        self.back = Some(link);
     }
 }

@@ -8,3 +8,4 @@ pub mod Listed
 pub mod SameTexts
 pub mod Names
 pub mod Valid
+pub mod Leading

@@ -21,10 +21,10 @@ tree_named (Ok body) h = h body refl
 tree_named (Err fault) h = All-nil (λ name. IsTrue (is_variable name))
 
 -- the names that are in what a code runs
-named : (code : List ℕ) → AllPass is_variable (names_in (statements (read code)))
+pub named : (code : List ℕ) → AllPass is_variable (names_in (statements (read code)))
 named code = tree_named (verdict code) (in_cell code)
 
-first_holds : (a b : Bool) → IsTrue (a && b) → a ≡ true
+pub first_holds : (a b : Bool) → IsTrue (a && b) → a ≡ true
 first_holds true b h = refl
 first_holds false b h = cc
 

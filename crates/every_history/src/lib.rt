@@ -11,4 +11,6 @@ pub use laws::{
     each_cell_makes_a_graph, each_name_is_in_a_part, every_list_of_codes_has_a_sound_history,
     every_run_has_a_history,
 };
-pub use run_laws::{cells_of_codes_have_names, histories_of_codes_pass_the_check};
+pub use run_laws::{
+    cells_of_codes_have_names, each_cell_leads_on, histories_of_codes_pass_the_check,
+};

@@ -15,3 +15,4 @@ pub mod Ending
 pub mod Judging
 pub mod Standing
 pub mod Told
+pub mod Staying

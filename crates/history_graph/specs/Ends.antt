@@ -1,8 +1,10 @@
 -- When a call that ends a cell is told the truth about a run.
-use Rattle.std.specs.Prelude.{◌≡◌, ℕ, suc, ◌≤◌, List, [], ◌∷◌, Contains, length}
+use Rattle.std.specs.Prelude.{◌≡◌, ℕ, suc, ◌<◌, ◌≤◌, true, List, [], ◌∷◌, Contains, length, slice_get}
+use Rattle.std.specs.FinMap as finite
+use Rattle.py_names.specs.Names.{is_identifier, is_variable}
 use Rattle.py_heap.specs.declared.state.State.{State}
 use Rattle.py_machine.specs.declared.marks.Marks.{Marks}
-use Rattle.py_machine.specs.Marked.{Name}
+use Rattle.py_machine.specs.Marked.{Name, IsIn}
 use Rattle.graph_model.specs.declared.graph.Version.{Version}
 use Rattle.graph_model.specs.declared.graph.Graph.{Graph}
 use Rattle.graph_model.specs.Graphs.{VersionAt}
@@ -33,6 +35,15 @@ pub record IsCellOf (r : Run) (c : ℕ) (s : State) (text : List ℕ) (units tak
   pub sizes : (names : List Name) → IsPart s names → ¬ HasHandle s names → r.size (suc c) names ≡ length (part_text s names)
   pub handles : (names : List Name) → HasHandle s names → r.size (suc c) names ≡ 0
   pub absent : (x : Name) → HasNone s x → r.size (suc c) (x ∷ []) ≡ 0
+
+-- a cell with this meter as it began and these marks led from one state to another: only names that are marked as bound and
+-- objects that are new or marked as changed differ, and it bound only variables and looked up only identifiers
+pub record LedTo (before : State) (units : ℕ) (noted : Marks) (after : State) : Type 0 where
+  pub meter : before.meter ≡ units
+  pub values : (x : Name) → ¬ IsIn noted.bound x → finite.get after.globals x ≡ finite.get before.globals x
+  pub objects : (at : ℕ) → at < length before.heap → ¬ IsIn noted.changed at → slice_get after.heap at ≡ slice_get before.heap at
+  pub bound : (x : Name) → IsIn noted.bound x → is_variable x ≡ true
+  pub looked : (x : Name) → IsIn noted.looked x → is_identifier x ≡ true
 
 -- the history is as cell c of the run left it
 pub record StandsAfter (r : Run) (c : ℕ) (h : History) : Type 0 where

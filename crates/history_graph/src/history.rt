@@ -4,10 +4,11 @@ ghost use Rattle.py_heap.specs.declared.state.State.{State};
 ghost use Rattle.py_heap.specs.References.{IsClosed};
 ghost use Rattle.graph_model.specs.declared.plan.Tally.{Tally};
 ghost use Rattle.linked_parts.specs.Parts.{ArePartsOf};
+ghost use Rattle.checkpoint_bytes.specs.Sessions.{TellsOf};
 ghost use Rattle.history_graph.specs.Tallies.{OnTally, IsOver, IsFirstOver};
 ghost use Rattle.history_graph.specs.Texts.{HasManyTexts};
 ghost use Rattle.history_graph.specs.Room.{IsFirstWith};
-ghost use Rattle.history_graph.specs.Ends.{Makes};
+ghost use Rattle.history_graph.specs.Ends.{Makes, LedTo};
 
 use crate::active::ActiveGraph;
 use crate::fault::HistoryFault;
@@ -113,6 +114,9 @@ impl History {
         ensures few { OnOk result ((length self.new.graph.cells < 2 ^ 32) × (length self.new.graph.versions < 2 ^ 32)) }
         ensures fits { OnOk result ((s : State) → ArePartsOf s self.old.parts → (t : Tally) → ¬ IsOver self.old state.now code.now marks.now t) }
         ensures too_many { IfErr result (OnTally (λ t. (s : State) → ArePartsOf s self.old.parts → IsFirstOver self.old state.now code.now marks.now t)) }
+        // Of every history, also of one that is none of a run: if before the cell its graph told of the state, it does after it.
+        ensures stays { OnOk result ((before : State) → ArePartsOf before self.old.parts → TellsOf self.old.graph before
+            → LedTo before meter marks.now state.now → TellsOf self.new.graph state.now) }
         ensures memory { result ≡ Err HistoryFault.OutOfMemory → self.new ≡ self.old }
     {
         let parts = parts_of(alloc, state)?;

@@ -48,4 +48,9 @@ pub trait Link: Drop {
         ensures bytes { Sends (line self.old) (line self.new) result bytes.now }
         ensures faults_stay { faults self.old ≤ faults self.new }
         ensures failed { result ≡ SendEnd.Failed → HasRisen (faults self.old) (faults self.new) };
+
+    /// Tells the peer that nothing more is sent, and that nothing more is read, as far as it can be told.
+    fn close(&mut self)
+        ensures line { line self.new ≡ line self.old }
+        ensures faults { faults self.new ≡ faults self.old };
 }

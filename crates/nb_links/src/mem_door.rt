@@ -23,6 +23,7 @@ pub struct MemDoor {
     back: Vec<MemLink>,
     faults: u64,
     ghost room: { came + vec_len coming ≤ vec_capacity back },
+    ghost few: { vec_len back ≤ came },
 }
 
 impl MemDoor {

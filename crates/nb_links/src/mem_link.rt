@@ -100,4 +100,6 @@ impl Link for MemLink {
             Err(_) => SendEnd::OutOfMemory,
         }
     }
+
+    fn close(&mut self) {}
 }

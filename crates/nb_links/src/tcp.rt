@@ -5,7 +5,7 @@ ghost use Rattle.nb_links.specs.Arrivals.{IsWithin};
 use crate::door::{Door, DoorEnd};
 use crate::link::{Link, Polled, SendEnd};
 use std::io::{ErrorKind, Read, Write};
-use std::net::{TcpListener, TcpStream};
+use std::net::{Shutdown, TcpListener, TcpStream};
 use std::sync::Wait;
 use std::time::Duration;
 
@@ -136,6 +136,11 @@ impl Link for TcpLink {
                 SendEnd::Failed
             }
         }
+    }
+
+    // What was sent still arrives. A peer that goes on sending may be reset.
+    fn close(&mut self) {
+        let _ = self.stream.shutdown(Shutdown::Both);
     }
 }
 

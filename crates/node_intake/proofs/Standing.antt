@@ -1,5 +1,5 @@
 -- A desk, and the node that it stands for.
-use Rattle.std.proofs.Common.{◌≡◌, ℕ, List, ◌∷◌, [], ◌++◌, Some, None, Result, Ok, Err, sym, ap, ◌∙◌, subst}
+use Rattle.std.proofs.Common.{◌≡◌, ℕ, List, ◌∷◌, [], ◌++◌, Some, None, Result, Ok, Err, refl, sym, ap, ◌∙◌, subst, append_assoc, append-nil}
 use Rattle.std.specs.Prelude.{map, slice_get, slice_set, OnOk}
 use Rattle.session_core.specs.declared.request.Request.{Request}
 use Rattle.reply_frames.specs.declared.node.NodeError.{NodeError}
@@ -7,7 +7,7 @@ use Rattle.node_intake.specs.Intake.{Taken, Node, session_of, with_request}
 use Rattle.node_intake.specs.Sessions.{IsAt, with_more}
 use Rattle.node_intake.specs.declared.node.Intake.{Intake}
 use Rattle.node_intake.specs.declared.session.Handed.{Handed}
-use Rattle.node_intake.specs.Standing.{StandsFor}
+use Rattle.node_intake.specs.Standing.{StandsFor, HasKept}
 use Rattle.node_intake.proofs.Admitting.{apart_more, apart_with, request_at}
 
 pub map_ok : {A E : Type 0} {P Q : Type 0} (r : Result A E) → (P → Q) → OnOk r P → OnOk r Q
@@ -44,4 +44,22 @@ module _ {D : Type 0} (Holds : D → List Taken → Type 0) where
     sessions = subst (Holds new.desk) (request_at kernel r node.sessions at is.session stands.apart is.is_there is.is_of) (admits node.sessions is.session stands.sessions is.is_there);
     errors = same ∙ stands.errors;
     apart = apart_with kernel r node.sessions stands.apart;
+  }
+
+module _ {D : Type 0} (Keeps : D → D → Type 0) where
+  -- an error more
+  pub kept_failed : (old new : Intake D) (e : NodeError) → ((d : D) → Keeps d d) → new.desk ≡ old.desk → new.errors.items ≡ old.errors.items ++ e ∷ [] → HasKept Keeps old new
+  kept_failed old new e all desk errors = record { desk = subst (Keeps old.desk) (sym desk) (all old.desk); errors = (e ∷ [], errors) }
+
+  -- no error more
+  pub kept_same : (old new : Intake D) → Keeps old.desk new.desk → new.errors.items ≡ old.errors.items → HasKept Keeps old new
+  kept_same old new kept errors = record { desk = kept; errors = ([], errors ∙ sym (append-nil old.errors.items)) }
+
+  pub kept_all : (n : Intake D) → ((d : D) → Keeps d d) → HasKept Keeps n n
+  kept_all n all = kept_same n n (all n.desk) refl
+
+  pub kept_on : (a b c : Intake D) → ((d e f : D) → Keeps d e → Keeps e f → Keeps d f) → HasKept Keeps a b → HasKept Keeps b c → HasKept Keeps a c
+  kept_on a b c on h k = record {
+    desk = on a.desk b.desk c.desk h.desk k.desk;
+    errors = (h.errors.0 ++ k.errors.0, k.errors.1 ∙ ap (λ es. es ++ k.errors.0) h.errors.1 ∙ append_assoc a.errors.items h.errors.0 k.errors.0);
   }

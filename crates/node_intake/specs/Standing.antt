@@ -1,7 +1,8 @@
 -- What a desk and the errors so far stand for.
-use Rattle.std.specs.Prelude.{◌≡◌, List}
+use Rattle.std.specs.Prelude.{◌≡◌, List, ◌++◌}
 use Rattle.node_intake.specs.Intake.{Taken, Node}
 use Rattle.node_intake.specs.Sessions.{AreApart}
+use Rattle.reply_frames.specs.declared.node.NodeError.{NodeError}
 use Rattle.node_intake.specs.declared.node.Intake.{Intake}
 
 module _ {D : Type 0} (Holds : D → List Taken → Type 0) where
@@ -14,3 +15,9 @@ module _ {D : Type 0} (Holds : D → List Taken → Type 0) where
   -- whatever node it stood for, now it stands for what this step makes of that node
   abbrev pub Becomes : (Node → Node) → Intake D → Intake D → Type 0
   Becomes step old new = (node : Node) → StandsFor old node → StandsFor new (step node)
+
+module _ {D : Type 0} (Keeps : D → D → Type 0) where
+  -- the errors so far are the first of those then, and what a desk keeps is kept
+  pub record HasKept (old new : Intake D) : Type 0 where
+    pub desk : Keeps old.desk new.desk
+    pub errors : (more : List NodeError) × (new.errors.items ≡ old.errors.items ++ more)

@@ -23,6 +23,13 @@ pub trait Desk: Drop {
     // A session can be opened on this host.
     ghost is_host: { ℕ → Type 0 };
 
+    // What is kept from a desk to what it became, whatever was opened and handed in between.
+    ghost keeps: { Self → Self → Type 0 };
+
+    ghost keeps_all: { (d : Self) → keeps d d };
+
+    ghost keeps_on: { (d e f : Self) → keeps d e → keeps e f → keeps d f };
+
     /// How many sessions were opened.
     fn sessions(&self) -> usize
         ensures count { result ≡ count self.now }
@@ -51,7 +58,8 @@ pub trait Desk: Drop {
         requires host { is_host host }
         requires room { count self.old < spec.most_sessions }
         ensures ok { OnOk result ((ts : List Taken) → holds self.old ts → holds self.new (ts ++ new_session kernel host request channel ∷ [])) }
-        ensures err { OnErr result ((ts : List Taken) → holds self.old ts → holds self.new ts) };
+        ensures err { OnErr result ((ts : List Taken) → holds self.old ts → holds self.new ts) }
+        ensures kept { OnOk result (keeps self.old self.new) };
 
     /// Hands in a request of frontend 0, after the others of the session at that index. After an error the sessions are as before.
     fn admit(&mut self, at: usize, request: Request) -> Result<(), AllocError>
@@ -59,5 +67,6 @@ pub trait Desk: Drop {
         requires frontend { request.frontend ≡ 0 }
         requires few { asked self.old at < spec.most_requests }
         ensures ok { OnOk result ((ts : List Taken) (s : Taken) → holds self.old ts → slice_get ts at ≡ Some s → holds self.new (slice_set ts at (with_more s request))) }
-        ensures err { OnErr result ((ts : List Taken) → holds self.old ts → holds self.new ts) };
+        ensures err { OnErr result ((ts : List Taken) → holds self.old ts → holds self.new ts) }
+        ensures kept { OnOk result (keeps self.old self.new) };
 }

@@ -2,7 +2,7 @@
 
 ghost use Rattle.std.specs.Prelude.{◌≡◌, ℕ, List, IfOk, OnOk};
 ghost use Rattle.node_intake.specs.Sessions.{HasHosts};
-ghost use Rattle.node_intake.specs.Standing.{StandsFor};
+ghost use Rattle.node_intake.specs.Standing.{StandsFor, HasKept};
 ghost use Rattle.node_intake.specs.Taking.{TookSoFar, Stands, IsPlaceOf};
 
 use crate::desk::Desk;
@@ -22,6 +22,7 @@ pub fn take_frames<D: Desk>(
     requires hosts { HasHosts D.is_host hosts }
     ensures took { OnOk result ((bytes : List ℕ) → TookSoFar hosts bytes framer.old (StandsFor D.holds node.old) → TookSoFar hosts bytes framer.new (StandsFor D.holds node.new)) }
     ensures stands { IfOk result (λ more. Stands more framer.new.bytes) }
+    ensures kept { OnOk result (HasKept D.keeps node.old node.new) }
 {
     loop {
         match framer.next(alloc) {

@@ -15,5 +15,7 @@ mod pieces;
 mod session;
 
 pub use desk::Desk;
+pub use frames::{take_frames, taken_in};
+pub use node::Intake;
 pub use pieces::{read_room, take_in_at};
 pub use session::{Handed, IntakeEnd};

@@ -6,7 +6,7 @@ ghost use Rattle.jupyter_messages.specs.Reading.{message_in};
 ghost use Rattle.node_intake.specs.Intake as spec;
 ghost use Rattle.node_intake.specs.Intake.{Taken, Node};
 ghost use Rattle.node_intake.specs.Sessions.{IsAt, HasHosts, new_session};
-ghost use Rattle.node_intake.specs.Standing.{StandsFor, Becomes};
+ghost use Rattle.node_intake.specs.Standing.{StandsFor, Becomes, HasKept};
 
 use crate::desk::Desk;
 use jupyter_messages::{Message, MessageFault, MessageKind, read_message};
@@ -63,7 +63,8 @@ impl<D: Desk> Intake<D> {
     }
 
     fn fail(&mut self, kind: NodeErrorKind, about: Option<About>) -> Result<(), AllocError>
-        ensures { OnOk result (Becomes D.holds (λ node. spec.failed node kind about) self.old self.new) }
+        ensures node { OnOk result (Becomes D.holds (λ node. spec.failed node kind about) self.old self.new) }
+        ensures kept { OnOk result (HasKept D.keeps self.old self.new) }
     {
         self.errors.push(NodeError { kind, about })?;
         Ok(())
@@ -76,7 +77,8 @@ impl<D: Desk> Intake<D> {
         kernel: u128,
         header: Header,
     ) -> Result<(), AllocError>
-        ensures { OnOk result (Becomes D.holds (λ node. spec.failed node kind (Some (record { kernel = kernel; header = header }))) self.old self.new) }
+        ensures node { OnOk result (Becomes D.holds (λ node. spec.failed node kind (Some (record { kernel = kernel; header = header }))) self.old self.new) }
+        ensures kept { OnOk result (HasKept D.keeps self.old self.new) }
     {
         self.fail(kind, Some(About { kernel, header }))
     }
@@ -92,8 +94,9 @@ impl<D: Desk> Intake<D> {
     ) -> Result<(), AllocError>
         requires host { D.is_host host }
         requires room { D.count self.old.desk < spec.most_sessions }
-        ensures { OnOk result ((node : Node) → StandsFor D.holds self.old node → spec.session_of kernel node.sessions ≡ None
+        ensures node { OnOk result ((node : Node) → StandsFor D.holds self.old node → spec.session_of kernel node.sessions ≡ None
             → StandsFor D.holds self.new (record node { sessions = node.sessions ++ new_session kernel host header channel ∷ [] })) }
+        ensures kept { OnOk result (HasKept D.keeps self.old self.new) }
     {
         self.desk.open(alloc, kernel, host, header, channel)
     }
@@ -109,8 +112,9 @@ impl<D: Desk> Intake<D> {
         channel: Channel,
     ) -> Result<(), AllocError>
         requires hosts { HasHosts D.is_host hosts }
-        ensures { OnOk result ((node : Node) → StandsFor D.holds self.old node → spec.session_of kernel node.sessions ≡ None
+        ensures node { OnOk result ((node : Node) → StandsFor D.holds self.old node → spec.session_of kernel node.sessions ≡ None
             → StandsFor D.holds self.new (spec.opening hosts node (record { header = header; channel = channel; kernel = kernel; kind = MessageKind.Open host }) host None)) }
+        ensures kept { OnOk result (HasKept D.keeps self.old self.new) }
     {
         if u64::from(hosts) <= host {
             return self.fail_about(NodeErrorKind::UnknownHost(host), kernel, header);
@@ -131,8 +135,9 @@ impl<D: Desk> Intake<D> {
         channel: Channel,
     ) -> Result<(), AllocError>
         requires hosts { HasHosts D.is_host hosts }
-        ensures { OnOk result (Becomes D.holds (λ node. spec.opening hosts node
+        ensures node { OnOk result (Becomes D.holds (λ node. spec.opening hosts node
             (record { header = header; channel = channel; kernel = kernel; kind = MessageKind.Open host }) host (spec.session_of kernel node.sessions)) self.old self.new) }
+        ensures kept { OnOk result (HasKept D.keeps self.old self.new) }
     {
         match index_of(&self.desk, kernel) {
             Some(_) => self.fail_about(NodeErrorKind::OpenedTwice, kernel, header),
@@ -145,8 +150,9 @@ impl<D: Desk> Intake<D> {
         requires at { at < D.count self.old.desk }
         requires frontend { request.frontend ≡ 0 }
         requires few { D.asked self.old.desk at < spec.most_requests }
-        ensures { OnOk result ((node : Node) → StandsFor D.holds self.old node → IsAt node.sessions kernel at
+        ensures node { OnOk result ((node : Node) → StandsFor D.holds self.old node → IsAt node.sessions kernel at
             → StandsFor D.holds self.new (record node { sessions = map (spec.with_request kernel request) node.sessions })) }
+        ensures kept { OnOk result (HasKept D.keeps self.old self.new) }
     {
         self.desk.admit(at, request)
     }
@@ -158,8 +164,9 @@ impl<D: Desk> Intake<D> {
         channel: Channel,
         ask: Ask,
     ) -> Result<(), AllocError>
-        ensures { OnOk result (Becomes D.holds (λ node. spec.asking node
+        ensures node { OnOk result (Becomes D.holds (λ node. spec.asking node
             (record { header = header; channel = channel; kernel = kernel; kind = MessageKind.Ask ask }) ask (spec.session_of kernel node.sessions)) self.old self.new) }
+        ensures kept { OnOk result (HasKept D.keeps self.old self.new) }
     {
         let Some(at) = index_of(&self.desk, kernel) else {
             return self.fail_about(NodeErrorKind::UnknownKernel, kernel, header);
@@ -186,7 +193,8 @@ impl<D: Desk> Intake<D> {
         message: Message,
     ) -> Result<(), AllocError>
         requires hosts { HasHosts D.is_host hosts }
-        ensures { OnOk result (Becomes D.holds (λ node. spec.with_message hosts node (Ok message)) self.old self.new) }
+        ensures node { OnOk result (Becomes D.holds (λ node. spec.with_message hosts node (Ok message)) self.old self.new) }
+        ensures kept { OnOk result (HasKept D.keeps self.old self.new) }
     {
         let Message {
             header,
@@ -204,6 +212,7 @@ impl<D: Desk> Intake<D> {
     fn take_fault(&mut self, alloc: Global, fault: MessageFault) -> Result<(), AllocError>
         ensures told { OnOk result (is_told fault ≡ true) }
         ensures node { OnOk result (Becomes D.holds (λ node. spec.unread node fault) self.old self.new) }
+        ensures kept { OnOk result (HasKept D.keeps self.old self.new) }
     {
         match fault {
             MessageFault::OutOfMemory => Err(AllocError),
@@ -222,7 +231,8 @@ impl<D: Desk> Intake<D> {
     /// Takes in one frame more, with this body.
     pub fn take_body(&mut self, alloc: Global, hosts: u32, body: &[u8]) -> Result<(), AllocError>
         requires hosts { HasHosts D.is_host hosts }
-        ensures { OnOk result (Becomes D.holds (λ node. spec.with_message hosts node (message_in body.now)) self.old self.new) }
+        ensures node { OnOk result (Becomes D.holds (λ node. spec.with_message hosts node (message_in body.now)) self.old self.new) }
+        ensures kept { OnOk result (HasKept D.keeps self.old self.new) }
     {
         match read_message(alloc, body) {
             Ok(message) => self.take_message(alloc, hosts, message),

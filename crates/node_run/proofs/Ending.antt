@@ -121,7 +121,7 @@ if_ok_all P Q (Err e) h = tt
 
 -- ---- what is written of it
 
-are_journals : (meaning : Meaning) (hosts : ℕ) (gives : Answers) (ss : List Taken) (runs : List ServedSession) → AreRuns meaning hosts gives ss runs → AreJournals meaning hosts gives ss (journals_of runs)
+pub are_journals : (meaning : Meaning) (hosts : ℕ) (gives : Answers) (ss : List Taken) (runs : List ServedSession) → AreRuns meaning hosts gives ss runs → AreJournals meaning hosts gives ss (journals_of runs)
 are_journals meaning hosts gives [] [] are = tt
 are_journals meaning hosts gives [] (r ∷ runs) are = absurd are
 are_journals meaning hosts gives (s ∷ ss) [] are = absurd are

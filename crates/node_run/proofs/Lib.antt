@@ -5,3 +5,4 @@ pub mod Seating
 pub mod Asking
 pub mod Serving
 pub mod Ending
+pub mod Keeping

@@ -3,3 +3,5 @@ pub mod Admitted
 pub mod Frames
 pub mod Ends
 pub mod Streams
+pub mod Unsent
+pub mod Keeping

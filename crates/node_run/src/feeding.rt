@@ -81,7 +81,7 @@ where
     ensures too_many { IfOk result (λ fed. fed.end ≡ IntakeEnd.TooMany → HasRisenBy 4294967295 (S.reads source.old) (S.reads source.new)) }
     ensures faults_stay { S.faults source.old ≤ S.faults source.new }
 {
-    let desk = AdmissionDesk::new(rt, alloc, node, feeds, hosts, queues);
+    let desk = AdmissionDesk::new(rt, alloc, node, feeds, hosts, queues, false);
     match take_in_at(alloc, source, hosts, desk) {
         Ok((handed, end)) => Ok(handed_in(handed, end)),
         Err(error) => Err(error),
@@ -89,7 +89,7 @@ where
 }
 
 /// Runs so many workers of each host, as far as threads can be made, until the feeder has closed and no session waits for a worker.
-fn run_workers<E, F, G, N, R>(
+pub fn run_workers<E, F, G, N, R>(
     rt: &R,
     alloc: Global,
     hosts: u32,

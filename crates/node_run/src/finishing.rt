@@ -46,6 +46,8 @@ where
         host: _,
         requests: _,
         pass,
+        reader: _,
+        next: _,
     } = session;
     let (lease, all) = finish(rt, alloc, cell, pass, gate);
     let (served, _feed) = lease.into_alone();

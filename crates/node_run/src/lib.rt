@@ -18,6 +18,10 @@ mod run;
 mod streams;
 mod write;
 
+pub use desk::AdmissionDesk;
 pub use end::RunEnd;
-pub use run::{NodeRun, run_sessions, run_stream, status_of};
+pub use feeding::run_workers;
+pub use finishing::discard;
+pub use open_session::{NextEntry, OpenSession};
+pub use run::{NodeRun, end_after, make_queues, push_broken, run_sessions, run_stream, status_of};
 pub use streams::{SinkFault, write_all};

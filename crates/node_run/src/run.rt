@@ -39,7 +39,7 @@ pub struct NodeRun<E: Engine> {
 }
 
 /// How a run ends, from how taking in ended and the place where the stream is broken.
-fn end_after(end: IntakeEnd, broken: Option<u64>) -> RunEnd
+pub fn end_after(end: IntakeEnd, broken: Option<u64>) -> RunEnd
     ensures { result ≡ spec.end_after end broken }
 {
     match (end, broken) {
@@ -51,7 +51,7 @@ fn end_after(end: IntakeEnd, broken: Option<u64>) -> RunEnd
 }
 
 /// Adds the error of a broken stream.
-fn push_broken(
+pub fn push_broken(
     end: IntakeEnd,
     broken: Option<u64>,
     errors: &mut Items<NodeError>,
@@ -110,7 +110,7 @@ where
 }
 
 /// The queues of as many sessions as a run has.
-fn make_queues(alloc: Global) -> Result<Vec<Queues>, AllocError>
+pub fn make_queues(alloc: Global) -> Result<Vec<Queues>, AllocError>
     ensures { IfOk result (λ queues. length queues.items ≡ 256) }
 {
     let mut queues = Vec::new(alloc);

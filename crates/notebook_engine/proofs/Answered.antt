@@ -12,7 +12,7 @@ use Rattle.run_graph.specs.RunLists.{ListedCell, raised, entry_done}
 use Rattle.run_graph.specs.Soundness.{statements}
 use Rattle.every_history.specs.Reading.{tree_in, read}
 use Rattle.graph_model.specs.declared.graph.Graph.{Graph}
-use Rattle.replay_laws.specs.Sizing.{size_of}
+use Rattle.part_bytes.specs.Sizing.{size_of}
 use Rattle.replay_laws.specs.Sessions.{StandsFor}
 use Rattle.replay_laws.proofs.GoingOn.{entry_alike}
 use Rattle.notebook_meaning.specs.Cells.{recorded, unmoved}

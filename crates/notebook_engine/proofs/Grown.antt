@@ -25,30 +25,14 @@ use Rattle.part_bytes.specs.Texts.{part_text}
 use Rattle.history_graph.specs.declared.history.History.{History}
 use Rattle.history_graph.specs.Ends.{IsCellOf, Makes}
 use Rattle.history_graph.proofs.Standing.{history_has_cells}
-use Rattle.replay_laws.specs.Sizing.{holds_handle, have_values, size_of}
+use Rattle.part_bytes.specs.Sizing.{size_of}
 use Rattle.replay_laws.specs.Sessions.{StandsFor, IsCellFrom}
-use Rattle.replay_laws.proofs.Sizing.{handle_told, tells_alike}
+use Rattle.replay_laws.proofs.Sizing.{handle_told, tells_alike, no_size, one_has_none, size_plain}
 use Rattle.replay_laws.proofs.GoingOn.{entry_alike, one_more}
 use Rattle.notebook_meaning.specs.Cells.{recorded, unmoved}
 use Rattle.notebook_meaning.specs.Numbers.{IsPassed}
 use Rattle.notebook_meaning.specs.Lists.{MayRun}
 use Rattle.notebook_meaning.proofs.Recorded.{reads_alike}
-use Rattle.notebook_meaning.proofs.Written.{no_truth, no_size, one_has_none}
-
--- ---- sizes
-
-all_have : (s : State) (names : List Name) → ((x : Name) → Contains names x → HasValue s x) → have_values names s ≡ true
-all_have s [] h = refl
-all_have s (x ∷ xs) h =
-    let v = h x (first_in x xs) in
-    let here : is_some (finite.get s.globals x) ≡ true = ap is_some v.1 in
-    rw here (all_have s xs (λ y c. h y (later_in x xs y c)))
-
-pub size_plain : (s : State) (names : List Name) → IsClosed s → IsPart s names → (HasHandle s names → ⊥) → size_of names s ≡ length (part_text s names)
-size_plain s names closed part none =
-    let free : holds_handle names s ≡ false = no_truth (holds_handle names s) (λ t. none ((handle_told s names closed).0 t)) in
-    let all : have_values names s ≡ true = all_have s names (λ x c. in_part_value s names part x c) in
-    rw (free, all) refl
 
 -- ---- the cell as one of a run
 

@@ -23,7 +23,7 @@ use Rattle.checkpoint_laws.specs.SpelledParts.{HasPartText}
 use Rattle.checkpoint_reader.specs.Fields.{has_no_value, is_same, is_otherwise}
 use Rattle.checkpoint_laws.specs.Spelled.{EachCopied, IsLike}
 use Rattle.replay_laws.specs.Restored.{HasVersions}
-use Rattle.replay_laws.specs.Sizing.{holds_handle, have_values, size_of}
+use Rattle.part_bytes.specs.Sizing.{holds_handle, have_values, size_of}
 use Rattle.replay_laws.specs.Sessions.{StandsFor}
 use Rattle.replay_laws.proofs.GoingOn.{versions_so, sizes_so}
 use Rattle.replay_laws.proofs.Sizing.{handle_told, tells_alike}

@@ -15,7 +15,7 @@ use Rattle.linked_parts.specs.Parts.{ArePartsOf}
 use Rattle.run_graph.specs.RunLists.{ListedCell}
 use Rattle.run_graph.proofs.Runs.{is_run}
 use Rattle.every_history.specs.Reading.{read}
-use Rattle.replay_laws.specs.Sizing.{size_of}
+use Rattle.part_bytes.specs.Sizing.{size_of}
 use Rattle.replay_laws.specs.Sessions.{StandsFor}
 use Rattle.replay_laws.proofs.Tidying.{tidied_same, tidied_objects, tidied_size}
 use Rattle.replay_laws.proofs.Renumbering.{can_be_tidied}

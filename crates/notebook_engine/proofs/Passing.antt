@@ -49,17 +49,17 @@ use Rattle.every_history.proofs.SameTexts.{same_text}
 use Rattle.session_core.specs.declared.engine.RunFault.{RunFault}
 use Rattle.session_core.specs.declared.engine.RunFault.TheVariants as fault
 use Rattle.session_core.specs.declared.reply.Done.{Done}
-use Rattle.replay_laws.specs.Sizing.{size_of}
+use Rattle.part_bytes.specs.Sizing.{size_of}
 use Rattle.replay_laws.specs.Sessions.{StandsFor}
-use Rattle.replay_laws.proofs.Sizing.{both_some, handle_told, tells_alike}
+use Rattle.replay_laws.proofs.Sizing.{both_some, handle_told, tells_alike, no_size, one_has_none, size_plain}
 use Rattle.replay_laws.proofs.GoingOn.{last_state, one_more}
 use Rattle.notebook_meaning.specs.Cells.{recorded, unmoved}
 use Rattle.notebook_meaning.specs.Numbers.{IsHistoryOf, IsCodeIn, IsPassed, IsPassedFirst}
 use Rattle.notebook_meaning.specs.Lists.{Fills}
-use Rattle.notebook_meaning.proofs.Written.{no_size, no_truth, one_has_none}
+use Rattle.notebook_meaning.proofs.Written.{no_truth}
 use Rattle.notebook_engine.specs.declared.notebook.Notebook.{Notebook}
 use Rattle.notebook_engine.specs.Holding.{PassesWith}
-use Rattle.notebook_engine.proofs.Grown.{done_is, one_cell, before, after, cell_from, uses_so, same_uses, size_plain}
+use Rattle.notebook_engine.proofs.Grown.{done_is, one_cell, before, after, cell_from, uses_so, same_uses}
 
 -- ---- what a fault names
 

@@ -32,7 +32,7 @@ use Rattle.checkpoint_laws.proofs.Marked.{versions_of}
 use Rattle.checkpoint_laws.proofs.Answered.{read_exactly}
 use Rattle.replay_laws.specs.Walks.{Walked}
 use Rattle.replay_laws.specs.Restored.{with_tallies, HasVersions}
-use Rattle.replay_laws.specs.Sizing.{size_of}
+use Rattle.part_bytes.specs.Sizing.{size_of}
 use Rattle.replay_laws.specs.Sessions.{StandsFor}
 use Rattle.replay_laws.specs.Tidied.{IsTidied, AreObjectsOf}
 use Rattle.replay_laws.proofs.GoingOn.{moved, tidied_so, never_asks_so, versions_so, sizes_so}

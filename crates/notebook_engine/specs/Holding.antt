@@ -8,7 +8,7 @@ use Rattle.py_reader.specs.Verdict.{Judged, verdict}
 use Rattle.notebook_meaning.specs.Errors.{failure, refused}
 use Rattle.run_graph.specs.RunLists.{ListedCell, raised}
 use Rattle.every_history.specs.Reading.{read}
-use Rattle.replay_laws.specs.Sizing.{size_of}
+use Rattle.part_bytes.specs.Sizing.{size_of}
 use Rattle.replay_laws.specs.Sessions.{StandsFor}
 use Rattle.session_core.specs.declared.reply.Reply.{Reply}
 use Rattle.session_core.specs.Meanings.{Served}

@@ -10,7 +10,7 @@ use Rattle.run_graph.proofs.Checking.{checks}
 use Rattle.run_graph.proofs.Runs.{is_run}
 use Rattle.every_history.specs.Reading.{read}
 use Rattle.every_history.proofs.Names.{has_names}
-use Rattle.replay_laws.specs.Sizing.{size_of}
+use Rattle.part_bytes.specs.Sizing.{size_of}
 use Rattle.session_core.specs.declared.request.Ask.{Ask}
 use Rattle.session_core.specs.declared.request.Ask.TheVariants.{Execute, Info, Complete, Shutdown, Migrate}
 use Rattle.session_core.specs.Meanings.{Served, more}

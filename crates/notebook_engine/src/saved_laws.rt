@@ -11,7 +11,7 @@ ghost use Rattle.run_graph.specs.RunLists.{ListedCell, state_after};
 ghost use Rattle.every_history.specs.Reading.{read};
 ghost use Rattle.checkpoint_bytes.specs.Texts.{checkpoint_text};
 ghost use Rattle.checkpoint_laws.specs.Spelled.{HasText};
-ghost use Rattle.replay_laws.specs.Sizing.{size_of};
+ghost use Rattle.part_bytes.specs.Sizing.{size_of};
 ghost use Rattle.replay_laws.specs.Sessions.{StandsFor};
 ghost use Rattle.replay_laws.specs.Tidied.{AreObjectsOf};
 ghost use Rattle.restore_run.specs.declared.restored.Restored.{Restored};

@@ -1,8 +1,9 @@
 -- What a session is written as.
 use Rattle.std.proofs.Common.{◌≡◌, ℕ, suc, ◌+◌, ◌-◌, ◌<◌, ◌≤◌, ◌^◌, zero, ◌⊎◌, ◌&&◌, is_some, Bool, true, false, List, [], ◌∷◌, map, length, Option, Some, None, refl, ap, sym, ◌∙◌, subst, inl, inr, arith}
-use Rattle.std.specs.Prelude.{Contains, slice_get}
+use Rattle.std.specs.Prelude.{All, Contains, slice_get}
 use Rattle.std.specs.List.{AllZip, IsDistinct}
-use Rattle.std.proofs.lemmas.Bool.{cases_Bool, false≢true}
+use Rattle.std.proofs.lemmas.Bool.{false≢true}
+use Rattle.std.proofs.lemmas.List.Elements.{All-from_recursion}
 use Rattle.std.proofs.lemmas.Option.{same_Some, slice_get_within, get_or_from_slice_get}
 use Rattle.std.proofs.lemmas.Str.{is_utf8-from_IsUtf8, IsUtf8-nil}
 use Rattle.py_names.specs.Names.{is_variable}
@@ -31,7 +32,10 @@ use Rattle.graph_model.specs.Plans.{NamesOf, IsFeasible}
 use Rattle.linked_parts.specs.Parts.{HasNone}
 use Rattle.run_graph.specs.Histories.{Run, IsHistory}
 use Rattle.run_graph.specs.RunLists.{ListedCell, entry, state_after, run_of}
+use Rattle.run_graph.proofs.Checking.{checks}
 use Rattle.run_graph.proofs.Runs.{is_run}
+use Rattle.run_graph.proofs.Weighing.{same_truth}
+use Rattle.run_graph.specs.Parts.{HasHandle}
 use Rattle.run_graph.proofs.Kept.{in_part_value}
 use Rattle.run_graph.proofs.Reached.{reach_from_one, not_both}
 use Rattle.every_history.specs.Reading.{read}
@@ -40,6 +44,7 @@ use Rattle.part_bytes.specs.Parts.{part_of}
 use Rattle.part_bytes.specs.Plain.{IsPlainPart}
 use Rattle.replay_laws.proofs.PartsAlike.{one_part}
 use Rattle.checkpoint_bytes.specs.Texts.{lists, checkpoint_text}
+use Rattle.checkpoint_bytes.specs.Sessions.{IsWithinBounds, AreVersionsOf, TellsOf}
 use Rattle.checkpoint_bytes.specs.Plain.{IsPlainCell, IsPlainVersion, IsPlainCheckpoint}
 use Rattle.checkpoint_laws.proofs.Alike.{one_checkpoint_text}
 use Rattle.checkpoint_laws.specs.SpelledParts.{HasPartText}
@@ -47,11 +52,11 @@ use Rattle.part_copies.specs.Written.{IsWritable, CanBeWritten}
 use Rattle.part_copies.proofs.Written.{part_is}
 use Rattle.checkpoint_laws.specs.Spelled.{IsCode, IsName, IsCellRecord, IsVersion, EachCopied, HasText}
 use Rattle.replay_laws.specs.Restored.{HasVersions}
-use Rattle.replay_laws.specs.Sizing.{holds_handle, have_values, size_of}
+use Rattle.part_bytes.specs.Sizing.{holds_handle, have_values, size_of}
 use Rattle.replay_laws.specs.Sessions.{StandsFor}
 use Rattle.replay_laws.proofs.Ending.{same_over}
-use Rattle.replay_laws.proofs.Sizing.{handle_told}
-use Rattle.replay_laws.proofs.GoingOn.{versions_so}
+use Rattle.replay_laws.proofs.Sizing.{handle_told, tells_alike, no_size, one_has_none}
+use Rattle.replay_laws.proofs.GoingOn.{versions_so, sizes_so}
 use Rattle.notebook_meaning.specs.Cells.{unmoved}
 use Rattle.notebook_meaning.specs.Codes.{HaveCodes}
 use Rattle.notebook_meaning.specs.Notebooks.{IsGraphOf}
@@ -102,13 +107,6 @@ code_of_entry (e ∷ cells) (suc n) h = code_of_entry cells n h.1
 pub no_truth : (b : Bool) → (b ≡ true → ⊥) → b ≡ false
 no_truth true h = absurd (h refl)
 no_truth false h = refl
-
-pub no_size : (names : List Name) (s : State) → (holds_handle names s ≡ true) ⊎ (have_values names s ≡ false) → size_of names s ≡ 0
-no_size names s (inl h) = rw h refl
-no_size names s (inr none) = elim (cases_Bool (holds_handle names s)) [ inl h ↦ rw h refl | inr f ↦ rw (f, none) refl ]
-
-pub one_has_none : (name : Name) (s : State) → HasNone s name → have_values (name ∷ []) s ≡ false
-one_has_none name s none = ap (λ o. is_some o && true) none
 
 module _ (cells : List ListedCell) (codes : HaveCodes cells) (g : Graph) (of : IsGraphOf cells g) where
   abbrev R : Run
@@ -223,6 +221,40 @@ module _ (cells : List ListedCell) (codes : HaveCodes cells) (g : Graph) (of : I
         none = size_none (suc k) x at;
         names = (plain.few_names, of_contained IsName x.names (λ name c. name_of_identifier name (identifier_of_variable name (name_of_version (suc k) x at name c))));
       }
+
+  -- ---- its cells are within their bounds, and it tells of each state that stands for the cells
+
+  bounded : (k : ℕ) (x : CellRecord) → slice_get g.cells k ≡ Some x → IsWithinBounds x
+  bounded k x at =
+      let r = H.records k x (cell_of_place k x at) in
+      record {
+        code = (subst IsCode (sym r.code) (code_of_entry cells (suc k - 1) codes)).1;
+        meter = subst (λ (n : ℕ). n ≤ 16777216) (sym r.meter) (valid_at cells k codes).meter;
+        steps = subst (λ (n : ℕ). n ≤ 1000000) (sym r.steps) (few_steps cells (suc k));
+      }
+
+  pub all_bounded : All IsWithinBounds g.cells
+  all_bounded = All-from_recursion IsWithinBounds g.cells (by_places IsWithinBounds g.cells bounded)
+
+  module _ (t : State) (stands : StandsFor read size_of cells g t) where
+    held : HasVersions g t
+    held = versions_so read size_of cells g t stands
+
+    versions_of : AreVersionsOf t g
+    versions_of = record {
+      are_parts = held.are_parts;
+      all_parts = held.all_parts;
+      are_absent = held.are_absent;
+      handles = λ v x a. same_truth x.handle (holds_handle x.names t) (HasHandle t x.names) (held.handles v x a) (handle_told t x.names stands.closed);
+      sizes = sizes_so read size_of cells g t stands tells_alike;
+    }
+
+    pub tells : TellsOf g t
+    tells = record {
+      closed = stands.closed;
+      graph = checks R (is_run read cells size_of) g H (has_names size_of cells) of.few_cells of.few_versions;
+      versions = versions_of;
+    }
 
   -- ---- what a session that stands for the cells is written as
 

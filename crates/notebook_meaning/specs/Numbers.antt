@@ -9,7 +9,7 @@ use Rattle.graph_model.specs.Faults.{TextBelow, Ascends}
 use Rattle.run_graph.specs.Histories.{IsHistory}
 use Rattle.run_graph.specs.RunLists.{ListedCell, run_of}
 use Rattle.every_history.specs.Reading.{read}
-use Rattle.replay_laws.specs.Sizing.{size_of}
+use Rattle.part_bytes.specs.Sizing.{size_of}
 use Rattle.history_graph.specs.Texts.{IsTextIn}
 use Rattle.history_graph.specs.Tallies.{rank}
 use Rattle.notebook_meaning.specs.Cells.{unmoved}

@@ -1,4 +1,4 @@
-ghost use Rattle.std.specs.Prelude.{ℕ, ◌≡◌, ◌+◌, ◌≤◌, List, [], length};
+ghost use Rattle.std.specs.Prelude.{ℕ, ◌≡◌, ◌+◌, ◌≤◌, List, [], All, length};
 ghost use Rattle.std.specs.Str.{IsUtf8};
 ghost use Rattle.nb_outside.specs.declared.feed.Drawn.{Drawn};
 ghost use Rattle.py_heap.specs.declared.state.State.{State};
@@ -10,8 +10,9 @@ ghost use Rattle.run_graph.specs.RunLists.{ListedCell, entry_done, state_after, 
 ghost use Rattle.every_history.specs.Reading.{read};
 ghost use Rattle.checkpoint_bytes.specs.Texts.{checkpoint_text};
 ghost use Rattle.checkpoint_bytes.specs.Plain.{IsPlainCheckpoint};
+ghost use Rattle.checkpoint_bytes.specs.Sessions.{IsWithinBounds, TellsOf};
 ghost use Rattle.checkpoint_laws.specs.Spelled.{IsCode, HasText};
-ghost use Rattle.replay_laws.specs.Sizing.{size_of};
+ghost use Rattle.part_bytes.specs.Sizing.{size_of};
 ghost use Rattle.replay_laws.specs.Sessions.{StandsFor};
 ghost use Rattle.reader_laws.specs.Valid.{IsValidState};
 ghost use Rattle.session_core.specs.declared.request.Ask.{Ask};
@@ -51,9 +52,11 @@ pub fn states_of_codes_are_valid()
 {}
 
 /// A session that stands for cells has, under a feasible plan, the text that it would have if it had never moved. That text can
-/// be read, if counts and numbers have room in it.
+/// be read, if counts and numbers have room in it. The graph tells of the session's state: its versions that hold are the state's parts.
 pub fn a_session_can_be_written()
     ensures text { (cells : List ListedCell) (g : Graph) (t : State) (p : Plan) → StandsFor read size_of cells g t → checkpoint_text t g p ≡ checkpoint_text (unmoved cells) g p }
     ensures has_text { (cells : List ListedCell) (g : Graph) (t : State) (p : Plan) → HaveCodes cells → StandsFor read size_of cells g t → IsGraphOf cells g
         → NamesOf g p → IsFeasible g p → IsPlainCheckpoint t g p → HasText (unmoved cells) g p }
+    ensures tells { (cells : List ListedCell) (g : Graph) (t : State) → HaveCodes cells → StandsFor read size_of cells g t → IsGraphOf cells g → TellsOf g t }
+    ensures bounds { (cells : List ListedCell) (g : Graph) → HaveCodes cells → IsGraphOf cells g → All IsWithinBounds g.cells }
 {}

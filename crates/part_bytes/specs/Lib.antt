@@ -3,3 +3,4 @@ pub mod Texts
 pub mod Lengths
 pub mod Plain
 pub mod Examples
+pub mod Sizing

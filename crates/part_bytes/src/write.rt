@@ -1,9 +1,10 @@
-ghost use Rattle.std.specs.Prelude.{◌≡◌, ◌++◌, All, map, length, IfOk, OnOk};
+ghost use Rattle.std.specs.Prelude.{◌≡◌, ◌++◌, false, All, map, length, IfOk, OnOk};
 ghost use Rattle.std.specs.List.{flat_map};
 ghost use Rattle.py_heap.specs.References.{IsClosed};
 ghost use Rattle.part_bytes.specs.Parts.{number_in, held_of};
 ghost use Rattle.part_bytes.specs.Texts as spec;
 ghost use Rattle.part_bytes.specs.Texts.{part_text};
+ghost use Rattle.part_bytes.specs.Sizing.{holds_handle};
 ghost use Rattle.part_bytes.specs.Plain.{IsPlainIn, IsPlainPart};
 
 use crate::numbers::Numbers;
@@ -72,10 +73,11 @@ fn write_all_held(
     Ok(())
 }
 
-/// The text of the part of a state with these names: a part without a handle, or one name without a value. A part with a
+/// The text of the part of a state with these names, which reach no handle: a part, or one name without a value. A part with a
 /// count of 2^32 or more, or a name of more than 255 bytes, has no text: that is want of memory.
 pub fn write_part(alloc: Global, state: &State, names: &[Text]) -> Result<Items<u8>, AllocError>
-    requires { IsClosed state.now }
+    requires closed { IsClosed state.now }
+    requires movable { holds_handle names.now state.now ≡ false }
     ensures bytes { IfOk result (λ bytes. bytes ≡ part_text state.now names.now) }
     ensures plain { OnOk result (IsPlainPart state.now names.now) }
 {

@@ -1,9 +1,9 @@
 -- States that are the same tell one size of a version.
-use Rattle.std.proofs.Common.{◌≡◌, ◌↔◌, ℕ, Bool, true, cond, ◌&&◌, List, [], ◌∷◌, length, Option, Some, None, is_some, refl, sym, ap, ◌∙◌, subst, inl, inr}
+use Rattle.std.proofs.Common.{◌≡◌, ◌↔◌, ◌⊎◌, ℕ, Bool, true, false, cond, ◌&&◌, List, [], ◌∷◌, length, Option, Some, None, is_some, refl, sym, ap, ◌∙◌, subst, inl, inr}
 use Rattle.std.specs.Prelude.{Contains, slice_get}
 use Rattle.std.specs.List.{list_any}
 use Rattle.std.specs.FinMap as finite
-use Rattle.std.proofs.lemmas.Bool.{or_cases}
+use Rattle.std.proofs.lemmas.Bool.{cases_Bool, or_cases}
 use Rattle.std.proofs.lemmas.List.Folds.{list_any_at}
 use Rattle.py_value.specs.declared.value.Value.{Value}
 use Rattle.py_heap.specs.declared.heap.Object.{Object}
@@ -22,8 +22,10 @@ use Rattle.run_graph.specs.Histories.{Run}
 use Rattle.run_graph.specs.Fitting.{TellsParts}
 use Rattle.run_graph.proofs.Weighing.{same_truth, handles_alike}
 use Rattle.run_graph.specs.Parts.{HasHandle}
+use Rattle.linked_parts.specs.Parts.{HasValue, HasNone, IsPart}
+use Rattle.run_graph.proofs.Kept.{in_part_value}
 use Rattle.replay_laws.specs.Restored.{TellsAlike}
-use Rattle.replay_laws.specs.Sizing.{is_handle, holds_handle, have_values, size_of}
+use Rattle.part_bytes.specs.Sizing.{is_handle, holds_handle, have_values, size_of}
 
 -- ---- whether a handle is in a part
 
@@ -53,6 +55,34 @@ module _ (s : State) (names : List Name) (closed : IsClosed s) where
     λ e. let w = any_in is_at (order s names) e in handle_at w.0 (slice_get s.heap w.0) refl w.2 ((order_lists s names closed w.0).0 w.1),
     λ h. in_any is_at (order s names) h.0 ((order_lists s names closed h.0).1 h.3) (ap is_handle h.4),
   )
+
+-- ---- the size of a version
+
+no_truth : (b : Bool) → (b ≡ true → ⊥) → b ≡ false
+no_truth true h = absurd (h refl)
+no_truth false h = refl
+
+-- with a handle, or without a value, it is 0
+pub no_size : (names : List Name) (s : State) → (holds_handle names s ≡ true) ⊎ (have_values names s ≡ false) → size_of names s ≡ 0
+no_size names s (inl h) = rw h refl
+no_size names s (inr none) = elim (cases_Bool (holds_handle names s)) [ inl h ↦ rw h refl | inr f ↦ rw (f, none) refl ]
+
+pub one_has_none : (name : Name) (s : State) → HasNone s name → have_values (name ∷ []) s ≡ false
+one_has_none name s none = ap (λ o. is_some o && true) none
+
+all_have : (s : State) (names : List Name) → ((x : Name) → Contains names x → HasValue s x) → have_values names s ≡ true
+all_have s [] h = refl
+all_have s (x ∷ xs) h =
+    let v = h x (first_in x xs) in
+    let here : is_some (finite.get s.globals x) ≡ true = ap is_some v.1 in
+    rw here (all_have s xs (λ y c. h y (later_in x xs y c)))
+
+-- of a part without a handle it is the length of its text
+pub size_plain : (s : State) (names : List Name) → IsClosed s → IsPart s names → (HasHandle s names → ⊥) → size_of names s ≡ length (part_text s names)
+size_plain s names closed part none =
+    let free : holds_handle names s ≡ false = no_truth (holds_handle names s) (λ t. none ((handle_told s names closed).0 t)) in
+    let all : have_values names s ≡ true = all_have s names (λ x c. in_part_value s names part x c) in
+    rw (free, all) refl
 
 -- ---- in states that are the same
 

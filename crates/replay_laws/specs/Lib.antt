@@ -4,4 +4,3 @@ pub mod Standing
 pub mod Restored
 pub mod Sessions
 pub mod Tidied
-pub mod Sizing

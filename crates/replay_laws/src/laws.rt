@@ -25,7 +25,7 @@ ghost use Rattle.replay_laws.specs.Copies.{AreCopies, with_copy};
 ghost use Rattle.replay_laws.specs.Standing.{IsGivenBack, IsGood};
 ghost use Rattle.replay_laws.specs.Restored.{with_tallies, HasVersions, IsRestored, TellsAlike};
 ghost use Rattle.replay_laws.specs.Sessions.{StandsFor, IsCellFrom};
-ghost use Rattle.replay_laws.specs.Sizing.{holds_handle, size_of};
+ghost use Rattle.part_bytes.specs.Sizing.{holds_handle, size_of};
 ghost use Rattle.replay_laws.specs.Tidied.{IsTidied, AreObjectsOf};
 
 /// After each cell of the walk of a feasible plan, every version that holds and that the plan gave back is the same as in the

@@ -5,15 +5,14 @@ use Rattle.std.proofs.lemmas.List.{append-nil}
 use Rattle.nb_outside.specs.Streams.{Adds, Takes}
 use Rattle.graph_model.specs.declared.plan.Weights.{Weights}
 use Rattle.session_core.specs.declared.entry.Entry.{Entry}
-use Rattle.session_core.specs.Meanings.{Meaning}
-use Rattle.node_intake.specs.Intake.{Taken}
 use Rattle.reply_frames.specs.declared.node.NodeError.{NodeError}
 use Rattle.notebook_meaning.specs.Notebooks.{notebooks}
 use Rattle.node_run.specs.declared.end.RunEnd.{RunEnd}
 use Rattle.node_run.specs.declared.end.RunEnd.TheVariants.{Whole, Broken, SourceFailed, TooManyReads}
 use Rattle.node_run.specs.Ends.{status_of}
-use Rattle.node_run.specs.Journals.{Answers, ServedSession, journals_of, AreRuns, AreJournals}
+use Rattle.node_run.specs.Journals.{Answers, ServedSession, journals_of}
 use Rattle.node_run.specs.Streams.{HasRun}
+use Rattle.node_run.proofs.Ending.{are_journals}
 use Rattle.save_command.specs.Saved.{Took, Saves, SavesTold, WritesFirst}
 
 -- ---- statuses
@@ -64,12 +63,6 @@ unlike status n (inr e) is (inr f) = omega (arith, e, is, f)
 Adds-none : (old : Option (List ℕ)) → Adds old old []
 Adds-none None = refl
 Adds-none (Some had) = ap Some (sym (append-nil had))
-
-are_journals : (meaning : Meaning) (hosts : ℕ) (gives : Answers) (ss : List Taken) (runs : List ServedSession) → AreRuns meaning hosts gives ss runs → AreJournals meaning hosts gives ss (journals_of runs)
-are_journals meaning hosts gives [] [] are = tt
-are_journals meaning hosts gives [] (r ∷ runs) are = absurd are
-are_journals meaning hosts gives (s ∷ ss) [] are = absurd are
-are_journals meaning hosts gives (s ∷ ss) (r ∷ runs) are = (are.0.1, are_journals meaning hosts gives ss runs are.1)
 
 took : (gives : Answers) (end : RunEnd) (bytes rest : List ℕ) (errors : List NodeError) (runs : List ServedSession) (Holds : List (List Entry) → Type 0) → HasRun notebooks 1 gives end bytes (Some rest) errors runs → Holds (journals_of runs)
     → Took gives end bytes rest Holds

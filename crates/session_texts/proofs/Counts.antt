@@ -25,12 +25,12 @@ use Rattle.run_graph.proofs.Kept.{in_part_value, same_part, kept_not_written}
 use Rattle.run_graph.proofs.Only.{same_list}
 use Rattle.history_graph.proofs.Amounts.{no_longer}
 use Rattle.history_graph.proofs.Keys.{in_keys}
-use Rattle.replay_laws.specs.Sizing.{have_values, size_of}
+use Rattle.part_bytes.specs.Sizing.{have_values, size_of}
+use Rattle.replay_laws.proofs.Sizing.{no_size, one_has_none}
 use Rattle.every_history.specs.Reading.{read}
 use Rattle.every_history.proofs.Histories.{history}
 use Rattle.notebook_meaning.specs.Codes.{HaveCodes}
 use Rattle.notebook_meaning.specs.Notebooks.{IsGraphOf}
-use Rattle.notebook_meaning.proofs.Written.{no_size, one_has_none}
 use Rattle.session_texts.specs.Words.{HaveWords}
 use Rattle.session_texts.proofs.First.{FitsAlways, take_length, first_state, first_marks, unmoved_first}
 use Rattle.session_texts.proofs.Plainness.{few_looked_at}

@@ -13,7 +13,7 @@ use Rattle.every_history.specs.Reading.{read}
 use Rattle.every_history.proofs.Names.{has_names}
 use Rattle.checkpoint_bytes.specs.Texts.{checkpoint_text}
 use Rattle.checkpoint_laws.specs.Spelled.{HasText}
-use Rattle.replay_laws.specs.Sizing.{size_of}
+use Rattle.part_bytes.specs.Sizing.{size_of}
 use Rattle.replay_laws.specs.Sessions.{StandsFor}
 use Rattle.replay_laws.specs.Tidied.{AreObjectsOf}
 use Rattle.restore_run.specs.declared.restored.Restored.{Restored}

@@ -26,7 +26,7 @@ use Rattle.part_bytes.specs.Parts.{order}
 use Rattle.part_bytes.specs.Plain.{IsPlain, IsPlainPair, IsPlainObject, IsPlainIn, IsPlainAt, IsPlainPart}
 use Rattle.part_bytes.proofs.Orders.{member, found_apart, order_reached}
 use Rattle.checkpoint_bytes.specs.Plain.{IsPlainCell, IsPlainVersion, IsPlainCheckpoint}
-use Rattle.replay_laws.specs.Sizing.{size_of}
+use Rattle.part_bytes.specs.Sizing.{size_of}
 use Rattle.replay_laws.specs.Sessions.{StandsFor}
 use Rattle.every_history.specs.Reading.{read}
 use Rattle.session_core.specs.Meanings.{Served}

@@ -6,7 +6,7 @@ ghost use Rattle.graph_model.specs.declared.graph.Graph.{Graph};
 ghost use Rattle.graph_model.specs.declared.plan.Plan.{Plan};
 ghost use Rattle.graph_model.specs.Plans.{NamesOf, IsFeasible};
 ghost use Rattle.py_heap.specs.declared.state.State.{State};
-ghost use Rattle.replay_laws.specs.Sizing.{size_of};
+ghost use Rattle.part_bytes.specs.Sizing.{size_of};
 ghost use Rattle.replay_laws.specs.Sessions.{StandsFor};
 ghost use Rattle.checkpoint_laws.specs.Spelled.{HasText};
 ghost use Rattle.run_graph.specs.RunLists.{ListedCell, state_after};

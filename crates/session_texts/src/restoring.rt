@@ -6,7 +6,7 @@ ghost use Rattle.graph_model.specs.declared.plan.Plan.{Plan};
 ghost use Rattle.graph_model.specs.Plans.{NamesOf, IsFeasible};
 ghost use Rattle.every_history.specs.Reading.{read};
 ghost use Rattle.checkpoint_bytes.specs.Texts.{checkpoint_text};
-ghost use Rattle.replay_laws.specs.Sizing.{size_of};
+ghost use Rattle.part_bytes.specs.Sizing.{size_of};
 ghost use Rattle.replay_laws.specs.Sessions.{StandsFor};
 ghost use Rattle.replay_laws.specs.Tidied.{AreObjectsOf};
 ghost use Rattle.restore_run.specs.declared.restored.Restored.{Restored};

@@ -31,7 +31,7 @@ use Rattle.history_graph.proofs.Bridge.{handle_held}
 use Rattle.history_graph.proofs.Keys.{keys_ascend, in_keys, of_keys}
 use Rattle.history_graph.proofs.Ending.{was_one}
 use Rattle.history_graph.proofs.Least.{was_found}
-use Rattle.replay_laws.specs.Sizing.{holds_handle, have_values, size_of}
+use Rattle.part_bytes.specs.Sizing.{holds_handle, have_values, size_of}
 use Rattle.replay_laws.proofs.Sizing.{handle_told}
 use Rattle.state_judge.specs.Agreeing.{IsAsSaid, Disagrees, IsUnlike, IsLoose, IsFirstLoose}
 

@@ -9,7 +9,7 @@ use Rattle.graph_model.specs.Graphs.{IsActive}
 use Rattle.graph_model.specs.Faults.{TextBelow, Never}
 use Rattle.linked_parts.specs.Parts.{HasValue, IsPart}
 use Rattle.run_graph.specs.Parts.{HasHandle}
-use Rattle.replay_laws.specs.Sizing.{size_of}
+use Rattle.part_bytes.specs.Sizing.{size_of}
 use Rattle.state_judge.specs.declared.judging.Disagreement.{Disagreement}
 use Rattle.state_judge.specs.declared.judging.Disagreement.TheVariants.{OutOfMemory, Unlike, Loose}
 
@@ -26,6 +26,10 @@ Disagrees x s = ((x.absent ≡ true) × (name : Name) × Contains x.names name �
 -- version v holds at the end and isn't as it says
 abbrev pub IsUnlike : Graph → State → ℕ → Type 0
 IsUnlike g s v = (x : Version) × IsActive g v x × Disagrees x s
+
+-- if the version is absent and holds at the end, it has no handle and no size
+abbrev pub IsPlainIfAbsent : Version → Type 0
+IsPlainIfAbsent x = x.replaced ≡ 0 → x.absent ≡ true → (x.handle ≡ false) × (x.size ≡ 0)
 
 -- the name has a value, and no version that holds at the end has the name
 abbrev pub IsLoose : Graph → State → Name → Type 0

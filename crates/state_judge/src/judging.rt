@@ -8,7 +8,7 @@ ghost use Rattle.graph_model.specs.Faults.{Never};
 ghost use Rattle.linked_parts.specs.Parts.{HasValue, IsPartOf, ArePartsOf};
 ghost use Rattle.history_graph.specs.Written.{WasPart, IsByLeast};
 ghost use Rattle.history_graph.specs.Sets.{Has};
-ghost use Rattle.replay_laws.specs.Sizing.{size_of};
+ghost use Rattle.part_bytes.specs.Sizing.{size_of};
 ghost use Rattle.state_judge.specs.Agreeing.{IsAsSaid, Disagrees, IsUnlike, IsLoose, IsFirstLoose, IsStateJudged};
 
 use graph_model::{Graph, Version};

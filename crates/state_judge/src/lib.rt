@@ -2,5 +2,7 @@
 #![tactic(auto)]
 
 mod judging;
+mod laws;
 
 pub use judging::{Disagreement, judge};
+pub use laws::a_state_that_agrees_has_the_versions;

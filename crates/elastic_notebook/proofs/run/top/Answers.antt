@@ -12,10 +12,12 @@ use Rattle.node_run.proofs.Ending.{told_nothing}
 use Rattle.notebook_meaning.specs.Notebooks.{notebooks}
 use Rattle.notebook_engine.proofs.Crossing.{Notebook-send}
 use Rattle.save_command.specs.Saved.{SavesTold}
+use Rattle.node_serve.specs.Doors.{LinksServed}
+use Rattle.made_command.specs.Counting.{MadeTold}
 use Rattle.elastic_notebook.specs.declared.say.Question.TheVariants as question
 use Rattle.elastic_notebook.specs.Saying.{SaysTold}
 use Rattle.elastic_notebook.specs.Statuses.{IsStatusOf}
-use Rattle.elastic_notebook.proofs.Commands.{no_command, no_plan, no_restore, no_save, one_count, one_plan, one_save, run_status, some_command}
+use Rattle.elastic_notebook.proofs.Commands.{no_command, no_made, no_plan, no_restore, no_save, no_serve, one_count, one_made, one_plan, one_save, one_serve, run_status, some_command}
 use Rattle.elastic_notebook.proofs.run.top.Goals as goal
 
 pub returns-in-Ok-Some-Run-clause-streams : goal.returns-in-Ok-Some-Run-clause-streams
@@ -87,3 +89,38 @@ returns-in-Err-clause-statuses g c = λ d is. run_status (map string_bytes c.arg
 
 pub run_stream-requires-send-E : goal.run_stream-requires-send-E
 run_stream-requires-send-E g c = λ κs within. search (Notebook-send, sendable) depth 6
+
+pub serve_links-requires-send-E : goal.serve_links-requires-send-E
+serve_links-requires-send-E g c = λ κs within. search (Notebook-send, sendable) depth 6
+
+pub returns-in-Ok-Some-Made-clause-counted : goal.returns-in-Ok-Some-Made-clause-counted
+returns-in-Ok-Some-Made-clause-counted g c = λ cells is.
+    subst (λ (n : ℕ). MadeTold n c.made.result (g.K.Sink.written c.args.sink.now) (g.K.Sink.written c.made.new.sink))
+    (one_made (map string_bytes c.args.words.now) c.in-Ok-Some-Made.cells cells (some_command _ _ _ _ (IsCommand (map string_bytes c.args.words.now)) c.in-Ok-Some-Made.field-0-is c.in-Ok-Some-Made.field-0-0-is c.in-Ok-Some-Made.ensures.command) is) c.made.ensures.told
+
+pub returns-in-Ok-Some-Made-clause-statuses : goal.returns-in-Ok-Some-Made-clause-statuses
+returns-in-Ok-Some-Made-clause-statuses g c = λ d is.
+    subst (λ (e : Command). IsStatusOf e c.made.result)
+    (one_command (map string_bytes c.args.words.now) (command.Made c.in-Ok-Some-Made.cells) d (some_command _ _ _ _ (IsCommand (map string_bytes c.args.words.now)) c.in-Ok-Some-Made.field-0-is c.in-Ok-Some-Made.field-0-0-is c.in-Ok-Some-Made.ensures.command) is) c.made.ensures.statuses
+
+pub returns-in-Ok-Some-Serve-clause-served : goal.returns-in-Ok-Some-Serve-clause-served
+returns-in-Ok-Some-Serve-clause-served g c = λ links is.
+    subst (λ (n : ℕ). LinksServed notebooks g.O.Link.Link.line g.O.Link.Link.faults n c.serve_links.result (g.O.Door.passed c.args.door.now) (g.O.Door.passed c.serve_links.new.door))
+    (one_serve (map string_bytes c.args.words.now) c.in-Ok-Some-Serve.links links (some_command _ _ _ _ (IsCommand (map string_bytes c.args.words.now)) c.in-Ok-Some-Serve.field-0-is c.in-Ok-Some-Serve.field-0-0-is c.in-Ok-Some-Serve.ensures.command) is) c.serve_links.ensures.links
+
+pub returns-in-Ok-Some-Serve-clause-statuses : goal.returns-in-Ok-Some-Serve-clause-statuses
+returns-in-Ok-Some-Serve-clause-statuses g c = λ d is.
+    subst (λ (e : Command). IsStatusOf e c.serve_links.result)
+    (one_command (map string_bytes c.args.words.now) (command.Serve c.in-Ok-Some-Serve.links) d (some_command _ _ _ _ (IsCommand (map string_bytes c.args.words.now)) c.in-Ok-Some-Serve.field-0-is c.in-Ok-Some-Serve.field-0-0-is c.in-Ok-Some-Serve.ensures.command) is) c.serve_links.ensures.statuses
+
+pub returns-in-Ok-None-clause-counted : goal.returns-in-Ok-None-clause-counted
+returns-in-Ok-None-clause-counted g c = λ cells is. absurd (no_command _ _ _ c.in-Ok-None.field-0-is c.in-Ok-None.ensures.command (command.Made cells) is)
+
+pub returns-in-Ok-None-clause-served : goal.returns-in-Ok-None-clause-served
+returns-in-Ok-None-clause-served g c = λ links is. absurd (no_command _ _ _ c.in-Ok-None.field-0-is c.in-Ok-None.ensures.command (command.Serve links) is)
+
+pub returns-in-Err-clause-counted : goal.returns-in-Err-clause-counted
+returns-in-Err-clause-counted g c = λ cells is. absurd (no_made (map string_bytes c.args.words.now) c.in-Err.ensures.memory cells is)
+
+pub returns-in-Err-clause-served : goal.returns-in-Err-clause-served
+returns-in-Err-clause-served g c = λ links is. absurd (no_serve (map string_bytes c.args.words.now) c.in-Err.ensures.memory links is)

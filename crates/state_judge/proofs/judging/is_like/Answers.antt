@@ -1,6 +1,6 @@
 use Rattle.std.proofs.Common.{refl}
 use Rattle.std.proofs.lemmas.Bool.{false≢true}
-use Rattle.replay_laws.specs.Sizing.{size_of}
+use Rattle.part_bytes.specs.Sizing.{size_of}
 use Rattle.state_judge.proofs.Agreed.{same_bits, other_bits, other_flag, like_said}
 use Rattle.state_judge.proofs.judging.is_like.Goals as goal
 

@@ -1,7 +1,7 @@
 use Rattle.std.proofs.Common.{◌≡◌, ◌<◌, ◌^◌, List, ℕ, IfOk, length, refl, ap, subst, ◌∙◌, arith}
 use Rattle.std.specs.Prelude.{SomeIff}
 use Rattle.part_bytes.specs.Texts.{part_text}
-use Rattle.replay_laws.specs.Sizing.{size_of}
+use Rattle.part_bytes.specs.Sizing.{size_of}
 use Rattle.state_judge.proofs.Agreed.{handled_size, plain_size}
 use Rattle.state_judge.proofs.judging.size_of_part.Goals as goal
 

@@ -9,6 +9,7 @@ use Rattle.history_graph.specs.Room.{IsFirstWith}
 use Rattle.history_graph.proofs.Ending.{Ended, is_next}
 use Rattle.history_graph.proofs.Leaving.{news_hold}
 use Rattle.history_graph.proofs.Judging.{all_fit, first_over, small}
+use Rattle.history_graph.proofs.Staying.{stays}
 use Rattle.history_graph.proofs.Told.{long_over, room_at, few_news, few_then}
 use Rattle.history_graph.proofs.history.History.end_cell.Goals as goal
 
@@ -96,3 +97,8 @@ returns-clause-few c =
     (c.len.ensures ∙ ap (λ (ns : List (List ℕ)). length ns) c.in_ok-names.ensures) c.in_default.is c.in_ok-tally.ensures in
     few_then s c.in_ok-parts.parts (c.len-2.result + 1) (length (finite.keys s.globals)) heads c.in_ok-cell.cell c.in_ok-news.news h.graph c.grow.new.self room.0
     (subst (λ (ns : List (List ℕ)). AreOfLeft s c.in_ok-parts.parts (c.len-2.result + 1) heads ns c.in_ok-news.news) keys c.in_ok-news.ensures.ok) c.in_ok-grow.ensures.ok
+
+pub returns-clause-stays : goal.returns-clause-stays
+returns-clause-stays c = λ before parts tells led.
+    let few = returns-clause-few c in
+    stays c.args.self.now before c.args.state.now c.args.code.now c.args.meter c.args.steps c.args.marks.now parts tells led c.requires c.grow.new.self (returns-clause-next c) few.0 few.1

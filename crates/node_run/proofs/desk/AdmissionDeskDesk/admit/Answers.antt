@@ -2,6 +2,8 @@ use Rattle.std.proofs.Common.{ap, ◌∙◌, sym, subst, drop, List, ◌<◌, le
 use Rattle.node_run.specs.declared.open_session.OpenSession.{OpenSession}
 use Rattle.node_run.specs.Admitted.{AreOpen}
 use Rattle.node_run.proofs.Seating.{seated_few, admitted_seated, admitted_length, admitted_open}
+use Rattle.node_run.specs.Unsent.{AreKept}
+use Rattle.node_run.proofs.Keeping.{admitted_readable, kept_admitted}
 use Rattle.node_run.proofs.desk.AdmissionDeskDesk.admit.Goals as goal
 
 pub overflow_cast-number : goal.overflow_cast-number
@@ -31,6 +33,7 @@ invariant_of-self-2 g c =
       c.self.invariant.2,
       ap (λ n. drop n qs) (admitted_length os new c.args.at c.args.request done) ∙ c.self.invariant.3,
       admitted_seated os new qs c.args.at c.cell.result.now.0 c.args.request c.self.invariant.4 c.cell.ensures.0 done,
+      admitted_readable os new qs c.args.at c.cell.result.now.0 c.args.request c.self.invariant.5 c.cell.ensures.0 done,
     )
 
 pub returns-clause-ok : goal.returns-clause-ok
@@ -38,3 +41,8 @@ returns-clause-ok g c = λ ts s are there.
     let qs = g.N.Name.queues in
     admitted_open c.self.inside.sessions.items c.admit_to.new.sessions.items qs c.args.at c.args.request ts s c.requires.frontend c.in_ok-host.ensures.ok
     (subst (λ (l : List OpenSession). AreOpen ts l qs) (sym c.self.view_is) are) there
+
+pub returns-clause-kept : goal.returns-clause-kept
+returns-clause-kept g c =
+    let kept = kept_admitted c.self.inside.sessions.items c.admit_to.new.sessions.items c.args.at c.args.request c.in_ok-host.ensures.ok in
+    subst (λ (l : List OpenSession). AreKept l c.admit_to.new.sessions.items) c.self.view_is kept

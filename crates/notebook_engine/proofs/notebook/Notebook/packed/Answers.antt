@@ -1,11 +1,11 @@
 use Rattle.std.proofs.Common.{ap, ◌∙◌, Err, sym, subst}
 use Rattle.graph_model.specs.declared.graph.Graph.{Graph}
 use Rattle.every_history.specs.Reading.{read}
-use Rattle.replay_laws.specs.Sizing.{size_of}
+use Rattle.part_bytes.specs.Sizing.{size_of}
 use Rattle.replay_laws.specs.Sessions.{StandsFor}
 use Rattle.notebook_meaning.specs.Cells.{cells_of}
 use Rattle.notebook_meaning.specs.Notebooks.{IsGraphOf}
-use Rattle.notebook_meaning.proofs.Written.{text_alike, has_text}
+use Rattle.notebook_meaning.proofs.Written.{text_alike, has_text, tells, all_bounded}
 use Rattle.notebook_engine.specs.Laws.{is_graph}
 use Rattle.notebook_engine.proofs.Packed.{graph_of, stuck_packs}
 use Rattle.notebook_engine.proofs.notebook.Notebook.packed.Goals as goal
@@ -44,3 +44,20 @@ returns-in-Ok-write_checkpoint c = λ served h.
         text = c.in-Ok-write_checkpoint.ensures.bytes ∙ text_alike cells g n.kernel.state session p;
       },
     )
+
+pub write_checkpoint-requires-clause-session : goal.write_checkpoint-requires-clause-session
+write_checkpoint-requires-clause-session c =
+    let n = c.args.self.now in
+    let cells = c.requires.0 in
+    let h = c.requires.1 in
+    let g = c.graph-graph.result.now in
+    tells cells h.codes g (subst (λ (k : Graph). IsGraphOf cells k) (sym c.graph-graph.ensures) (graph_of n cells h)) n.kernel.state
+    (subst (λ (k : Graph). StandsFor read size_of cells k n.kernel.state) (sym c.graph-graph.ensures) h.session)
+
+pub write_checkpoint-requires-clause-cells : goal.write_checkpoint-requires-clause-cells
+write_checkpoint-requires-clause-cells c =
+    let n = c.args.self.now in
+    let cells = c.requires.0 in
+    let h = c.requires.1 in
+    let g = c.graph-graph.result.now in
+    all_bounded cells h.codes g (subst (λ (k : Graph). IsGraphOf cells k) (sym c.graph-graph.ensures) (graph_of n cells h))

@@ -1,6 +1,0 @@
-use Rattle.std.proofs.Common.{◌≡◌}
-use Rattle.made_stream.specs.Made.{stream}
-use Rattle.made_stream.proofs.stream.frames.Given as goal
-
-abbrev pub invariant-loop-before : goal.invariant-loop-before
-invariant-loop-before l = l.out.items ≡ stream l.before

@@ -1,0 +1,10 @@
+pub mod Interleaving
+pub mod Fronts
+pub mod Pieces
+pub mod Sendings
+pub mod Tellings
+pub mod Ending
+pub mod Serving
+pub mod Closings
+pub mod Passing
+pub mod Doors
