@@ -1,0 +1,9 @@
+pub mod Beyond
+pub mod Cells
+pub mod Deep
+pub mod Following
+pub mod Heard
+pub mod Moves
+pub mod Parts
+pub mod Texts
+pub mod Trees

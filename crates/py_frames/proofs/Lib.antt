@@ -1,0 +1,13 @@
+pub mod Begins
+pub mod Closed
+pub mod Ended
+pub mod Forced
+pub mod Pending
+pub mod Rows
+pub mod Seen
+pub mod Sides
+pub mod Stepped
+pub mod Targets
+pub mod Trees
+pub mod Outermost
+pub mod Wholes

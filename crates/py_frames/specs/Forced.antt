@@ -1,0 +1,114 @@
+-- What a text forces that has been read up to here: the places of its parts, whatever comes.
+use Rattle.std.specs.Prelude.{ℕ, zero, suc, ◌≤◌, max, Bool, true, false, ◌&&◌, if◌then◌else◌, List, [], ◌∷◌, drop, Option, Some, None}
+use Rattle.py_frames.specs.declared.frames.Frame.{Frame}
+use Rattle.py_token.specs.declared.kinds.Kind.{Kind}
+use Rattle.py_token.specs.declared.kinds.Kind.TheVariants as t
+use Rattle.py_grammar.specs.Words.{else_word, in_word, none_word, open_parenthesis, close_parenthesis, close_bracket, close_brace, colon}
+use Rattle.py_frames.specs.declared.frames.Chain.{Chain}
+use Rattle.py_frames.specs.declared.frames.Value.{Value}
+use Rattle.py_frames.specs.declared.frames.Hole.{Hole}
+use Rattle.py_frames.specs.declared.frames.Hole.TheVariants as h
+use Rattle.py_frames.specs.declared.frames.State.{State}
+use Rattle.py_frames.specs.declared.frames.State.TheVariants.{Wants, Has, Compared, AfterIs, AfterIsNot, AfterNot, AfterDot, AfterMethod}
+use Rattle.py_frames.specs.Values.{places, beside}
+
+-- each frame is a part
+abbrev pub forced_in : List Frame → List ℕ → List ℕ
+forced_in [] inner = inner
+forced_in (f ∷ fs) inner = forced_in fs (f.from ∷ beside f.under inner)
+
+abbrev pub forced : State → List ℕ
+forced (Wants fs) = forced_in fs []
+forced (Has fs v) = forced_in fs (places v)
+forced (Compared fs c) = forced_in fs (c.from ∷ c.under)
+forced (AfterIs fs c) = forced_in fs (c.from ∷ c.under)
+forced (AfterIsNot fs c) = forced_in fs (c.from ∷ c.under)
+forced (AfterNot fs c) = forced_in fs (c.from ∷ c.under)
+forced (AfterDot fs v) = forced_in fs (v.from ∷ places v)
+forced (AfterMethod fs v n) = forced_in fs (v.from ∷ places v)
+
+-- where it first gets that deep or deeper, if it does: as a number of tokens left, and 0 if it doesn't
+abbrev pub reach : List ℕ → ℕ → ℕ
+reach [] d = 0
+reach (x ∷ p) zero = max x (reach p zero)
+reach (x ∷ p) (suc d) = reach p d
+
+-- at each depth the second gets so deep no later
+pub record Sooner (p q : List ℕ) : Type 0 where
+  pub each : (d : ℕ) → reach p d ≤ reach q d
+
+-- in the next state, if there is one
+abbrev pub Grows : List ℕ → Option State → Type 0
+Grows p None = Unit {0}
+Grows p (Some s) = Sooner p (forced s)
+
+-- and no earlier, but for what begins at this place or later
+pub record AddsAt (at : ℕ) (p q : List ℕ) : Type 0 where
+  pub each : (d : ℕ) → reach q d ≤ max at (reach p d)
+
+abbrev pub Adds : ℕ → List ℕ → Option State → Type 0
+Adds at p None = Unit {0}
+Adds at p (Some s) = AddsAt at p (forced s)
+
+-- the tokens by which what is open can be ended: each goes on to a whole expression, and begins no part before itself
+pub data Ending : State → Kind → Type 0 where
+  a_name : (fs : List Frame) (n : List ℕ) → Ending (Wants fs) (t.Name n)
+  no_args : (fs : List Frame) → Ending (Wants fs) close_parenthesis
+  parenthesis : (fs : List Frame) (v : Value) → Ending (Has fs v) close_parenthesis
+  bracket : (fs : List Frame) (v : Value) → Ending (Has fs v) close_bracket
+  brace : (fs : List Frame) (v : Value) → Ending (Has fs v) close_brace
+  otherwise : (fs : List Frame) (v : Value) → Ending (Has fs v) else_word
+  key : (fs : List Frame) (v : Value) → Ending (Has fs v) colon
+  no_value : (fs : List Frame) (c : Chain) → Ending (AfterIs fs c) none_word
+  not_no_value : (fs : List Frame) (c : Chain) → Ending (AfterIsNot fs c) none_word
+  within : (fs : List Frame) (c : Chain) → Ending (AfterNot fs c) in_word
+  a_method : (fs : List Frame) (v : Value) (n : List ℕ) → Ending (AfterDot fs v) (t.Name n)
+  called : (fs : List Frame) (v : Value) (n : List ℕ) → Ending (AfterMethod fs v n) open_parenthesis
+
+-- ---- where targets may come: neither a target nor a list of them is a part
+
+abbrev pub node : Frame → List ℕ → List ℕ
+node f inner = f.from ∷ beside f.under inner
+
+-- what it fills is an operand, which may go on to an item
+abbrev pub bare : Hole → Bool
+bare h.Group = true
+bare (h.Display xs) = true
+bare (h.Call f xs) = true
+bare (h.Method p n xs) = true
+bare (h.Slice p b) = true
+bare (h.Dict ps) = true
+bare (h.Pair ps k) = true
+bare _ = false
+
+abbrev pub is_nil : List Frame → Bool
+is_nil [] = true
+is_nil (f ∷ fs) = false
+
+-- of what is in the frame it is known whether it is an operand alone, and its places if it is a target and if it is none
+abbrev pub around : Hole → Frame → Bool → Bool → List ℕ → List ℕ → (Bool → List ℕ → List ℕ → List ℕ) → List ℕ
+around (h.Tuple xs may) f true operand loose tight outer = if may && operand then beside (drop 1 f.under) loose else node f tight
+around (h.Index p) f last operand loose tight outer = outer true (beside f.under tight) (node f tight)
+around hole f last operand loose tight outer = outer (bare hole) (node f tight) (node f tight)
+
+abbrev pub pending_in : List Frame → Bool → List ℕ → List ℕ → List ℕ
+pending_in [] operand loose tight = if operand then loose else tight
+pending_in (f ∷ fs) operand loose tight = around f.hole f (is_nil fs) operand loose tight (pending_in fs)
+
+-- the places if it is a target
+abbrev pub loose : Value → List ℕ
+loose v = if v.target then v.under else places v
+
+abbrev pub pending : State → List ℕ
+pending (Wants fs) = pending_in fs true [] []
+pending (Has fs v) = pending_in fs true (loose v) (places v)
+pending (Compared fs c) = pending_in fs false (c.from ∷ c.under) (c.from ∷ c.under)
+pending (AfterIs fs c) = pending_in fs false (c.from ∷ c.under) (c.from ∷ c.under)
+pending (AfterIsNot fs c) = pending_in fs false (c.from ∷ c.under) (c.from ∷ c.under)
+pending (AfterNot fs c) = pending_in fs false (c.from ∷ c.under) (c.from ∷ c.under)
+pending (AfterDot fs v) = pending_in fs true (v.from ∷ places v) (v.from ∷ places v)
+pending (AfterMethod fs v n) = pending_in fs true (v.from ∷ places v) (v.from ∷ places v)
+
+abbrev pub PendingGrows : List ℕ → Option State → Type 0
+PendingGrows p None = Unit {0}
+PendingGrows p (Some s) = Sooner p (pending s)
