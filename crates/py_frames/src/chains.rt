@@ -103,49 +103,6 @@ fn begin_arithmetic(
     put(frames, Frame { from, under, hole })
 }
 
-/// The innermost part is a sum or a product: it goes on, or one begins in it.
-fn arithmetic_after(
-    alloc: Global,
-    product: bool,
-    op: Op,
-    frames: Nest<Frame>,
-    value: Value,
-    from: usize,
-    under: Places,
-    same: bool,
-    first: Expr,
-    rest: Items<Operand>,
-    before: Op,
-) -> Result<Nest<Frame>, AllocError>
-    ensures { IfOk result (λ all. all ≡ arithmetic_in product op (h.Arithmetic same first rest before) (record { from = from; under = under; hole = h.Arithmetic same first rest before }) frames value) }
-{
-    if same != product {
-        let hole = Hole::Arithmetic {
-            product: same,
-            first,
-            rest,
-            op: before,
-        };
-        let frames = put(frames, Frame { from, under, hole })?;
-        return begin_arithmetic(alloc, product, op, frames, value);
-    }
-    let Value {
-        tree,
-        from: inner,
-        under: below,
-        ..
-    } = value;
-    let under = join(under, inner, below)?;
-    let rest = operate(rest, before, tree)?;
-    let hole = Hole::Arithmetic {
-        product,
-        first,
-        rest,
-        op,
-    };
-    put(frames, Frame { from, under, hole })
-}
-
 /// A sign of a sum or of a product after what comes before it.
 pub fn arithmetic(
     alloc: Global,
@@ -157,21 +114,28 @@ pub fn arithmetic(
     ensures { IfOk result (λ all. all ≡ arithmetic product op frames value) }
 {
     match frames.pop() {
-        None => begin_arithmetic(alloc, product, op, frames, value),
-        Some(Frame { from, under, hole }) => match hole {
-            Hole::Arithmetic {
+        Some(Frame {
+            from,
+            under,
+            hole: Hole::Arithmetic {
                 product: same,
                 first,
                 rest,
                 op: before,
-            } => arithmetic_after(
-                alloc, product, op, frames, value, from, under, same, first, rest, before,
-            ),
-            hole => {
-                let frames = put(frames, Frame { from, under, hole })?;
-                begin_arithmetic(alloc, product, op, frames, value)
-            }
-        },
+            },
+        }) if same == product => {
+            let rest = operate(rest, before, value.tree)?;
+            let under = join(under, value.from, value.under)?;
+            let hole = Hole::Arithmetic {
+                product,
+                first,
+                rest,
+                op,
+            };
+            put(frames, Frame { from, under, hole })
+        }
+        Some(frame) => begin_arithmetic(alloc, product, op, put(frames, frame)?, value),
+        None => begin_arithmetic(alloc, product, op, frames, value),
     }
 }
 

@@ -1,5 +1,5 @@
 //! What ends, and what goes on.
-ghost use Rattle.std.specs.Prelude.{◌≡◌, [], ◌∷◌, ◌++◌, true, false, IfOk, Some, None};
+ghost use Rattle.std.specs.Prelude.{◌≡◌, [], ◌∷◌, ◌++◌, true, false, if◌then◌else◌, IfOk, Some, None};
 ghost use Rattle.py_tree.specs.declared.expressions.Expr.TheVariants as e;
 ghost use Rattle.py_tree.specs.declared.expressions.Literal.TheVariants as literal;
 ghost use Rattle.py_tree.specs.declared.expressions.Relation.TheVariants.{With};
@@ -8,7 +8,7 @@ ghost use Rattle.py_frames.specs.Values.{beside, kept, made, level, filled, empt
 use crate::frames::{Chain, Frame, Hole, Value};
 use crate::nest::Nest;
 use crate::places::Places;
-use plain_data::{Boxed, Items};
+use plain_data::{Boxed, Items, Text};
 use py_tree::{Expr, Literal, Op, Operand, Pair, Relation};
 use std::alloc::{AllocError, Global};
 use std::mem::drop;
@@ -78,110 +78,148 @@ pub fn pair(mut pairs: Items<Pair>, key: Expr, value: Expr) -> Result<Items<Pair
     Ok(pairs)
 }
 
+/// `yes if test else no`
+fn conditional(alloc: Global, yes: Expr, test: Expr, no: Expr) -> Result<Expr, AllocError>
+    ensures { IfOk result (λ whole. whole ≡ e.Conditional test yes no) }
+{
+    Ok(Expr::Conditional {
+        test: Boxed::new(alloc, test)?,
+        yes: Boxed::new(alloc, yes)?,
+        no: Boxed::new(alloc, no)?,
+    })
+}
+
+/// `a < b is None`
+fn compare(alloc: Global, first: Expr, rest: Items<Relation>) -> Result<Expr, AllocError>
+    ensures { IfOk result (λ whole. whole ≡ e.Compare first rest) }
+{
+    Ok(Expr::Compare {
+        first: Boxed::new(alloc, first)?,
+        rest,
+    })
+}
+
+/// `a + b - c`, or `a * b // c`
+fn calculate(
+    alloc: Global,
+    product: bool,
+    first: Expr,
+    rest: Items<Operand>,
+) -> Result<Expr, AllocError>
+    ensures { IfOk result (λ whole. whole ≡ (if product then e.Product first rest else e.Sum first rest)) }
+{
+    let first = Boxed::new(alloc, first)?;
+    Ok(if product {
+        Expr::Product { first, rest }
+    } else {
+        Expr::Sum { first, rest }
+    })
+}
+
+/// `-a` or `+a`
+fn sign(alloc: Global, minus: bool, value: Expr) -> Result<Expr, AllocError>
+    ensures { IfOk result (λ whole. whole ≡ e.Sign minus value) }
+{
+    Ok(Expr::Sign {
+        minus,
+        value: Boxed::new(alloc, value)?,
+    })
+}
+
+/// `a(b, c)`
+fn call(alloc: Global, callee: Expr, args: Items<Expr>) -> Result<Expr, AllocError>
+    ensures { IfOk result (λ whole. whole ≡ e.Call callee args) }
+{
+    Ok(Expr::Call {
+        callee: Boxed::new(alloc, callee)?,
+        args,
+    })
+}
+
+/// `a.name(b, c)`
+fn method(alloc: Global, value: Expr, name: Text, args: Items<Expr>) -> Result<Expr, AllocError>
+    ensures { IfOk result (λ whole. whole ≡ e.Method value name args) }
+{
+    Ok(Expr::Method {
+        value: Boxed::new(alloc, value)?,
+        name,
+        args,
+    })
+}
+
+/// `a[b]`
+fn item(alloc: Global, value: Expr, at: Expr) -> Result<Expr, AllocError>
+    ensures { IfOk result (λ whole. whole ≡ e.Index value at) }
+{
+    Ok(Expr::Index {
+        value: Boxed::new(alloc, value)?,
+        at: Boxed::new(alloc, at)?,
+    })
+}
+
+/// `a[b:c]`
+fn slice(
+    alloc: Global,
+    value: Expr,
+    from: Option<Boxed<Expr>>,
+    to: Option<Boxed<Expr>>,
+) -> Result<Expr, AllocError>
+    ensures { IfOk result (λ whole. whole ≡ e.Slice value from to) }
+{
+    Ok(Expr::Slice {
+        value: Boxed::new(alloc, value)?,
+        from,
+        to,
+    })
+}
+
 /// The tree with its hole filled.
 fn fill(alloc: Global, hole: Hole, tree: Expr) -> Result<Expr, AllocError>
     ensures { IfOk result (λ whole. whole ≡ filled hole tree) }
 {
-    Ok(match hole {
-        Hole::Chooses { yes, test } => Expr::Conditional {
-            test: Boxed::new(alloc, test)?,
-            yes: Boxed::new(alloc, yes)?,
-            no: Boxed::new(alloc, tree)?,
-        },
+    match hole {
+        Hole::Chooses { yes, test } => conditional(alloc, yes, test, tree),
         Hole::Logic { and, before } => {
             let all = all_with(before, tree)?;
-            if and { Expr::And(all) } else { Expr::Or(all) }
+            Ok(if and { Expr::And(all) } else { Expr::Or(all) })
         }
-        Hole::Not => Expr::Not(Boxed::new(alloc, tree)?),
-        Hole::Compare { first, rest, op } => Expr::Compare {
-            first: Boxed::new(alloc, first)?,
-            rest: relate(rest, op, tree)?,
-        },
+        Hole::Not => Ok(Expr::Not(Boxed::new(alloc, tree)?)),
+        Hole::Compare { first, rest, op } => compare(alloc, first, relate(rest, op, tree)?),
         Hole::Arithmetic {
             product,
             first,
             rest,
             op,
-        } => {
-            let first = Boxed::new(alloc, first)?;
-            let rest = operate(rest, op, tree)?;
-            if product {
-                Expr::Product { first, rest }
-            } else {
-                Expr::Sum { first, rest }
-            }
-        }
-        Hole::Sign { minus } => Expr::Sign {
-            minus,
-            value: Boxed::new(alloc, tree)?,
-        },
-        Hole::Tuple {
-            before,
-            targets: _targets,
-        } => Expr::TupleOf(all_with(before, tree)?),
-        Hole::Display(before) => Expr::ListOf(all_with(before, tree)?),
-        Hole::Call { callee, args } => Expr::Call {
-            callee: Boxed::new(alloc, callee)?,
-            args: all_with(args, tree)?,
-        },
-        Hole::Method { value, name, args } => Expr::Method {
-            value: Boxed::new(alloc, value)?,
-            name,
-            args: all_with(args, tree)?,
-        },
-        Hole::Index(value) => Expr::Index {
-            value: Boxed::new(alloc, value)?,
-            at: Boxed::new(alloc, tree)?,
-        },
-        Hole::Slice { value, start } => Expr::Slice {
-            value: Boxed::new(alloc, value)?,
-            from: start,
-            to: Some(Boxed::new(alloc, tree)?),
-        },
-        Hole::Pair { before, key } => Expr::DictOf(pair(before, key, tree)?),
-        Hole::Picks(_yes) => tree,
-        Hole::Group => tree,
-        Hole::Dict(_pairs) => tree,
-    })
-}
-
-fn nothing() -> Expr
-    ensures { result ≡ e.Literal literal.Nothing }
-{
-    Expr::Literal(Literal::Nothing)
+        } => calculate(alloc, product, first, operate(rest, op, tree)?),
+        Hole::Sign { minus } => sign(alloc, minus, tree),
+        Hole::Tuple { before, .. } => Ok(Expr::TupleOf(all_with(before, tree)?)),
+        Hole::Display(before) => Ok(Expr::ListOf(all_with(before, tree)?)),
+        Hole::Call { callee, args } => call(alloc, callee, all_with(args, tree)?),
+        Hole::Method { value, name, args } => method(alloc, value, name, all_with(args, tree)?),
+        Hole::Index(value) => item(alloc, value, tree),
+        Hole::Slice { value, start } => slice(alloc, value, start, Some(Boxed::new(alloc, tree)?)),
+        Hole::Pair { before, key } => Ok(Expr::DictOf(pair(before, key, tree)?)),
+        Hole::Picks(_) | Hole::Group | Hole::Dict(_) => Ok(tree),
+    }
 }
 
 /// The tree that ends before its hole is filled.
 fn empty(alloc: Global, hole: Hole) -> Result<Expr, AllocError>
     ensures { IfOk result (λ whole. whole ≡ emptied hole) }
 {
-    Ok(match hole {
-        Hole::Group => Expr::TupleOf(Items::new(alloc)),
-        Hole::Tuple {
-            before,
-            targets: _targets,
-        } => Expr::TupleOf(before),
-        Hole::Display(before) => Expr::ListOf(before),
-        Hole::Call { callee, args } => Expr::Call {
-            callee: Boxed::new(alloc, callee)?,
-            args,
-        },
-        Hole::Method { value, name, args } => Expr::Method {
-            value: Boxed::new(alloc, value)?,
-            name,
-            args,
-        },
-        Hole::Slice { value, start } => Expr::Slice {
-            value: Boxed::new(alloc, value)?,
-            from: start,
-            to: None,
-        },
-        Hole::Dict(pairs) => Expr::DictOf(pairs),
+    match hole {
+        Hole::Group => Ok(Expr::TupleOf(Items::new(alloc))),
+        Hole::Tuple { before, .. } => Ok(Expr::TupleOf(before)),
+        Hole::Display(before) => Ok(Expr::ListOf(before)),
+        Hole::Call { callee, args } => call(alloc, callee, args),
+        Hole::Method { value, name, args } => method(alloc, value, name, args),
+        Hole::Slice { value, start } => slice(alloc, value, start, None),
+        Hole::Dict(pairs) => Ok(Expr::DictOf(pairs)),
         other => {
             drop(other);
-            nothing()
+            Ok(Expr::Literal(Literal::Nothing))
         }
-    })
+    }
 }
 
 pub fn made(from: usize, under: Places, target: bool, tree: Expr) -> Value

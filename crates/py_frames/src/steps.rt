@@ -131,27 +131,42 @@ fn chain(alloc: Global, and: bool, frames: Nest<Frame>, value: Value) -> Result<
     Ok(State::Wants(frames))
 }
 
+/// `and`, `or`, `if` or `else` after an expression.
+fn behind_word(
+    alloc: Global,
+    frames: Nest<Frame>,
+    value: Value,
+    word: Keyword,
+) -> Result<State, Stop>
+    ensures { Gives result (behind frames value (t.Keyword word)) }
+{
+    match word {
+        Keyword::And => {
+            let (frames, value) = closes(alloc, 5, frames, value)?;
+            chain(alloc, true, frames, value)
+        }
+        Keyword::Or => {
+            let (frames, value) = closes(alloc, 4, frames, value)?;
+            chain(alloc, false, frames, value)
+        }
+        Keyword::If => {
+            let (frames, value) = closes(alloc, 3, frames, value)?;
+            begin_choice(alloc, frames, value)
+        }
+        Keyword::Else => {
+            let (frames, value) = closes(alloc, 3, frames, value)?;
+            choose(frames, value)
+        }
+        _ => Err(Stop::Refused),
+    }
+}
+
 /// After an expression, if it is no relation.
 fn behind(alloc: Global, frames: Nest<Frame>, value: Value, token: &Kind) -> Result<State, Stop>
     ensures { Gives result (behind frames value token.now) }
 {
     match token {
-        Kind::Keyword(Keyword::And) => {
-            let (frames, value) = closes(alloc, 5, frames, value)?;
-            chain(alloc, true, frames, value)
-        }
-        Kind::Keyword(Keyword::Or) => {
-            let (frames, value) = closes(alloc, 4, frames, value)?;
-            chain(alloc, false, frames, value)
-        }
-        Kind::Keyword(Keyword::If) => {
-            let (frames, value) = closes(alloc, 3, frames, value)?;
-            begin_choice(alloc, frames, value)
-        }
-        Kind::Keyword(Keyword::Else) => {
-            let (frames, value) = closes(alloc, 3, frames, value)?;
-            choose(frames, value)
-        }
+        Kind::Keyword(word) => behind_word(alloc, frames, value, *word),
         Kind::Symbol(Symbol::CloseParenthesis) => {
             let (frames, value) = closes(alloc, 2, frames, value)?;
             close_parenthesis(alloc, frames, value)

@@ -176,15 +176,13 @@ abbrev pub in_cell : Cell → ℕ → List ℕ
 in_cell None d = []
 in_cell (Some ss) d = in_statements ss (t.End ∷ []) d
 
--- where those at depth 65 begin
-abbrev pub too_deep : Cell → List ℕ
-too_deep c = in_cell c 64
-
--- a cell is too deep, and the first part at depth 65 begins after this many tokens
+-- a cell is too deep: the first of its parts that are deeper than 64 begins after this many tokens
 pub record IsTooDeep (c : Cell) (place : ℕ) : Type 0 where
+  pub depth : ℕ
+  pub deep : 64 ≤ depth
   pub left : ℕ
-  pub begins : Contains (too_deep c) left
-  pub first : All (λ other. other ≤ left) (too_deep c)
+  pub begins : Contains (in_cell c depth) left
+  pub first : (other : ℕ) → 64 ≤ other → All (λ o. o ≤ left) (in_cell c other)
   pub is_place : place + left ≡ length (spelling c)
 
 -- the tokens are too deep at this place of theirs: each cell that begins with them is too deep there or earlier, and one is just there
