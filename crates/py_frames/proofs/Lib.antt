@@ -1,8 +1,8 @@
 pub mod Begins
 pub mod Closed
 pub mod Ended
+pub mod Endings
 pub mod Forced
-pub mod Pending
 pub mod Rows
 pub mod Seen
 pub mod Sides

@@ -1,5 +1,5 @@
 -- What a text forces that has been read up to here: the places of its parts, whatever comes.
-use Rattle.std.specs.Prelude.{ℕ, zero, suc, ◌≤◌, max, Bool, true, false, ◌&&◌, if◌then◌else◌, List, [], ◌∷◌, drop, Option, Some, None}
+use Rattle.std.specs.Prelude.{◌≡◌, ℕ, zero, suc, ◌≤◌, max, Bool, true, false, not, ◌&&◌, if◌then◌else◌, List, [], ◌∷◌, drop, Option, Some, None}
 use Rattle.py_frames.specs.declared.frames.Frame.{Frame}
 use Rattle.py_token.specs.declared.kinds.Kind.{Kind}
 use Rattle.py_token.specs.declared.kinds.Kind.TheVariants as t
@@ -10,63 +10,11 @@ use Rattle.py_frames.specs.declared.frames.Hole.{Hole}
 use Rattle.py_frames.specs.declared.frames.Hole.TheVariants as h
 use Rattle.py_frames.specs.declared.frames.State.{State}
 use Rattle.py_frames.specs.declared.frames.State.TheVariants.{Wants, Has, Compared, AfterIs, AfterIsNot, AfterNot, AfterDot, AfterMethod}
-use Rattle.py_frames.specs.Values.{places, beside}
+use Rattle.py_frames.specs.declared.seeing.Sight.{Sight}
+use Rattle.py_frames.specs.Values.{places, beside, closes}
+use Rattle.py_frames.specs.Ends.{is_tuple}
 
--- each frame is a part
-abbrev pub forced_in : List Frame → List ℕ → List ℕ
-forced_in [] inner = inner
-forced_in (f ∷ fs) inner = forced_in fs (f.from ∷ beside f.under inner)
-
-abbrev pub forced : State → List ℕ
-forced (Wants fs) = forced_in fs []
-forced (Has fs v) = forced_in fs (places v)
-forced (Compared fs c) = forced_in fs (c.from ∷ c.under)
-forced (AfterIs fs c) = forced_in fs (c.from ∷ c.under)
-forced (AfterIsNot fs c) = forced_in fs (c.from ∷ c.under)
-forced (AfterNot fs c) = forced_in fs (c.from ∷ c.under)
-forced (AfterDot fs v) = forced_in fs (v.from ∷ places v)
-forced (AfterMethod fs v n) = forced_in fs (v.from ∷ places v)
-
--- where it first gets that deep or deeper, if it does: as a number of tokens left, and 0 if it doesn't
-abbrev pub reach : List ℕ → ℕ → ℕ
-reach [] d = 0
-reach (x ∷ p) zero = max x (reach p zero)
-reach (x ∷ p) (suc d) = reach p d
-
--- at each depth the second gets so deep no later
-pub record Sooner (p q : List ℕ) : Type 0 where
-  pub each : (d : ℕ) → reach p d ≤ reach q d
-
--- in the next state, if there is one
-abbrev pub Grows : List ℕ → Option State → Type 0
-Grows p None = Unit {0}
-Grows p (Some s) = Sooner p (forced s)
-
--- and no earlier, but for what begins at this place or later
-pub record AddsAt (at : ℕ) (p q : List ℕ) : Type 0 where
-  pub each : (d : ℕ) → reach q d ≤ max at (reach p d)
-
-abbrev pub Adds : ℕ → List ℕ → Option State → Type 0
-Adds at p None = Unit {0}
-Adds at p (Some s) = AddsAt at p (forced s)
-
--- the tokens by which what is open can be ended: each goes on to a whole expression, and begins no part before itself
-pub data Ending : State → Kind → Type 0 where
-  a_name : (fs : List Frame) (n : List ℕ) → Ending (Wants fs) (t.Name n)
-  no_args : (fs : List Frame) → Ending (Wants fs) close_parenthesis
-  parenthesis : (fs : List Frame) (v : Value) → Ending (Has fs v) close_parenthesis
-  bracket : (fs : List Frame) (v : Value) → Ending (Has fs v) close_bracket
-  brace : (fs : List Frame) (v : Value) → Ending (Has fs v) close_brace
-  otherwise : (fs : List Frame) (v : Value) → Ending (Has fs v) else_word
-  key : (fs : List Frame) (v : Value) → Ending (Has fs v) colon
-  no_value : (fs : List Frame) (c : Chain) → Ending (AfterIs fs c) none_word
-  not_no_value : (fs : List Frame) (c : Chain) → Ending (AfterIsNot fs c) none_word
-  within : (fs : List Frame) (c : Chain) → Ending (AfterNot fs c) in_word
-  a_method : (fs : List Frame) (v : Value) (n : List ℕ) → Ending (AfterDot fs v) (t.Name n)
-  called : (fs : List Frame) (v : Value) (n : List ℕ) → Ending (AfterMethod fs v n) open_parenthesis
-
--- ---- where targets may come: neither a target nor a list of them is a part
-
+-- each frame is a part; but where targets may come, neither a target nor a list of them is one
 abbrev pub node : Frame → List ℕ → List ℕ
 node f inner = f.from ∷ beside f.under inner
 
@@ -86,29 +34,94 @@ is_nil [] = true
 is_nil (f ∷ fs) = false
 
 -- of what is in the frame it is known whether it is an operand alone, and its places if it is a target and if it is none
-abbrev pub around : Hole → Frame → Bool → Bool → List ℕ → List ℕ → (Bool → List ℕ → List ℕ → List ℕ) → List ℕ
-around (h.Tuple xs may) f true operand loose tight outer = if may && operand then beside (drop 1 f.under) loose else node f tight
-around (h.Index p) f last operand loose tight outer = outer true (beside f.under tight) (node f tight)
-around hole f last operand loose tight outer = outer (bare hole) (node f tight) (node f tight)
+abbrev pub around : Bool → Hole → Frame → Bool → Bool → List ℕ → List ℕ → (Bool → List ℕ → List ℕ → List ℕ) → List ℕ
+around targets (h.Tuple xs may) f true operand loose tight outer = if (targets && may) && operand then beside (drop 1 f.under) loose else node f tight
+around targets (h.Index p) f last operand loose tight outer = outer true (beside f.under tight) (node f tight)
+around targets hole f last operand loose tight outer = outer (bare hole) (node f tight) (node f tight)
 
-abbrev pub pending_in : List Frame → Bool → List ℕ → List ℕ → List ℕ
-pending_in [] operand loose tight = if operand then loose else tight
-pending_in (f ∷ fs) operand loose tight = around f.hole f (is_nil fs) operand loose tight (pending_in fs)
+abbrev pub forced_in : Bool → List Frame → Bool → List ℕ → List ℕ → List ℕ
+forced_in targets [] operand loose tight = if targets && operand then loose else tight
+forced_in targets (f ∷ fs) operand loose tight = around targets f.hole f (is_nil fs) operand loose tight (forced_in targets fs)
 
 -- the places if it is a target
 abbrev pub loose : Value → List ℕ
 loose v = if v.target then v.under else places v
 
-abbrev pub pending : State → List ℕ
-pending (Wants fs) = pending_in fs true [] []
-pending (Has fs v) = pending_in fs true (loose v) (places v)
-pending (Compared fs c) = pending_in fs false (c.from ∷ c.under) (c.from ∷ c.under)
-pending (AfterIs fs c) = pending_in fs false (c.from ∷ c.under) (c.from ∷ c.under)
-pending (AfterIsNot fs c) = pending_in fs false (c.from ∷ c.under) (c.from ∷ c.under)
-pending (AfterNot fs c) = pending_in fs false (c.from ∷ c.under) (c.from ∷ c.under)
-pending (AfterDot fs v) = pending_in fs true (v.from ∷ places v) (v.from ∷ places v)
-pending (AfterMethod fs v n) = pending_in fs true (v.from ∷ places v) (v.from ∷ places v)
+-- the places at each depth, whatever comes; whether targets may come
+abbrev pub forced : Bool → State → List ℕ
+forced targets (Wants fs) = forced_in targets fs true [] []
+forced targets (Has fs v) = forced_in targets fs true (loose v) (places v)
+forced targets (Compared fs c) = forced_in targets fs false (c.from ∷ c.under) (c.from ∷ c.under)
+forced targets (AfterIs fs c) = forced_in targets fs false (c.from ∷ c.under) (c.from ∷ c.under)
+forced targets (AfterIsNot fs c) = forced_in targets fs false (c.from ∷ c.under) (c.from ∷ c.under)
+forced targets (AfterNot fs c) = forced_in targets fs false (c.from ∷ c.under) (c.from ∷ c.under)
+forced targets (AfterDot fs v) = forced_in targets fs true (v.from ∷ places v) (v.from ∷ places v)
+forced targets (AfterMethod fs v n) = forced_in targets fs true (v.from ∷ places v) (v.from ∷ places v)
 
-abbrev pub PendingGrows : List ℕ → Option State → Type 0
-PendingGrows p None = Unit {0}
-PendingGrows p (Some s) = Sooner p (pending s)
+-- ---- what comes later
+
+-- where it first gets that deep or deeper, if it does: as a number of tokens left, and 0 if it doesn't
+abbrev pub reach : List ℕ → ℕ → ℕ
+reach [] d = 0
+reach (x ∷ p) zero = max x (reach p zero)
+reach (x ∷ p) (suc d) = reach p d
+
+-- at each depth the second gets so deep no later
+pub record Sooner (p q : List ℕ) : Type 0 where
+  pub each : (d : ℕ) → reach p d ≤ reach q d
+
+-- in the next state, if there is one
+abbrev pub Grows : Bool → List ℕ → Option State → Type 0
+Grows targets p None = Unit {0}
+Grows targets p (Some s) = Sooner p (forced targets s)
+
+-- when it ends
+abbrev pub EndsAs : List ℕ → Option Value → Type 0
+EndsAs p None = Unit {0}
+EndsAs p (Some v) = p ≡ places v
+
+abbrev pub EndsSooner : List ℕ → Option Value → Type 0
+EndsSooner p None = Unit {0}
+EndsSooner p (Some v) = Sooner p (places v)
+
+abbrev pub SeesSooner : List ℕ → Option Sight → Type 0
+SeesSooner p None = Unit {0}
+SeesSooner p (Some x) = Sooner p x.under
+
+-- and no earlier, but for what begins at this place or later
+pub record AddsAt (at : ℕ) (p q : List ℕ) : Type 0 where
+  pub each : (d : ℕ) → reach q d ≤ max at (reach p d)
+
+abbrev pub Adds : Bool → ℕ → List ℕ → Option State → Type 0
+Adds targets at p None = Unit {0}
+Adds targets at p (Some s) = AddsAt at p (forced targets s)
+
+-- a bracket is innermost, or a tuple in parentheses
+abbrev pub covered : List Frame → Bool
+covered [] = false
+covered (f ∷ fs) = not (is_tuple f.hole && is_nil fs)
+
+abbrev pub is_dict : Hole → Bool
+is_dict (h.Dict ps) = true
+is_dict _ = false
+
+-- a dict is innermost
+abbrev pub of_dict : List Frame → Bool
+of_dict [] = false
+of_dict (f ∷ fs) = is_dict f.hole
+
+-- the tokens by which what is open can be ended: each goes on to a whole expression, and begins no part before itself
+pub data Ending : State → Kind → Type 0 where
+  a_name : (fs : List Frame) (n : List ℕ) → Ending (Wants fs) (t.Name n)
+  no_args : (fs : List Frame) → Ending (Wants fs) close_parenthesis
+  parenthesis : (fs : List Frame) (v : Value) → Ending (Has fs v) close_parenthesis
+  bracket : (fs : List Frame) (v : Value) → Ending (Has fs v) close_bracket
+  brace : (fs : List Frame) (v : Value) → Ending (Has fs v) close_brace
+  otherwise : (fs : List Frame) (v : Value) → Ending (Has fs v) else_word
+  key : (fs : List Frame) (v : Value) → of_dict (closes 2 fs v).0 ≡ true → Ending (Has fs v) colon
+  related : (fs : List Frame) (c : Chain) → Ending (Compared fs c) in_word
+  no_value : (fs : List Frame) (c : Chain) → Ending (AfterIs fs c) none_word
+  not_no_value : (fs : List Frame) (c : Chain) → Ending (AfterIsNot fs c) none_word
+  within : (fs : List Frame) (c : Chain) → Ending (AfterNot fs c) in_word
+  a_method : (fs : List Frame) (v : Value) (n : List ℕ) → Ending (AfterDot fs v) (t.Name n)
+  called : (fs : List Frame) (v : Value) (n : List ℕ) → Ending (AfterMethod fs v n) open_parenthesis

@@ -1,4 +1,4 @@
-ghost use Rattle.std.specs.Prelude.{◌≡◌, is_some, ℕ, ◌<◌, List, ◌∷◌, length};
+ghost use Rattle.std.specs.Prelude.{◌≡◌, Bool, is_some, ℕ, ◌<◌, List, ◌∷◌, length};
 ghost use Rattle.py_token.specs.declared.kinds.Kind.{Kind};
 ghost use Rattle.py_grammar.specs.Expressions.{Expression, Exprs, spell_expression, spell_exprs};
 ghost use Rattle.py_grammar.specs.Trees.{tree_exprs};
@@ -9,7 +9,7 @@ ghost use Rattle.py_frames.specs.Held.{held, held_if};
 ghost use Rattle.py_frames.specs.Under.{all, under_exprs, first, nth};
 ghost use Rattle.py_frames.specs.Kept.{kept_exprs};
 ghost use Rattle.py_frames.specs.declared.frames.State as machine;
-ghost use Rattle.py_frames.specs.Forced.{forced, Grows, Ending, Adds, pending, PendingGrows};
+ghost use Rattle.py_frames.specs.Forced.{forced, Grows, Ending, Adds};
 ghost use Rattle.py_frames.specs.Targets.{sight, seen, seen_if, Agrees};
 ghost use Rattle.py_grammar.specs.Readings.{whole, narrow, undivided};
 ghost use Rattle.py_grammar.specs.States as states;
@@ -40,19 +40,15 @@ pub fn the_machine_sees_targets()
     ensures { (reading : Reading) (rest : List Kind) → sight (held reading rest) ≡ seen_if (whole reading) rest }
 {}
 
-/// What is forced stays forced: with one more token each depth is reached no later.
+/// What is forced stays forced: with one more token each depth is reached no later. What is read may still turn out to be targets,
+/// which are no parts.
 pub fn what_is_forced_stays_forced()
-    ensures { (state : machine.State) (token : Kind) (left : ℕ) → Grows (forced state) (step state token left) }
-{}
-
-/// The same where what is read may still turn out to be targets, which are no parts.
-pub fn what_is_forced_stays_forced_before_targets()
-    ensures { (state : machine.State) (token : Kind) (left : ℕ) → PendingGrows (pending state) (step state token left) }
+    ensures { (targets : Bool) (state : machine.State) (token : Kind) (left : ℕ) → Grows targets (forced targets state) (step state token left) }
 {}
 
 /// And no more is forced: by these tokens what is open ends, and none of them begins a part before itself.
 pub fn what_is_open_can_end_without_more()
-    ensures { (state : machine.State) (token : Kind) (left : ℕ) → Ending state token → Adds left (forced state) (step state token left) }
+    ensures { (targets : Bool) (state : machine.State) (token : Kind) (left : ℕ) → Ending state token → Adds targets left (forced targets state) (step state token left) }
 {}
 
 /// The targets that it sees are those of the forms.
