@@ -5,5 +5,6 @@ pub mod Following
 pub mod Heard
 pub mod Moves
 pub mod Parts
+pub mod Sooner
 pub mod Texts
 pub mod Trees

@@ -1,5 +1,6 @@
 pub mod Blocks
 pub mod Follows
+pub mod Forced
 pub mod Heard
 pub mod Held
 pub mod Kept
