@@ -49,13 +49,18 @@ branch_closed os before b arm inner = h.Line os before (last.Branches (grown b a
 abbrev pub line_after : List Outer → Done → Stmt → ℕ → List ℕ → State
 line_after os before tree from under = h.Line os (add before tree from under) last.Other
 
+-- what a head and its block make, with the text of a function
+abbrev pub statement_of : Texts → ℕ → ℕ → Head → List Stmt → Stmt
+statement_of texts from left (head.Branch arms test) body = s.If (arms ++ record { test = test; body = body } ∷ []) []
+statement_of texts from left (head.Else arms) body = s.If arms body
+statement_of texts from left (head.While test) body = s.While test body
+statement_of texts from left (head.For names comma iterable) body = s.For names comma iterable body
+statement_of texts from left (head.Function name params) body = s.Function (roll-Def (record { name = name; params = params; body = body; source = texts from left }))
+
 -- a block ends, and with it its statement, or its branch
 abbrev pub closed_in : Texts → ℕ → Head → List Outer → Outer → Done → State
 closed_in texts left (head.Branch arms test) os o body = branch_closed os o.before (record { arms = arms; from = o.from; under = o.under }) (record { test = test; body = body.statements }) body.under
-closed_in texts left (head.Else arms) os o body = line_after os o.before (s.If arms body.statements) o.from (beside o.under body.under)
-closed_in texts left (head.While test) os o body = line_after os o.before (s.While test body.statements) o.from (beside o.under body.under)
-closed_in texts left (head.For names comma iterable) os o body = line_after os o.before (s.For names comma iterable body.statements) o.from (beside o.under body.under)
-closed_in texts left (head.Function name params) os o body = line_after os o.before (s.Function (roll-Def (record { name = name; params = params; body = body.statements; source = texts o.from left }))) o.from (beside o.under body.under)
+closed_in texts left hd os o body = line_after os o.before (statement_of texts o.from left hd body.statements) o.from (beside o.under body.under)
 
 abbrev pub closed : Texts → ℕ → List Outer → Outer → Done → State
 closed texts left os o body = closed_in texts left o.head os o body

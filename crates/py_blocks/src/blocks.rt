@@ -119,6 +119,49 @@ fn close_with(
     Ok(State::Line(outers, before, Last::Other))
 }
 
+/// What a head and its block make.
+fn statement(
+    alloc: Global,
+    code: &str,
+    tokens: &[Token],
+    from: usize,
+    left: usize,
+    head: Head,
+    body: Items<Stmt>,
+) -> Result<Stmt, AllocError>
+    ensures { IfOk result (λ tree. tree ≡ machine.statement_of (left_of code.now tokens.now) from left head body) }
+{
+    Ok(match head {
+        Head::Branch { mut arms, test } => {
+            arms.push(Arm { test, body })?;
+            let other = Items::new(alloc);
+            Stmt::If { arms, other }
+        }
+        Head::Else(arms) => Stmt::If { arms, other: body },
+        Head::While(test) => Stmt::While { test, body },
+        Head::For {
+            names,
+            comma,
+            iterable,
+        } => Stmt::For {
+            names,
+            comma,
+            iterable,
+            body,
+        },
+        Head::Function { name, params } => {
+            let source = text_left(alloc, code, tokens, from, left)?;
+            let def = Def {
+                name,
+                params,
+                body,
+                source,
+            };
+            Stmt::Function(Shared::new(alloc, def)?)
+        }
+    })
+}
+
 /// A block ends, and with it its statement, or its branch.
 pub fn close(
     alloc: Global,
@@ -151,42 +194,8 @@ pub fn close(
             };
             close_branch(outers, before, branches, arm, inner)
         }
-        Head::Else(arms) => {
-            let tree = Stmt::If {
-                arms,
-                other: statements,
-            };
-            close_with(outers, before, tree, from, under.beside(inner))
-        }
-        Head::While(test) => {
-            let tree = Stmt::While {
-                test,
-                body: statements,
-            };
-            close_with(outers, before, tree, from, under.beside(inner))
-        }
-        Head::For {
-            names,
-            comma,
-            iterable,
-        } => {
-            let tree = Stmt::For {
-                names,
-                comma,
-                iterable,
-                body: statements,
-            };
-            close_with(outers, before, tree, from, under.beside(inner))
-        }
-        Head::Function { name, params } => {
-            let source = text_left(alloc, code, tokens, from, left)?;
-            let def = Def {
-                name,
-                params,
-                body: statements,
-                source,
-            };
-            let tree = Stmt::Function(Shared::new(alloc, def)?);
+        other => {
+            let tree = statement(alloc, code, tokens, from, left, other, statements)?;
             close_with(outers, before, tree, from, under.beside(inner))
         }
     }

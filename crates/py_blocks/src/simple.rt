@@ -3,6 +3,7 @@ ghost use Rattle.std.specs.Prelude.{◌≡◌, List, [], ◌++◌, ◌∷◌, So
 ghost use Rattle.py_tree.specs.declared.statements.Stmt.TheVariants as tree;
 ghost use Rattle.py_frames.specs.Gives.{Gives};
 ghost use Rattle.py_frames.specs.Steps as expression;
+ghost use Rattle.py_frames.specs.Ends as endings;
 ghost use Rattle.py_frames.specs.Targets as targets;
 ghost use Rattle.py_blocks.specs.declared.state.Purpose.TheVariants.{Showing, Giving};
 ghost use Rattle.py_blocks.specs.Source.{left_of};
@@ -76,6 +77,40 @@ fn give(alloc: Global, reading: Reading) -> Result<(Stmt, Places), Stop>
     Ok((Stmt::Return(Some(value.tree)), under))
 }
 
+/// A value is assigned.
+fn store(alloc: Global, sight: Sight, reading: Reading) -> Result<(Stmt, Places), Stop>
+    ensures { Gives result (machine.assigned sight (endings.ended reading)) }
+{
+    let value = end(alloc, reading)?;
+    let under = sight.under.beside(places(value.from, value.under)?);
+    let tree = Stmt::Assign {
+        targets: sight.targets,
+        comma: sight.divided,
+        value: value.tree,
+    };
+    Ok((tree, under))
+}
+
+/// A value is put into what is augmented.
+fn update(
+    alloc: Global,
+    target: Target,
+    op: Op,
+    left: Places,
+    reading: Reading,
+) -> Result<(Stmt, Places), Stop>
+    ensures { Gives result (machine.augmented target op left (endings.ended reading)) }
+{
+    let value = end(alloc, reading)?;
+    let under = left.beside(places(value.from, value.under)?);
+    let tree = Stmt::Augment {
+        target,
+        op,
+        value: value.tree,
+    };
+    Ok((tree, under))
+}
+
 /// The simple statement, if it may end.
 fn finish(alloc: Global, purpose: Purpose, reading: Reading) -> Result<(Stmt, Places), Stop>
     ensures { Gives result (finished purpose reading) }
@@ -91,36 +126,8 @@ fn finish(alloc: Global, purpose: Purpose, reading: Reading) -> Result<(Stmt, Pl
             let (target, under) = place(alloc, reading)?;
             Ok((Stmt::Delete(target), under))
         }
-        Purpose::Assigning(
-            Sight {
-                targets,
-                divided,
-                under: left,
-            },
-        ) => {
-            let value = end(alloc, reading)?;
-            let under = left.beside(places(value.from, value.under)?);
-            let tree = Stmt::Assign {
-                targets,
-                comma: divided,
-                value: value.tree,
-            };
-            Ok((tree, under))
-        }
-        Purpose::Augmenting {
-            target,
-            op,
-            under: left,
-        } => {
-            let value = end(alloc, reading)?;
-            let under = left.beside(places(value.from, value.under)?);
-            let tree = Stmt::Augment {
-                target,
-                op,
-                value: value.tree,
-            };
-            Ok((tree, under))
-        }
+        Purpose::Assigning(sight) => store(alloc, sight, reading),
+        Purpose::Augmenting { target, op, under } => update(alloc, target, op, under, reading),
     }
 }
 

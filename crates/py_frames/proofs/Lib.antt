@@ -3,6 +3,7 @@ pub mod Closed
 pub mod Ended
 pub mod Endings
 pub mod Forced
+pub mod Moved
 pub mod Rows
 pub mod Seen
 pub mod Sides
