@@ -22,7 +22,7 @@ use Rattle.py_frames.specs.Targets.{sight}
 use Rattle.py_frames.specs.Forced as f
 use Rattle.py_frames.specs.Forced.{forced, reach, Sooner, EndsAs, EndsSooner, SeesSooner}
 use Rattle.py_frames.proofs.Forced.{same, and_then, none, cons, reach-beside, beside-grows, beside-none, step-grows}
-use Rattle.py_frames.proofs.Endings.{ended-as, ended-sooner, seen-sooner}
+use Rattle.py_frames.proofs.AtEnd.{ended-as, ended-sooner, seen-sooner}
 use Rattle.py_blocks.specs.declared.state.Begun.{Begun}
 use Rattle.py_blocks.specs.declared.state.Branches.{Branches}
 use Rattle.py_blocks.specs.declared.state.Done.{Done}

@@ -1,7 +1,7 @@
 pub mod Begins
 pub mod Closed
 pub mod Ended
-pub mod Endings
+pub mod AtEnd
 pub mod Forced
 pub mod Moved
 pub mod Rows
