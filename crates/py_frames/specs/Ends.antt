@@ -1,7 +1,5 @@
 -- What has been read, when it is to end: whether it may, what it is then, and what it begins.
 use Rattle.std.specs.Prelude.{ℕ, Bool, true, false, not, length, List, [], ◌∷◌, Option, Some, None}
-use Rattle.py_token.specs.declared.kinds.Kind.{Kind}
-use Rattle.py_grammar.specs.Expressions.{Exprs, single, tuple, tuple_comma, spell_exprs}
 use Rattle.py_frames.specs.declared.frames.Value.{Value}
 use Rattle.py_frames.specs.declared.frames.Frame.{Frame}
 use Rattle.py_frames.specs.declared.frames.Hole.{Hole}
@@ -12,9 +10,6 @@ use Rattle.py_frames.specs.Values.{close, shut, closes, finished}
 use Rattle.py_frames.specs.declared.endings.Colon.{Colon}
 use Rattle.py_frames.specs.declared.endings.Colon.TheVariants.{Goes, Ends}
 use Rattle.py_frames.specs.Steps.{with_both, ends_with, ends_at, colon_in, colon_at_in}
-use Rattle.py_frames.specs.Under.{under_exprs}
-use Rattle.py_frames.specs.Kept.{kept_exprs}
-use Rattle.py_frames.specs.Held.{target_expression}
 
 -- ---- the whole, if it may end
 
@@ -39,18 +34,6 @@ ended (Wants fs) = ended_at fs
 ended (Has fs v) = with_both (closes 2 fs v) ended_after
 ended (Compared fs c) = with_both (closes 2 fs (finished c)) ended_after
 ended _ = None
-
--- what the machine makes of a form
-abbrev pub target_exprs : Exprs → Bool
-target_exprs (single a) = target_expression a
-target_exprs _ = false
-
-abbrev pub value_exprs : Exprs → List Kind → Value
-value_exprs a rest = record { tree = kept_exprs a rest; from = length (spell_exprs a rest); under = under_exprs a rest; target = target_exprs a }
-
-abbrev pub value_if : Option Exprs → List Kind → Option Value
-value_if None rest = None
-value_if (Some a) rest = Some (value_exprs a rest)
 
 -- ---- what is outermost
 

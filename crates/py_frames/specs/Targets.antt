@@ -1,6 +1,5 @@
 -- What has been read, seen as targets: when a `=` comes.
 use Rattle.std.specs.Prelude.{◌≡◌, ℕ, ◌<◌, length, Bool, true, false, ◌&&◌, if◌then◌else◌, List, [], ◌∷◌, ◌++◌, map, drop, Option, Some, None}
-use Rattle.py_token.specs.declared.kinds.Kind.{Kind}
 use Rattle.py_tree.specs.declared.expressions.Expr.{Expr, out-Expr}
 use Rattle.py_tree.specs.declared.expressions.Expr.TheOpen.{Expr-F}
 use Rattle.py_tree.specs.declared.expressions.Relation.{Relation}
@@ -8,10 +7,8 @@ use Rattle.py_tree.specs.declared.expressions.Operand.{Operand}
 use Rattle.py_tree.specs.declared.expressions.Pair.{Pair}
 use Rattle.py_tree.specs.declared.expressions.Target.{Target}
 use Rattle.py_tree.specs.declared.expressions.Target.TheVariants as t
-use Rattle.py_grammar.specs.Words.{comma}
 use Rattle.py_grammar.specs.Statements.{Targets}
 use Rattle.py_grammar.specs.Trees.{tree_targets, targets_divided}
-use Rattle.py_grammar.specs.Expressions.{Exprs, single, tuple, tuple_comma, spell_expression}
 use Rattle.py_frames.specs.declared.seeing.Sight.{Sight}
 use Rattle.py_frames.specs.declared.frames.Value.{Value}
 use Rattle.py_frames.specs.declared.frames.Frame.{Frame}
@@ -21,9 +18,6 @@ use Rattle.py_frames.specs.declared.frames.State.{State}
 use Rattle.py_frames.specs.declared.frames.State.TheVariants.{Wants, Has, Compared}
 use Rattle.py_frames.specs.Values.{places, beside, closes, finished}
 use Rattle.py_frames.specs.Steps.{with_both}
-use Rattle.py_frames.specs.Under.{under_expression, under_exprs}
-use Rattle.py_frames.specs.Kept.{kept_expression, kept_elements}
-use Rattle.py_frames.specs.Held.{target_expression, target_elements}
 
 abbrev pub target_in : Expr-F Expr Relation Operand Pair → Target
 target_in (Expr-F.Name n) = t.Name n
@@ -61,16 +55,6 @@ sight (Wants fs) = sight_at fs
 sight (Has fs v) = with_both (closes 2 fs v) sight_after
 sight (Compared fs c) = with_both (closes 2 fs (finished c)) sight_after
 sight _ = None
-
--- what the machine sees of a form
-abbrev pub seen : Exprs → List Kind → Option Sight
-seen (single a) rest = sight_if false (target_expression a) (kept_expression a rest ∷ []) (under_expression a rest)
-seen (tuple es a) rest = sight_if true (target_elements es && target_expression a) (kept_elements es (comma ∷ spell_expression a rest) ++ kept_expression a rest ∷ []) (drop 1 (under_exprs (tuple es a) rest))
-seen (tuple_comma es) rest = sight_if true (target_elements es) (kept_elements es (comma ∷ rest)) (drop 1 (under_exprs (tuple_comma es) rest))
-
-abbrev pub seen_if : Option Exprs → List Kind → Option Sight
-seen_if None rest = None
-seen_if (Some x) rest = seen x rest
 
 -- what the machine sees is what the forms are: all targets or none, and their trees unless they are too deep
 abbrev pub Agrees : Option Sight → Option Targets → Type 0
