@@ -1,8 +1,8 @@
 -- What is held of a whole cell: its tree, and the first place at each depth in it.
-use Rattle.std.proofs.Common.{◌≡◌, ℕ, ◌+◌, ◌-◌, ◌<◌, ◌≤◌, suc, true, false, IsTrue, List, [], ◌∷◌, ◌++◌, length, Option, Some, None, refl, ap, ◌∙◌, sym, subst, append-nil, arith}
+use Rattle.std.proofs.Common.{◌≡◌, ℕ, ◌+◌, ◌-◌, ◌<◌, ◌≤◌, suc, max, true, false, IsTrue, List, [], ◌∷◌, ◌++◌, length, Option, Some, None, refl, ap, ◌∙◌, sym, subst, append-nil, arith}
 use Rattle.py_token.specs.declared.kinds.Kind.{Kind}
 use Rattle.py_token.specs.declared.kinds.Kind.TheVariants as t
-use Rattle.py_grammar.specs.Statements.{Statements, statements_one, statements_more, spell_statement, spell_statements, spell_front, outside_all, statements_stand, Cell, IsCell, front_stands}
+use Rattle.py_grammar.specs.Statements.{Statements, statements_one, statements_more, spell_statement, spell_statements, spell_front, outside_all, statements_stand, Cell, IsCell, spelling, front_stands}
 use Rattle.py_grammar.specs.States as m
 use Rattle.py_grammar.specs.Trees.{Source, tree_statement, tree_top, tree_cell}
 use Rattle.py_grammar.specs.Depth.{in_cell}
@@ -14,7 +14,7 @@ use Rattle.py_frames.proofs.Trees.{left-less, right-less}
 use Rattle.py_blocks.specs.Blocks.{nothing}
 use Rattle.py_blocks.specs.Kept.{under_statement, under_statements, kept_whole, kept_statements}
 use Rattle.py_blocks.specs.Held.{held_done}
-use Rattle.py_blocks.specs.Follows.{Follows, run, by_left, HoldsCell, ReadsCells}
+use Rattle.py_blocks.specs.Follows.{Follows, forms_run, run, from_start, by_place, HoldsCell, ReadsCells}
 use Rattle.py_blocks.specs.Steps.{start}
 use Rattle.py_blocks.proofs.Deep.{statements-row}
 use Rattle.py_blocks.proofs.Following.{run-follows}
@@ -32,8 +32,9 @@ spelled-length {f} s rest =
     let d = length-joined s.tokens [] in
     omega (arith, a, b, c, d)
 
-minus-all : (total a b c : ℕ) → total ≡ a + (b + c) → (total - (b + c) ≡ a) × (total - c ≡ a + b)
-minus-all total a b c e = (omega (arith, e), omega (arith, e))
+-- how many tokens are before a place
+before-place : (most all left n : ℕ) → left ≤ all → all ≤ most → all ≡ n + left → most - from_start most all left ≡ n
+before-place most all left n h k e = omega (arith, h, k, e)
 
 same-source : (source : Source) (a b c d : ℕ) → a ≡ c → b ≡ d → source a b ≡ source c d
 same-source source a b c d e f = ap (λ x. source x b) e ∙ ap (source c) f
@@ -41,30 +42,40 @@ same-source source a b c d e f = ap (λ x. source x b) e ∙ ap (source c) f
 below : (x : ℕ) (p : List ℕ) → length (x ∷ p) < 65 → length p < 64
 below x p h = omega (arith, h)
 
-top-kept : (source : Source) (total : ℕ) (ss : Statements) (rest : List Kind) (e : List Kind → List Kind) → statements_stand ss outside_all e → length (under_statements ss rest) < 65 → total ≡ length (spell_statements ss rest)
-    → kept_statements (by_left source total) ss rest ≡ tree_top source ss
-top-kept source total (statements_one x) rest e stands h is =
+top-kept : (source : Source) (most all : ℕ) (ss : Statements) (rest : List Kind) (e : List Kind → List Kind) → statements_stand ss outside_all e → length (under_statements (from_start most all) ss rest) < 65 → all ≡ length (spell_statements ss rest) → all ≤ most
+    → kept_statements (from_start most all) (by_place source most) ss rest ≡ tree_top source ss
+top-kept source most all (statements_one x) rest e stands h is in_all =
     let l = spelled-length (statement-tokens x) rest in
-    let parts = minus-all total 0 (length (spell_statement x [])) (length rest) (omega (arith, is, l)) in
-    let right : total - length rest ≡ 0 + length (spell_statement x []) = parts.1 in
-    ap (λ y. y ∷ []) (statement-kept (by_left source total) x rest _ outside_all e stands (below (length (spell_statement x rest)) (under_statement x rest) h)
-    (λ top. same-source source 0 (length (spell_statement x [])) (total - length (spell_statement x rest)) (total - length rest) (sym (ap (λ n. total - n) l ∙ parts.0)) (omega (arith, right))))
-top-kept source total (statements_more xs x) rest e stands h is =
+    let from = before-place most all (length (spell_statement x rest)) 0 (omega (arith, is)) in_all (omega (arith, is)) in
+    let to = before-place most all (length rest) (length (spell_statement x [])) (omega (arith, is, l)) in_all (omega (arith, is, l)) in
+    ap (λ y. y ∷ []) (statement-kept (from_start most all) (by_place source most) x rest _ outside_all e stands (below (from_start most all (length (spell_statement x rest))) (under_statement (from_start most all) x rest) h)
+    (λ top. same-source source 0 (length (spell_statement x [])) _ _ (sym from) (sym to)))
+top-kept source most all (statements_more xs x) rest e stands h is in_all =
     let l = spelled-length (statement-tokens x) rest in
     let k = spelled-length (statements-tokens xs) (spell_statement x rest) in
     let j = spelled-length (statements-tokens xs) (spell_statement x []) in
-    let parts = minus-all total (length (spell_statements xs [])) (length (spell_statement x [])) (length rest) (omega (arith, is, l, k)) in
-    let p = left-less (under_statements xs (spell_statement x rest)) (length (spell_statement x rest) ∷ under_statement x rest) 65 h in
-    let q = right-less (under_statements xs (spell_statement x rest)) (length (spell_statement x rest) ∷ under_statement x rest) 65 h in
-    ap (λ ys. ys ++ kept_whole (by_left source total) x rest ∷ []) (top-kept source total xs (spell_statement x rest) e stands.0 p is)
-    ∙ ap (λ y. tree_top source xs ++ y ∷ []) (statement-kept (by_left source total) x rest _ outside_all _ stands.1 (below (length (spell_statement x rest)) (under_statement x rest) q)
-    (λ top. same-source source (length (spell_statements xs [])) (length (spell_statements xs (spell_statement x []))) (total - length (spell_statement x rest)) (total - length rest) (sym (ap (λ n. total - n) l ∙ parts.0)) (j ∙ sym parts.1)))
+    let from = before-place most all (length (spell_statement x rest)) (length (spell_statements xs [])) (omega (arith, is, k)) in_all (omega (arith, is, k)) in
+    let to = before-place most all (length rest) (length (spell_statements xs (spell_statement x []))) (omega (arith, is, k, l)) in_all (omega (arith, is, j, k, l)) in
+    let p = left-less (under_statements (from_start most all) xs (spell_statement x rest)) (from_start most all (length (spell_statement x rest)) ∷ under_statement (from_start most all) x rest) 65 h in
+    let q = right-less (under_statements (from_start most all) xs (spell_statement x rest)) (from_start most all (length (spell_statement x rest)) ∷ under_statement (from_start most all) x rest) 65 h in
+    ap (λ ys. ys ++ kept_whole (from_start most all) (by_place source most) x rest ∷ []) (top-kept source most all xs (spell_statement x rest) e stands.0 p is in_all)
+    ∙ ap (λ y. tree_top source xs ++ y ∷ []) (statement-kept (from_start most all) (by_place source most) x rest _ outside_all _ stands.1 (below (from_start most all (length (spell_statement x rest))) (under_statement (from_start most all) x rest) q)
+    (λ top. same-source source (length (spell_statements xs [])) (length (spell_statements xs (spell_statement x []))) _ _ (sym from) (sym to)))
 
-holds : (source : Source) (c : Cell) (total : ℕ) → front_stands c outside_all (λ rest. rest) → total ≡ length (spell_front c (t.End ∷ [])) → HoldsCell source c (held_done (by_left source total) c (t.End ∷ []))
-holds source None total stands is = record { tree = λ h. refl; places = λ d. refl }
-holds source (Some ss) total stands is = record { tree = λ h. top-kept source total ss (t.End ∷ []) (λ rest. rest) stands (omega (arith, h)) is; places = λ d. (statements-row ss (t.End ∷ []) d).is }
+-- an earlier token has the greater place
+pub fair : (most all a b : ℕ) → from_start most all (max a b) ≡ max (from_start most all a) (from_start most all b)
+fair most all a b = omega arith
+
+holds : (source : Source) (most : ℕ) (c : Cell) → front_stands c outside_all (λ rest. rest) → length (spelling c) ≤ most → HoldsCell source most c (held_done (from_start most (length (spelling c))) (by_place source most) c (t.End ∷ []))
+holds source most None stands in_all = record { tree = λ h. refl; places = λ d. refl }
+holds source most (Some ss) stands in_all = record {
+  tree = λ h. top-kept source most (length (spelling (Some ss))) ss (t.End ∷ []) (λ rest. rest) stands (omega (arith, h)) refl in_all;
+  places = λ d. (statements-row (from_start most (length (spelling (Some ss)))) (fair most (length (spelling (Some ss)))) ss (t.End ∷ []) d).is;
+}
 
 pub reads-cells : ReadsCells
-reads-cells source tokens c is =
-    let f = subst (Follows (by_left source (length tokens)) [] (run false (by_left source (length tokens)) 0 start tokens)) (is_read tokens c is) (run-follows false (by_left source (length tokens)) tokens []) in
-    (held_done (by_left source (length tokens)) c (t.End ∷ []), f.0, f.1, holds source c (length tokens) is.stands (ap length is.spelled))
+reads-cells source most tokens c is in_all =
+    let all : length (tokens ++ []) ≡ length (spelling c) = ap length (append-nil tokens) ∙ ap length is.spelled in
+    let f = subst (λ n. Follows (from_start most n) (by_place source most) [] (run false (by_place source most) most start tokens) (forms_run false m.start tokens)) all (run-follows false (by_place source most) most tokens []) in
+    let g = subst (Follows (from_start most (length (spelling c))) (by_place source most) [] (run false (by_place source most) most start tokens)) (is_read tokens c is) f in
+    (held_done (from_start most (length (spelling c))) (by_place source most) c (t.End ∷ []), g.0, g.1, holds source most c is.stands (subst (λ ks. length ks ≤ most) is.spelled in_all))

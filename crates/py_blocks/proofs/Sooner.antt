@@ -1,5 +1,5 @@
 -- What is forced stays forced, over statements.
-use Rattle.std.proofs.Common.{◌≡◌, ℕ, ◌+◌, Bool, true, false, if◌then◌else◌, List, [], ◌∷◌, ◌++◌, length, Option, Some, None, refl, sym, subst, arith}
+use Rattle.std.proofs.Common.{◌≡◌, ℕ, ◌-◌, Bool, true, false, if◌then◌else◌, List, [], ◌∷◌, ◌++◌, length, Option, Some, None, refl, sym, subst, arith}
 use Rattle.py_token.specs.declared.kinds.Kind.{Kind}
 use Rattle.py_token.specs.declared.kinds.Kind.TheVariants as t
 use Rattle.py_token.specs.declared.kinds.Keyword.{Keyword}
@@ -399,10 +399,10 @@ run-later : (p q : List ℕ) (o : Option Reader) → Sooner p q → RunGrows q o
 run-later p q None e g = tt
 run-later p q (Some r) e g = and_then e g
 
-pub run-grows : (alone : Bool) (texts : Texts) (behind : ℕ) (r : Reader) (ts : List Kind) → RunGrows (forced_now r.state) (run alone texts behind r ts)
-run-grows alone texts behind r [] = same _
-run-grows alone texts behind r (token ∷ ts) = on (moves alone texts (length (token ∷ ts) + behind) (length ts + behind) r.state r.names token) (moves-grow alone texts (length (token ∷ ts) + behind) (length ts + behind) r.state r.names token)
+pub run-grows : (alone : Bool) (texts : Texts) (at : ℕ) (r : Reader) (ts : List Kind) → RunGrows (forced_now r.state) (run alone texts at r ts)
+run-grows alone texts at r [] = same _
+run-grows alone texts at r (token ∷ ts) = on (moves alone texts at (at - 1) r.state r.names token) (moves-grow alone texts at (at - 1) r.state r.names token)
   where
-    on : (o : Option State) → Grows (forced_now r.state) o → RunGrows (forced_now r.state) (elim (with_names (m.renamed r.state token r.names) o) [ None ↦ None | Some next ↦ run alone texts behind next ts ])
+    on : (o : Option State) → Grows (forced_now r.state) o → RunGrows (forced_now r.state) (elim (with_names (m.renamed r.state token r.names) o) [ None ↦ None | Some next ↦ run alone texts (at - 1) next ts ])
     on None g = tt
-    on (Some x) g = run-later _ _ (run alone texts behind (record { state = x; names = m.renamed r.state token r.names }) ts) g (run-grows alone texts behind (record { state = x; names = m.renamed r.state token r.names }) ts)
+    on (Some x) g = run-later _ _ (run alone texts (at - 1) (record { state = x; names = m.renamed r.state token r.names }) ts) g (run-grows alone texts (at - 1) (record { state = x; names = m.renamed r.state token r.names }) ts)

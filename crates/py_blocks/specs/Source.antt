@@ -1,5 +1,5 @@
 -- The text of some tokens of a code.
-use Rattle.std.specs.Prelude.{ℕ, Bool, true, false, not, ◌-◌, length, List, [], ◌∷◌, reverse, find, slice_range, Option, Some, None, if◌then◌else◌}
+use Rattle.std.specs.Prelude.{ℕ, Bool, true, false, not, ◌-◌, List, [], ◌∷◌, reverse, find, slice_range, Option, Some, None, if◌then◌else◌}
 use Rattle.std.specs.Str.{is_utf8}
 use Rattle.py_token.specs.declared.kinds.Kind.{Kind}
 use Rattle.py_token.specs.declared.kinds.Kind.TheVariants as t
@@ -35,6 +35,10 @@ text_from code (first ∷ tokens) = text_up_to code first.start (last_word (firs
 abbrev pub source_of : List ℕ → List Token → ℕ → ℕ → List ℕ
 source_of code tokens from to = text_from code (slice_range tokens from to)
 
--- the text of the tokens from where so many are left up to where so many are
+-- the place of the first token; each of the others has one less than the one before
+abbrev pub most : ℕ
+most = 9223372036854775808
+
+-- the text of the tokens from one place up to another
 abbrev pub left_of : List ℕ → List Token → ℕ → ℕ → List ℕ
-left_of code tokens from to = source_of code tokens (length tokens - from) (length tokens - to)
+left_of code tokens from to = source_of code tokens (most - from) (most - to)

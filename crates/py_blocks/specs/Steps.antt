@@ -1,6 +1,6 @@
 -- One more token of a cell, on what the program holds.
 --
--- `at` is how many tokens are left, this one counted, and `left` how many are after it.
+-- `at` is its place, and `left` that of the next: a place is counted down, so that the greater of two is the earlier.
 use Rattle.std.specs.Prelude.{ℕ, Bool, true, false, if◌then◌else◌, nat_lt, List, [], ◌∷◌, ◌++◌, length, Option, Some, None}
 use Rattle.std.specs.FinMap as finite
 use Rattle.std.specs.Ordering.{nat_cmp}

@@ -1,12 +1,12 @@
 //! That what the program holds of a cell is what its forms say. The forms are those of the grammar, and `rest` is what is to
 //! come.
-ghost use Rattle.std.specs.Prelude.{◌≡◌, ℕ, ◌<◌, List, ◌∷◌, length};
+ghost use Rattle.std.specs.Prelude.{◌≡◌, ℕ, max, List};
 ghost use Rattle.py_token.specs.declared.kinds.Kind.{Kind};
 ghost use Rattle.py_grammar.specs.Statements.{Statements};
 ghost use Rattle.py_grammar.specs.States.{State};
 ghost use Rattle.py_grammar.specs.Outside as forms;
 ghost use Rattle.py_grammar.specs.Depth.{in_statements};
-ghost use Rattle.py_frames.specs.Under.{first, nth};
+ghost use Rattle.py_frames.specs.Under.{first, nth, placed};
 ghost use Rattle.py_blocks.specs.Blocks.{Texts};
 ghost use Rattle.py_blocks.specs.Held.{held_state};
 ghost use Rattle.py_blocks.specs.Kept.{under_statements};
@@ -15,7 +15,7 @@ ghost use Rattle.py_blocks.specs.Follows.{StepFollows, RunFollows, KeepsTrees, R
 
 /// One more token is read exactly if the forms go on with it. What is held then is what they say.
 pub fn a_token_is_read_as_its_forms_are()
-    ensures { StepFollows }
+    ensures { (place : ℕ → ℕ) → StepFollows place }
 {}
 
 /// Tokens are read from the first exactly if their forms are. What is held then is what they say.
@@ -30,16 +30,16 @@ pub fn a_cell_is_read_with_its_tree()
 
 /// The construct outside the grammar that a token begins is that of the forms.
 pub fn a_construct_begins_where_the_forms_say()
-    ensures { (texts : Texts) (state : State) (token : Kind) (rest : List Kind) → outside (held_state texts state rest) token ≡ forms.outside state token }
+    ensures { (place : ℕ → ℕ) (texts : Texts) (state : State) (token : Kind) (rest : List Kind) → outside (held_state place texts state rest) token ≡ forms.outside state token }
 {}
 
 /// The place kept for a depth is where the first part of the statements that deep begins.
 pub fn the_places_are_the_first_at_each_depth()
-    ensures { (statements : Statements) (rest : List Kind) (depth : ℕ)
-        → first (in_statements statements rest depth) ≡ nth depth (under_statements statements rest) }
+    ensures { (place : ℕ → ℕ) → ((a b : ℕ) → place (max a b) ≡ max (place a) (place b)) → (statements : Statements) (rest : List Kind) (depth : ℕ)
+        → placed place (first (in_statements statements rest depth)) ≡ nth depth (under_statements place statements rest) }
 {}
 
 /// The tree of a statement that isn't too deep is the tree of the grammar.
 pub fn the_tree_is_kept()
-    ensures { KeepsTrees }
+    ensures { (place : ℕ → ℕ) → KeepsTrees place }
 {}

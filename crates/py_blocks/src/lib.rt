@@ -17,6 +17,7 @@ mod state;
 mod steps;
 
 pub use constructs::outside;
+pub use source::MOST;
 pub use state::{
     Around, Begun, Branches, Done, Head, Last, Lead, Outer, Place, Purpose, Reader, Simple, Spot,
     State, Test, Word,

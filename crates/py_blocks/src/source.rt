@@ -7,6 +7,9 @@ use plain_data::Text;
 use py_token::{Kind, Token};
 use std::alloc::{AllocError, Global};
 
+/// The place of the first token. Each of the others has one less than the one before.
+pub const MOST: usize = 9_223_372_036_854_775_808;
+
 /// Whether no characters of a line spell the token.
 fn is_layout(kind: &Kind) -> bool
     ensures { result ≡ is_layout kind.now }
@@ -57,7 +60,7 @@ fn text_from(alloc: Global, code: &str, tokens: &[Token]) -> Result<Text, AllocE
     }
 }
 
-/// The text of the tokens from where so many are left up to where so many are.
+/// The text of the tokens from one place up to another.
 pub fn text_left(
     alloc: Global,
     code: &str,
@@ -67,8 +70,7 @@ pub fn text_left(
 ) -> Result<Text, AllocError>
     ensures { IfOk result (λ text. text ≡ left_of code.now tokens.now from to) }
 {
-    let all = tokens.len();
-    let from = all.saturating_sub(from);
-    let to = all.saturating_sub(to);
+    let from = MOST.saturating_sub(from);
+    let to = MOST.saturating_sub(to);
     text_from(alloc, code, part(tokens, from, to))
 }

@@ -159,7 +159,7 @@ pub struct Reader {
     pub names: TextMap<bool>,
 }
 
-/// Where a token is: how many tokens are left, itself counted, and how many are after it.
+/// Where a token is, counted down from `MOST`, and where the next is.
 #[derive(Clone, Copy, Debug, PartialEq, Eq)]
 pub struct Place {
     pub at: usize,

@@ -60,7 +60,7 @@ forced targets (AfterMethod fs v n) = forced_in targets fs true (v.from ∷ plac
 
 -- ---- what comes later
 
--- where it first gets that deep or deeper, if it does: as a number of tokens left, and 0 if it doesn't
+-- where it first gets that deep or deeper, if it does: and 0 if it doesn't
 abbrev pub reach : List ℕ → ℕ → ℕ
 reach [] d = 0
 reach (x ∷ p) zero = max x (reach p zero)

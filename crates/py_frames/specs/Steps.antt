@@ -229,7 +229,7 @@ abbrev pub method_what : List Frame → Value → List ℕ → Kind → Option S
 method_what fs v n open_parenthesis = Some (Wants (begun_by v (h.Method v.tree n []) ∷ fs))
 method_what fs v n _ = None
 
--- one more token, when this many are left, itself counted
+-- one more token, at this place
 abbrev pub step : State → Kind → ℕ → Option State
 step (Wants fs) t at = operand fs t at
 step (Has fs v) t at = operator fs v t

@@ -12,7 +12,7 @@ use Rattle.py_frames.specs.declared.frames.Chain.{Chain}
 use Rattle.py_frames.specs.declared.frames.Hole.{Hole}
 use Rattle.py_frames.specs.declared.frames.Hole.TheVariants as h
 
--- the first places of two parts side by side: at each depth the earlier, which is the greater number of tokens left
+-- the first places of two parts side by side: at each depth the earlier, which is the greater
 abbrev pub beside : List ℕ → List ℕ → List ℕ
 beside [] right = right
 beside (x ∷ left) [] = x ∷ left

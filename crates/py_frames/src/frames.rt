@@ -7,7 +7,7 @@ use py_tree::{Expr, Op, Operand, Pair, Relation};
 #[derive(Drop)]
 pub struct Value {
     pub tree: Expr,
-    /// Where it begins: how many tokens are left there.
+    /// Where it begins. The greater of two places is the earlier.
     pub from: usize,
     /// The places of what is in it.
     pub under: Places,

@@ -352,7 +352,7 @@ fn method_what(
     }
 }
 
-/// One more token, when this many are left, itself counted.
+/// One more token, at this place.
 pub fn step(alloc: Global, state: State, token: &Kind, at: usize) -> Result<State, Stop>
     ensures { Gives result (step state token.now at) }
 {
