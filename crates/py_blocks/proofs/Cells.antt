@@ -33,8 +33,8 @@ spelled-length {f} s rest =
     omega (arith, a, b, c, d)
 
 -- how many tokens are before a place
-before-place : (most all left n : ℕ) → left ≤ all → all ≤ most → all ≡ n + left → most - from_start most all left ≡ n
-before-place most all left n h k e = omega (arith, h, k, e)
+before-place : (most all left n : ℕ) → all ≤ most → all ≡ n + left → most - from_start most all left ≡ n
+before-place most all left n k e = omega (arith, k, e)
 
 same-source : (source : Source) (a b c d : ℕ) → a ≡ c → b ≡ d → source a b ≡ source c d
 same-source source a b c d e f = ap (λ x. source x b) e ∙ ap (source c) f
@@ -46,16 +46,16 @@ top-kept : (source : Source) (most all : ℕ) (ss : Statements) (rest : List Kin
     → kept_statements (from_start most all) (by_place source most) ss rest ≡ tree_top source ss
 top-kept source most all (statements_one x) rest e stands h is in_all =
     let l = spelled-length (statement-tokens x) rest in
-    let from = before-place most all (length (spell_statement x rest)) 0 (omega (arith, is)) in_all (omega (arith, is)) in
-    let to = before-place most all (length rest) (length (spell_statement x [])) (omega (arith, is, l)) in_all (omega (arith, is, l)) in
+    let from = before-place most all (length (spell_statement x rest)) 0 in_all (omega (arith, is)) in
+    let to = before-place most all (length rest) (length (spell_statement x [])) in_all (omega (arith, is, l)) in
     ap (λ y. y ∷ []) (statement-kept (from_start most all) (by_place source most) x rest _ outside_all e stands (below (from_start most all (length (spell_statement x rest))) (under_statement (from_start most all) x rest) h)
     (λ top. same-source source 0 (length (spell_statement x [])) _ _ (sym from) (sym to)))
 top-kept source most all (statements_more xs x) rest e stands h is in_all =
     let l = spelled-length (statement-tokens x) rest in
     let k = spelled-length (statements-tokens xs) (spell_statement x rest) in
     let j = spelled-length (statements-tokens xs) (spell_statement x []) in
-    let from = before-place most all (length (spell_statement x rest)) (length (spell_statements xs [])) (omega (arith, is, k)) in_all (omega (arith, is, k)) in
-    let to = before-place most all (length rest) (length (spell_statements xs (spell_statement x []))) (omega (arith, is, k, l)) in_all (omega (arith, is, j, k, l)) in
+    let from = before-place most all (length (spell_statement x rest)) (length (spell_statements xs [])) in_all (omega (arith, is, k)) in
+    let to = before-place most all (length rest) (length (spell_statements xs (spell_statement x []))) in_all (omega (arith, is, j, k, l)) in
     let p = left-less (under_statements (from_start most all) xs (spell_statement x rest)) (from_start most all (length (spell_statement x rest)) ∷ under_statement (from_start most all) x rest) 65 h in
     let q = right-less (under_statements (from_start most all) xs (spell_statement x rest)) (from_start most all (length (spell_statement x rest)) ∷ under_statement (from_start most all) x rest) 65 h in
     ap (λ ys. ys ++ kept_whole (from_start most all) (by_place source most) x rest ∷ []) (top-kept source most all xs (spell_statement x rest) e stands.0 p is in_all)

@@ -1,5 +1,5 @@
 -- The machine on what the program holds does what the machine on forms does.
-use Rattle.std.proofs.Common.{◌≡◌, ◌-◌, ◌≤◌, ℕ, suc, Bool, true, false, List, [], ◌∷◌, ◌++◌, length, Option, Some, None, refl, ap, ◌∙◌, sym, subst, arith}
+use Rattle.std.proofs.Common.{◌≡◌, ◌+◌, ◌-◌, ℕ, suc, Bool, true, false, List, [], ◌∷◌, ◌++◌, length, Option, Some, None, refl, ap, ◌∙◌, sym, subst, arith}
 use Rattle.std.specs.FinMap as finite
 use Rattle.py_token.specs.declared.kinds.Kind.{Kind}
 use Rattle.py_grammar.specs.States as m
@@ -59,8 +59,8 @@ pub keeps-either : (alone : Bool) (s : m.State) (t : Kind) → state_stands s �
 keeps-either false s t stands = step-keeps s t stands
 keeps-either true s t stands = keeps-on s t (step_alone s t) refl (step-keeps s t stands)
 
-next-place : (most all n : ℕ) → suc n ≤ all → from_start most all (suc n) - 1 ≡ from_start most all n
-next-place most all n h = omega (arith, h)
+pub next-place : (most all n : ℕ) → from_start most all (suc n) - 1 ≡ from_start most all n
+next-place most all n = omega arith
 
 module _ (most all : ℕ) where
   on-follows : (alone : Bool) (texts : Texts) (at : ℕ) (ts rest : List Kind) (o : Option m.State) (p : Option Reader) → Follows (from_start most all) texts (ts ++ rest) p o → Keeps o
@@ -69,21 +69,21 @@ module _ (most all : ℕ) where
   on-follows alone texts at ts rest None p f k g = ap (then_held alone texts at ts) f
   on-follows alone texts at ts rest (Some u) p f k g = subst (λ x. Follows (from_start most all) texts rest (then_held alone texts at ts x) (forms_run alone u ts)) (sym f.1) (g u f.0 k f.2)
 
-  runs-follow : (alone : Bool) (texts : Texts) (ts rest : List Kind) (at : ℕ) (s : m.State) (names : Names) → length (ts ++ rest) ≤ all → from_start most all (length (ts ++ rest)) ≡ at → state_stands s → Hears s names
+  runs-follow : (alone : Bool) (texts : Texts) (ts rest : List Kind) (at : ℕ) (s : m.State) (names : Names) → from_start most all (length (ts ++ rest)) ≡ at → state_stands s → Hears s names
       → Follows (from_start most all) texts rest (run alone texts at (reader_at (from_start most all) texts s (ts ++ rest) names) ts) (forms_run alone s ts)
-  runs-follow alone texts [] rest at s names within is stands h = subst (Follows (from_start most all) texts rest (Some (reader_at (from_start most all) texts s rest names))) (sym (forms_run-none alone s)) (names, refl, h)
-  runs-follow alone texts (t ∷ ts) rest at s names within is stands h =
-      let left = next-place most all (length (ts ++ rest)) within in
+  runs-follow alone texts [] rest at s names is stands h = subst (Follows (from_start most all) texts rest (Some (reader_at (from_start most all) texts s rest names))) (sym (forms_run-none alone s)) (names, refl, h)
+  runs-follow alone texts (t ∷ ts) rest at s names is stands h =
+      let left = next-place most all (length (ts ++ rest)) in
       let next : from_start most all (length (ts ++ rest)) ≡ at - 1 = sym left ∙ ap (λ n. n - 1) is in
       subst (Follows (from_start most all) texts rest (run alone texts at (reader_at (from_start most all) texts s (t ∷ ts ++ rest) names) (t ∷ ts))) (sym (forms_run-step alone s t ts))
       (on-follows alone texts (at - 1) ts rest (forms_step alone s t) _
       (subst (λ n. Follows (from_start most all) texts (ts ++ rest) (step alone texts n (at - 1) (reader_at (from_start most all) texts s (t ∷ ts ++ rest) names) t) (forms_step alone s t)) is
       (subst (λ n. Follows (from_start most all) texts (ts ++ rest) (step alone texts (from_start most all (length (t ∷ ts ++ rest))) n (reader_at (from_start most all) texts s (t ∷ ts ++ rest) names) t) (forms_step alone s t)) next
       (step-follows (from_start most all) alone texts s t (ts ++ rest) names stands h)))
-      (keeps-either alone s t stands) (λ u names. runs-follow alone texts ts rest (at - 1) u names (omega (arith, within)) next))
+      (keeps-either alone s t stands) (λ u names. runs-follow alone texts ts rest (at - 1) u names next))
 
 at-start : (most all : ℕ) → from_start most all all ≡ most
 at-start most all = omega arith
 
 pub run-follows : RunFollows
-run-follows alone texts most ts rest = runs-follow most (length (ts ++ rest)) alone texts ts rest most m.start finite.empty (omega arith) (at-start most (length (ts ++ rest))) (tt, tt) tt
+run-follows alone texts most ts rest = runs-follow most (length (ts ++ rest)) alone texts ts rest most m.start finite.empty (at-start most (length (ts ++ rest))) (tt, tt) tt

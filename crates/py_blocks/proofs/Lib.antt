@@ -1,5 +1,6 @@
 pub mod Beyond
 pub mod Cells
+pub mod Closing
 pub mod Deep
 pub mod Following
 pub mod Heard

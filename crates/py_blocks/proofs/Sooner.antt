@@ -239,7 +239,7 @@ on_global_name-grows texts left x ns _ = tt
 -- ---- heads
 
 -- a `:` goes on with what has been read, or comes behind it
-colon-either : (r : reading.State) (at : ℕ) → colon_or_end r ≡ either_of (ex.ended r) (e.step r colon at)
+pub colon-either : (r : reading.State) (at : ℕ) → colon_or_end r ≡ either_of (ex.ended r) (e.step r colon at)
 colon-either (Wants fs) at = refl
 colon-either (Has fs v) at = refl
 colon-either (Compared fs c) at = refl

@@ -1,5 +1,5 @@
 -- The machine on what the program holds, beside the machine on forms.
-use Rattle.std.specs.Prelude.{◌≡◌, ℕ, ◌-◌, ◌<◌, ◌≤◌, IsTrue, Bool, true, false, List, [], ◌∷◌, ◌++◌, length, Option, Some, None}
+use Rattle.std.specs.Prelude.{◌≡◌, ℕ, ◌+◌, ◌-◌, ◌<◌, ◌≤◌, IsTrue, Bool, true, false, List, [], ◌∷◌, ◌++◌, length, Option, Some, None}
 use Rattle.py_token.specs.declared.kinds.Kind.{Kind}
 use Rattle.py_grammar.specs.Statements.{is_new, Cell, IsCell, spelling, Statement, spell_statement, Around, statement_stands}
 use Rattle.py_grammar.specs.Trees.{Source, tree_statement, tree_cell}
@@ -41,7 +41,7 @@ run alone texts at reader (t ∷ ts) = elim (step alone texts at (at - 1) reader
 
 -- the place where so many of all tokens are left, if that of the first is `most`
 abbrev pub from_start : ℕ → ℕ → ℕ → ℕ
-from_start most all left = most - (all - left)
+from_start most all left = most + left - all
 
 -- the text from one place to another
 abbrev pub by_place : Source → ℕ → Texts

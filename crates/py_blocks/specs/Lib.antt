@@ -1,4 +1,5 @@
 pub mod Blocks
+pub mod Completes
 pub mod Follows
 pub mod Forced
 pub mod Heard

@@ -14,7 +14,7 @@ use Rattle.py_frames.specs.Ends.{ended, ended_in, ended_after, ended_at_in, ende
 use Rattle.py_frames.specs.Targets.{sight, sight_if, sight_in, sight_after, sight_at_in, sight_at}
 use Rattle.py_frames.specs.Forced.{Sooner, node, bare, is_nil, loose, forced_in, forced, EndsAs, EndsSooner, SeesSooner}
 use Rattle.py_frames.specs.Forced as g
-use Rattle.py_frames.proofs.Forced.{same, and_then, shift, cons, beside-grows, beside-none, drop-sooner, beside-left, none-more, fit-none, frames-grow, starts, closes-grow, under-sooner, loose-sooner, Outer}
+use Rattle.py_frames.proofs.Forced.{same, and_then, shift, cons, beside-grows, beside-none, drop-sooner, beside-left, none-more, fit-none, frames-grow, starts, closes-grow, under-sooner, loose-sooner, no-true, less-true, operator-plain, Outer}
 
 -- ---- where no targets may come
 
@@ -159,3 +159,29 @@ seen-sooner (Has fs v) = sees-later _ _ (with_both (closes 2 fs v) sight_after) 
 seen-sooner (Compared fs c) =
     sees-later _ _ (with_both (closes 2 fs (finished c)) sight_after) (and_then (frames-grow true fs false false _ _ _ _ (fit-none (same _) (same _))) (closes-grow true 2 fs (finished c) (omega arith))) (after-sees (closes 2 fs (finished c)).0 (closes 2 fs (finished c)).1)
 seen-sooner _ = tt
+
+-- ---- where targets may come, and what has been read is no operand alone
+
+closed-as-in : (hole : Hole) (x : Frame) (fs : List Frame) (v : Value) (l : List ℕ) → EndsAs (g.around true hole x (is_nil fs) false l (places v) (forced_in true fs)) (ended_in hole x fs v)
+closed-as-in (h.Tuple xs false) x [] v l = refl
+closed-as-in (h.Tuple xs true) x [] v l = refl
+closed-as-in (h.Tuple xs may) x (y ∷ fs) v l = tt
+closed-as-in _ x fs v l = tt
+
+closed-as-if : (b : Bool) (x : Frame) (fs : List Frame) (v : Value) (l : List ℕ) (r : List Frame × Value) → nat_le 2 (level x.hole) ≡ b → EndsAs (forced_in true fs false (places (close x v)) (places (close x v))) (with_both r ended_after)
+    → EndsAs (forced_in true (x ∷ fs) false l (places v)) (with_both (if b then r else (x ∷ fs, v)) ended_after)
+closed-as-if true x fs v l r e y = subst (λ p. EndsAs p (with_both r ended_after)) (sym (operator-plain true x.hole x (is_nil fs) false l (places v) (forced_in true fs) (less-true true 2 _ (omega arith) e)).0) y
+closed-as-if false x fs v l r e y = closed-as-in x.hole x fs v l
+
+-- an operator is before it
+pub closed-as : (fs : List Frame) (v : Value) (l : List ℕ) → EndsAs (forced_in true fs false l (places v)) (with_both (closes 2 fs v) ended_after)
+closed-as [] v l = refl
+closed-as (x ∷ fs) v l = closed-as-if (nat_le 2 (level x.hole)) x fs v l (closes 2 fs (close x v)) refl (closed-as fs (close x v) (places (close x v)))
+
+operator-as-if : (b : Bool) (x : Frame) (fs : List Frame) (v : Value) → nat_le 2 (level x.hole) ≡ b → b ≡ true → EndsAs (forced true (Has (x ∷ fs) v)) (with_both (if b then closes 2 fs (close x v) else (x ∷ fs, v)) ended_after)
+operator-as-if false x fs v e t = no-true t
+operator-as-if true x fs v e t =
+    subst (λ p. EndsAs p (with_both (closes 2 fs (close x v)) ended_after)) (sym (operator-plain true x.hole x (is_nil fs) true (loose v) (places v) (forced_in true fs) (less-true true 2 _ (omega arith) e)).0) (closed-as fs (close x v) (places (close x v)))
+
+pub operator-as : (x : Frame) (fs : List Frame) (v : Value) → nat_le 2 (level x.hole) ≡ true → EndsAs (forced true (Has (x ∷ fs) v)) (ended (Has (x ∷ fs) v))
+operator-as x fs v e = operator-as-if (nat_le 2 (level x.hole)) x fs v refl e

@@ -70,7 +70,7 @@ pub record Fit (o : Bool) (l t : List ℕ) (o' : Bool) (l' t' : List ℕ) : Type
   pub inner : Sooner l t
   pub as_operand : o' ≡ true → (o ≡ true) × Sooner l l'
 
-no-true : {A : Type 0} → false ≡ true → A
+pub no-true : {A : Type 0} → false ≡ true → A
 no-true e = absurd (false≢true e)
 
 fit-same : (o : Bool) {t t' : List ℕ} → Sooner t t' → Fit o t t o t' t'

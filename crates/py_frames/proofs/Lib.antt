@@ -1,5 +1,6 @@
 pub mod Begins
 pub mod Closed
+pub mod Completing
 pub mod Ended
 pub mod AtEnd
 pub mod Forced

@@ -1,10 +1,10 @@
 -- How deep a form is: where its parts at each depth begin. A place is the number of tokens left, so the first is the greatest.
-use Rattle.std.specs.Prelude.{◌≡◌, ◌+◌, ◌<◌, ◌≤◌, ℕ, zero, suc, List, [], ◌∷◌, ◌++◌, length, All, Contains, Some, None}
+use Rattle.std.specs.Prelude.{◌≡◌, ◌-◌, ◌<◌, ◌≤◌, ℕ, zero, suc, List, [], ◌∷◌, ◌++◌, length, All, Contains, Some, None}
 use Rattle.py_token.specs.declared.kinds.Kind.{Kind}
 use Rattle.py_token.specs.declared.kinds.Kind.TheVariants as t
 use Rattle.py_grammar.specs.Words.{and_word, or_word, not_word, if_word, else_word, elif_word, is_word, none_word, assign_sign, open_parenthesis, close_parenthesis, open_bracket, close_bracket, close_brace, colon, comma, dot}
 use Rattle.py_grammar.specs.Expressions.{Expression, plain, conditional, Ors, ors_one, ors_more, Ands, ands_one, ands_more, Negation, compared, negated, Compares, compares_one, compares_more, compares_none, compares_not_none, Sums, sums_one, sums_more, Products, products_one, products_more, Signed, unsigned, signed, Primary, name, number, text, nothing, truth, falsity, empty, group, display, dict, call, index, slice, Exprs, single, tuple, tuple_comma, Callee, function, method, Bound, unbounded, bounded, Args, no_args, args, args_comma, Elements, elements_one, elements_more, Entries, no_entries, entries, entries_comma, Pairs, pairs_one, pairs_more, spell_relational, additive_sign, multiplicative_sign, spell_expression, spell_ors, spell_ands, spell_negation, spell_compares, spell_sums, spell_products, spell_signed, spell_primary, spell_exprs, spell_bound, spell_args}
-use Rattle.py_grammar.specs.Statements.{Target, to_name, to_item, Places, places_one, places_more, Targets, targets, targets_comma, Simple, word, return_, give, declare, delete, assign, augment, show, spell_target, augmentation_sign, spell_simple, Statement, simple, compound, Head, choose, otherwise, while_true, for_each, define, Condition, if_true, else_if, Branches, branches, Block, inline, indented, Statements, statements_one, statements_more, spell_statement, spell_block, Cell, spelling, IsCell}
+use Rattle.py_grammar.specs.Statements.{Target, to_name, to_item, Places, places_one, places_more, Targets, targets, targets_comma, Simple, word, return_, give, declare, delete, assign, augment, show, spell_target, augmentation_sign, spell_simple, Statement, simple, compound, Head, choose, otherwise, while_true, for_each, define, Condition, if_true, else_if, Branches, branches, Block, inline, indented, Statements, statements_one, statements_more, spell_statement, spell_block, Cell, spelling}
 
 -- the parts at depth d of a part that spells these tokens: itself at depth 0, and one deeper what is directly in it
 abbrev pub part : List Kind → (ℕ → List ℕ) → ℕ → List ℕ
@@ -183,10 +183,10 @@ pub record IsTooDeep (c : Cell) (place : ℕ) : Type 0 where
   pub left : ℕ
   pub begins : Contains (in_cell c depth) left
   pub first : (other : ℕ) → 64 ≤ other → All (λ o. o ≤ left) (in_cell c other)
-  pub is_place : place + left ≡ length (spelling c)
+  pub is_place : place ≡ length (spelling c) - left
 
--- the tokens are too deep at this place of theirs: each cell that begins with them is too deep there or earlier, and one is just there
-pub record AreTooDeep (tokens : List Kind) (place : ℕ) : Type 0 where
+-- the tokens are too deep at this place of theirs: each cell of this kind that begins with them is too deep there or earlier, and one is just there
+pub record AreTooDeep (Is : List Kind → Cell → Type 0) (tokens : List Kind) (place : ℕ) : Type 0 where
   pub within : place < length tokens
-  pub each : (more : List Kind) (c : Cell) → IsCell (tokens ++ more) c → (at : ℕ) × (at ≤ place) × IsTooDeep c at
-  pub some : (more : List Kind) × (c : Cell) × IsCell (tokens ++ more) c × IsTooDeep c place
+  pub each : (more : List Kind) (c : Cell) → Is (tokens ++ more) c → (at : ℕ) × (at ≤ place) × IsTooDeep c at
+  pub some : (more : List Kind) × (c : Cell) × Is (tokens ++ more) c × IsTooDeep c place
