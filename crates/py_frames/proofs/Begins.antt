@@ -1,5 +1,5 @@
 -- The construct that a token begins behind what the machine holds is that of the forms.
-use Rattle.std.proofs.Common.{◌≡◌, ℕ, suc, Bool, false, nat_eq, ne_eqb, arith, ◌&&◌, ◌++◌, length, is_some, List, [], ◌∷◌, Option, Some, None, refl, ap, ◌∙◌, sym}
+use Rattle.std.proofs.Common.{◌≡◌, ℕ, suc, false, nat_eq, ne_eqb, arith, ◌&&◌, ◌++◌, length, is_some, List, [], ◌∷◌, Option, Some, None, refl, ap, ◌∙◌, sym}
 use Rattle.py_token.specs.declared.kinds.Kind.{Kind}
 use Rattle.py_tree.specs.declared.expressions.Pair.{Pair}
 use Rattle.py_grammar.specs.Words.{for_word, close_brace, assign_sign, colon, comma}

@@ -8,7 +8,7 @@ use Rattle.py_frames.specs.declared.frames.Frame.{Frame}
 use Rattle.py_frames.specs.declared.frames.Hole.{Hole}
 use Rattle.py_frames.specs.declared.frames.Hole.TheVariants as h
 use Rattle.py_frames.specs.declared.frames.State.{State}
-use Rattle.py_frames.specs.Values.{places, beside, is_index, level, close, shut, closes}
+use Rattle.py_frames.specs.Values.{places, beside, level, close, shut, closes}
 use Rattle.py_frames.specs.Steps as m
 use Rattle.py_frames.specs.Steps.{ends_at, ends_with, with_both, step}
 use Rattle.py_frames.specs.Ends.{is_tuple}
@@ -52,7 +52,7 @@ one at = record { each = one-each at }
 -- ---- frames
 
 -- from one to another: what is an operand stays one
-record Keeps (at : ℕ) (o : Bool) (l t : List ℕ) (o' : Bool) (l' t' : List ℕ) : Type 0 where
+pub record Keeps (at : ℕ) (o : Bool) (l t : List ℕ) (o' : Bool) (l' t' : List ℕ) : Type 0 where
   pub tight : AddsAt at t t'
   pub inner : AddsAt at t l'
   pub as_operand : o ≡ true → (o' ≡ true) × AddsAt at l l'
@@ -71,7 +71,7 @@ last-adds true true true x e = beside-adds (drop 1 x.under) (e.as_operand refl).
 last-adds true true false x e = no-true (e.as_operand refl).0
 last-adds true false true x e = and_then (later (f.and_then (beside-left _ (drop-sooner x.under)) (shift x.from _))) (beside-adds (drop 1 x.under) e.inner)
 
-abbrev Carries : ℕ → Outer → Type 0
+abbrev pub Carries : ℕ → Outer → Type 0
 Carries at outer = (o o' : Bool) (l t l' t' : List ℕ) → Keeps at o l t o' l' t' → AddsAt at (outer o l t) (outer o' l' t')
 
 empty-adds : (at : ℕ) (may : Bool) (o o' : Bool) (l t l' t' : List ℕ) → Keeps at o l t o' l' t' → AddsAt at (if may && o then l else t) (if may && o' then l' else t')

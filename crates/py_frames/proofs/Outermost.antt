@@ -1,16 +1,16 @@
 -- What is outermost in the machine is outermost in the forms.
-use Rattle.std.proofs.Common.{◌≡◌, ℕ, zero, suc, Bool, true, false, ◌&&◌, if◌then◌else◌, List, [], ◌∷◌, ◌++◌, reverse, Option, Some, None, refl, ap, ◌∙◌, sym, not}
+use Rattle.std.proofs.Common.{◌≡◌, ℕ, zero, suc, Bool, true, false, if◌then◌else◌, List, [], ◌∷◌, ◌++◌, Option, Some, None, refl, ap, ◌∙◌, sym, not}
 use Rattle.py_token.specs.declared.kinds.Kind.{Kind}
 use Rattle.py_grammar.specs.Words.{if_word, else_word, not_word, comma}
-use Rattle.py_grammar.specs.Expressions.{Compares, compares_none, compares_not_none, Ors, Ands, Additive, function, method, additive_sign, spell_ors, spell_compares, spell_elements}
+use Rattle.py_grammar.specs.Expressions.{Ors, Ands, Additive, function, method, additive_sign, spell_ors, spell_elements}
 use Rattle.py_grammar.specs.Readings as r
 use Rattle.py_grammar.specs.Readings.{Picked, picked, Upper, upper, Related, related, Added, added, Scaled, scaled, Lower, lower, no_lower, Bracket, in_group, in_display, in_dict, in_pair, in_call, in_index, in_slice, Opened, opened, listed, wants, has, has_none, has_not_none, after_is, after_is_not, after_not, after_dot, after_method, bare, bare_below, narrow, open_in, one_below, undivided}
 use Rattle.py_grammar.specs.States as states
-use Rattle.py_grammar.specs.Open.{spell_test, front_or, front_and, nots, front_added, front_scaled, signs, spell_upper, spell_lower, spell_bracket}
+use Rattle.py_grammar.specs.Open.{spell_upper, spell_lower, spell_bracket}
 use Rattle.py_frames.specs.declared.frames.Frame.{Frame}
 use Rattle.py_frames.specs.declared.frames.State.TheVariants.{Wants}
 use Rattle.py_frames.specs.Held.{frames_signs, frames_scaled, frames_added, frames_related, frames_nots, frames_and, frames_or, frames_test, frames_picked, frames_lower, frames_upper, frames_opened, hole_bracket, above, around, held}
-use Rattle.py_frames.specs.Ends.{last_from, outermost, is_bracket, is_tuple, enclosed_or, is_narrow, is_one, is_undivided, frames_of, is_begun}
+use Rattle.py_frames.specs.Ends.{last_from, outermost, is_bracket, is_tuple, enclosed_or, is_narrow, is_one, is_undivided, is_begun}
 
 module _ (place : ℕ → ℕ) where
   pub last-joined : {A : Type 0} (o : Option A) (xs : List A) (x : A) → last_from o (xs ++ x ∷ []) ≡ Some x

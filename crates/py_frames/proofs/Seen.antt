@@ -8,7 +8,7 @@ use Rattle.py_tree.specs.declared.expressions.Expr.TheVariants as e
 use Rattle.py_tree.specs.declared.expressions.Target.TheVariants as m
 use Rattle.py_grammar.specs.Words.{comma, open_bracket, close_bracket}
 use Rattle.py_grammar.specs.Expressions.{Expression, plain, ors_one, ands_one, compared, compares_one, sums_one, products_one, unsigned, name, index, Elements, elements_one, elements_more, Exprs, single, tuple, tuple_comma, spell_expression, spell_primary}
-use Rattle.py_grammar.specs.Statements.{Target, Places, places_one, places_more}
+use Rattle.py_grammar.specs.Statements.{Target, Places}
 use Rattle.py_grammar.specs.States.{primary_alone, target_of, first_place, more_places, places_of, undivided_targets, divided_targets, targets_in}
 use Rattle.py_grammar.specs.Trees.{tree_target, tree_places}
 use Rattle.py_frames.specs.Values.{beside}

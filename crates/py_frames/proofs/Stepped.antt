@@ -245,30 +245,30 @@ module _ (place : ℕ → ℕ) where
 
   -- ---- after an operand
 
-  and-goes_on : (a : Option Ands) (x : Negation) (stop : List Kind) (around place : List Kind → List Frame) → ((more : List Kind) → Below place 4 (around place more))
-      → logic true (frames_and place a (spell_negation x (and_word ∷ stop)) (around place (front_and a (spell_negation x (and_word ∷ stop))))) (value_negation place x (and_word ∷ stop)) ≡ frames_and place (Some (add_and a x)) stop (around place (front_and (Some (add_and a x)) stop))
-  and-goes_on None x stop (around place) e = logic-begins true _ _ (not-more 4 _ (e _))
-  and-goes_on (Some b) x stop (around place) e = refl
+  and-goes_on : (a : Option Ands) (x : Negation) (stop : List Kind) (around : List Kind → List Frame) → ((more : List Kind) → Below place 4 (around more))
+      → logic true (frames_and place a (spell_negation x (and_word ∷ stop)) (around (front_and a (spell_negation x (and_word ∷ stop))))) (value_negation place x (and_word ∷ stop)) ≡ frames_and place (Some (add_and a x)) stop (around (front_and (Some (add_and a x)) stop))
+  and-goes_on None x stop around e = logic-begins true _ _ (not-more 4 _ (e _))
+  and-goes_on (Some b) x stop around e = refl
 
-  or-goes_on : (a : Option Ors) (x : Ands) (stop : List Kind) (around place : List Kind → List Frame) → ((more : List Kind) → Below place 3 (around place more))
-      → logic false (frames_or place a (spell_ands x (or_word ∷ stop)) (around place (front_or a (spell_ands x (or_word ∷ stop))))) (value_ands place x (or_word ∷ stop)) ≡ frames_or place (Some (add_or a x)) stop (around place (front_or (Some (add_or a x)) stop))
-  or-goes_on None x stop (around place) e = logic-begins false _ _ (not-more 3 _ (e _))
-  or-goes_on (Some b) x stop (around place) e = refl
+  or-goes_on : (a : Option Ors) (x : Ands) (stop : List Kind) (around : List Kind → List Frame) → ((more : List Kind) → Below place 3 (around more))
+      → logic false (frames_or place a (spell_ands x (or_word ∷ stop)) (around (front_or a (spell_ands x (or_word ∷ stop))))) (value_ands place x (or_word ∷ stop)) ≡ frames_or place (Some (add_or a x)) stop (around (front_or (Some (add_or a x)) stop))
+  or-goes_on None x stop around e = logic-begins false _ _ (not-more 3 _ (e _))
+  or-goes_on (Some b) x stop around e = refl
 
-  sum-goes_on : (a : Option Added) (s : Additive) (x : Products) (stop : List Kind) (around place : List Kind → List Frame) → ((more : List Kind) → Below place 7 (around place more))
-      → arithmetic false (additive_op s) (frames_added place a (spell_products x (additive_sign s ∷ stop)) (around place (front_added a (spell_products x (additive_sign s ∷ stop))))) (value_products place x (additive_sign s ∷ stop)) ≡ frames_added place (Some (added (add_added a x) s)) stop (around place (front_added (Some (added (add_added a x) s)) stop))
-  sum-goes_on None s x stop (around place) e = arithmetic-begins false _ _ _ (not-more 7 _ (e _))
-  sum-goes_on (Some (added b o)) s x stop (around place) e = refl
+  sum-goes_on : (a : Option Added) (s : Additive) (x : Products) (stop : List Kind) (around : List Kind → List Frame) → ((more : List Kind) → Below place 7 (around more))
+      → arithmetic false (additive_op s) (frames_added place a (spell_products x (additive_sign s ∷ stop)) (around (front_added a (spell_products x (additive_sign s ∷ stop))))) (value_products place x (additive_sign s ∷ stop)) ≡ frames_added place (Some (added (add_added a x) s)) stop (around (front_added (Some (added (add_added a x) s)) stop))
+  sum-goes_on None s x stop around e = arithmetic-begins false _ _ _ (not-more 7 _ (e _))
+  sum-goes_on (Some (added b o)) s x stop around e = refl
 
-  product-goes_on : (a : Option Scaled) (s : Multiplicative) (x : Signed) (stop : List Kind) (around place : List Kind → List Frame) → ((more : List Kind) → Below place 8 (around place more))
-      → arithmetic true (multiplicative_op s) (frames_scaled place a (spell_signed x (multiplicative_sign s ∷ stop)) (around place (front_scaled a (spell_signed x (multiplicative_sign s ∷ stop))))) (value_signed place x (multiplicative_sign s ∷ stop)) ≡ frames_scaled place (Some (scaled (add_scaled a x) s)) stop (around place (front_scaled (Some (scaled (add_scaled a x) s)) stop))
-  product-goes_on None s x stop (around place) e = arithmetic-begins true _ _ _ (not-more 8 _ (e _))
-  product-goes_on (Some (scaled b o)) s x stop (around place) e = refl
+  product-goes_on : (a : Option Scaled) (s : Multiplicative) (x : Signed) (stop : List Kind) (around : List Kind → List Frame) → ((more : List Kind) → Below place 8 (around more))
+      → arithmetic true (multiplicative_op s) (frames_scaled place a (spell_signed x (multiplicative_sign s ∷ stop)) (around (front_scaled a (spell_signed x (multiplicative_sign s ∷ stop))))) (value_signed place x (multiplicative_sign s ∷ stop)) ≡ frames_scaled place (Some (scaled (add_scaled a x) s)) stop (around (front_scaled (Some (scaled (add_scaled a x) s)) stop))
+  product-goes_on None s x stop around e = arithmetic-begins true _ _ _ (not-more 8 _ (e _))
+  product-goes_on (Some (scaled b o)) s x stop around e = refl
 
-  compared-goes_on : (a : Option Related) (x : Sums) (rest : List Kind) (around place : List Kind → List Frame) → ((more : List Kind) → Below place 6 (around place more))
-      → v.compared (frames_related place a (spell_sums x rest) (around place (front_related a (spell_sums x rest)))) (value_sums place x rest) ≡ (around place (spell_compares (add_related a x) rest), chain_compares place (add_related a x) rest)
-  compared-goes_on None x rest (around place) e = compared-begins _ _ (not-more 6 _ (e _))
-  compared-goes_on (Some (related c o)) x rest (around place) e = refl
+  compared-goes_on : (a : Option Related) (x : Sums) (rest : List Kind) (around : List Kind → List Frame) → ((more : List Kind) → Below place 6 (around more))
+      → v.compared (frames_related place a (spell_sums x rest) (around (front_related a (spell_sums x rest)))) (value_sums place x rest) ≡ (around (spell_compares (add_related a x) rest), chain_compares place (add_related a x) rest)
+  compared-goes_on None x rest around e = compared-begins _ _ (not-more 6 _ (e _))
+  compared-goes_on (Some (related c o)) x rest around e = refl
 
   -- ---- what is around each layer
 

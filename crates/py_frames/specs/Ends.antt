@@ -1,5 +1,5 @@
 -- What has been read, when it is to end: whether it may, what it is then, and what it begins.
-use Rattle.std.specs.Prelude.{ℕ, Bool, true, false, not, length, List, [], ◌∷◌, Option, Some, None}
+use Rattle.std.specs.Prelude.{Bool, true, false, not, List, [], ◌∷◌, Option, Some, None}
 use Rattle.py_frames.specs.declared.frames.Value.{Value}
 use Rattle.py_frames.specs.declared.frames.Frame.{Frame}
 use Rattle.py_frames.specs.declared.frames.Hole.{Hole}

@@ -1,11 +1,11 @@
 -- What the machine holds when these forms are open, before these tokens.
-use Rattle.std.specs.Prelude.{ℕ, zero, suc, Bool, true, false, ◌&&◌, List, [], ◌∷◌, length, Option, Some, None}
+use Rattle.std.specs.Prelude.{ℕ, zero, suc, Bool, true, false, ◌&&◌, List, [], ◌∷◌, ◌++◌, drop, length, Option, Some, None}
 use Rattle.py_token.specs.declared.kinds.Kind.{Kind}
 use Rattle.py_token.specs.declared.kinds.Kind.TheVariants as t
 use Rattle.py_tree.specs.declared.expressions.Expr.{Expr}
 use Rattle.py_tree.specs.declared.expressions.Pair as pair_of
 use Rattle.py_grammar.specs.Words.{and_word, or_word, not_word, if_word, else_word, is_word, open_parenthesis, open_bracket, colon, comma, dot}
-use Rattle.py_grammar.specs.Expressions.{Expression, plain, conditional, Ors, ors_one, ors_more, Ands, ands_one, ands_more, Negation, compared, negated, Compares, compares_one, compares_none, compares_not_none, Sums, sums_one, sums_more, Additive, Products, products_one, products_more, Signed, unsigned, signed, Primary, name, index, function, method, Elements, elements_one, elements_more, Pairs, spell_relational, additive_sign, multiplicative_sign, spell_expression, spell_ors, spell_ands, spell_negation, spell_compares, spell_sums, spell_products, spell_signed, spell_primary, spell_bound, spell_elements}
+use Rattle.py_grammar.specs.Expressions.{Exprs, single, tuple, tuple_comma, spell_exprs, Expression, plain, conditional, Ors, ors_one, ors_more, Ands, ands_one, ands_more, Negation, compared, negated, Compares, compares_one, compares_none, compares_not_none, Sums, sums_one, sums_more, Additive, Products, products_one, products_more, Signed, unsigned, signed, Primary, name, index, function, method, Elements, elements_one, elements_more, Pairs, spell_relational, additive_sign, multiplicative_sign, spell_expression, spell_ors, spell_ands, spell_negation, spell_compares, spell_sums, spell_products, spell_signed, spell_primary, spell_bound, spell_elements}
 use Rattle.py_grammar.specs.Trees.{relational_op, additive_op, multiplicative_op, is_minus}
 use Rattle.py_grammar.specs.Readings as r
 use Rattle.py_grammar.specs.Readings.{Picked, picked, upper, Related, related, Added, added, Scaled, scaled, lower, in_group, in_display, in_dict, in_pair, in_call, in_index, in_slice, opened, listed, wants, has, has_none, has_not_none, after_is, after_is_not, after_not, after_dot, after_method}
@@ -21,8 +21,8 @@ use Rattle.py_frames.specs.declared.seeing.Sight.{Sight}
 use Rattle.py_frames.specs.Targets.{sight_if}
 use Rattle.py_frames.specs.Values as v
 use Rattle.py_frames.specs.Values.{beside, begun_by, relating}
-use Rattle.py_frames.specs.Under.{all, under_expression, under_picked, under_ors, inner_ors, under_ands, inner_ands, under_negation, under_compares, inner_compares, under_sums, inner_sums, under_products, inner_products, under_signed, under_primary, inner_bound, inner_elements, inner_pairs}
-use Rattle.py_frames.specs.Kept.{kept_expression, kept_ors, terms_ors, kept_ands, terms_ands, kept_negation, kept_compares, first_compared, relations, kept_sums, first_summed, summed, kept_products, first_multiplied, multiplied, kept_signed, kept_primary, kept_bound, kept_elements, kept_pairs}
+use Rattle.py_frames.specs.Under.{all, under_exprs, under_expression, under_picked, under_ors, inner_ors, under_ands, inner_ands, under_negation, under_compares, inner_compares, under_sums, inner_sums, under_products, inner_products, under_signed, under_primary, inner_bound, inner_elements, inner_pairs}
+use Rattle.py_frames.specs.Kept.{kept_exprs, kept_expression, kept_ors, terms_ors, kept_ands, terms_ands, kept_negation, kept_compares, first_compared, relations, kept_sums, first_summed, summed, kept_products, first_multiplied, multiplied, kept_signed, kept_primary, kept_bound, kept_elements, kept_pairs}
 
 -- ---- may it be a target
 
