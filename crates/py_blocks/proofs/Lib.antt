@@ -1,6 +1,7 @@
 pub mod Beyond
 pub mod Cells
 pub mod Closing
+pub mod Completing
 pub mod Deep
 pub mod Following
 pub mod Heard

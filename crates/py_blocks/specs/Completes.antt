@@ -1,5 +1,5 @@
 -- How a cell that has begun can end with no more than what is forced of it.
-use Rattle.std.specs.Prelude.{◌≡◌, ℕ, true, List, [], ◌∷◌, Option, Some, None}
+use Rattle.std.specs.Prelude.{◌≡◌, ℕ, ℤ, List, [], ◌∷◌, Option, Some, None}
 use Rattle.py_token.specs.declared.kinds.Kind.{Kind}
 use Rattle.py_token.specs.declared.kinds.Kind.TheVariants as t
 use Rattle.py_tree.specs.declared.statements.Stmt.{Stmt}
@@ -45,7 +45,7 @@ Sees at p (Some x) = AddsAt at p x.under
 
 -- the tokens by which it can end
 pub data Closing : State → Kind → Type 0 where
-  statement : (os : List Outer) (done : Done) (l : Last) (n : List ℕ) → Closing (h.Line os done l) (t.Name n)
+  statement : (os : List Outer) (done : Done) (l : Last) (n : ℤ) → Closing (h.Line os done l) (t.Number n)
   dedent : (o : Outer) (os : List Outer) (done : Done) (l : Last) → Closing (h.Line (o ∷ os) done l) t.Dedent
   finish : (done : Done) (l : Last) → Closing (h.Line [] done l) t.End
   goes : (x : Simple) (u : Purpose) (r : reading.State) (token : Kind) → Ending r token → Closing (h.InSimple x u r) token
@@ -65,5 +65,5 @@ pub data Closing : State → Kind → Type 0 where
   no_param : (b : Begun) (n : List ℕ) (ps : List (List ℕ)) → Closing (h.InParams b n ps) close_parenthesis
   params : (b : Begun) (n : List ℕ) (ps : List (List ℕ)) → Closing (h.HasParams b n ps) close_parenthesis
   after_params : (b : Begun) (n : List ℕ) (ps : List (List ℕ)) → Closing (h.AfterParams b n ps) colon
-  block : (os : List Outer) (o : Outer) (n : List ℕ) → Closing (h.AfterColon os o) (t.Name n)
+  block : (os : List Outer) (o : Outer) (n : ℤ) → Closing (h.AfterColon os o) (t.Number n)
   indent : (os : List Outer) (o : Outer) → Closing (h.AfterNewline os o) t.Indent

@@ -16,7 +16,7 @@ use Rattle.py_grammar.proofs.Keeps.{add_statement-stands, ended-stands, add_name
 
 -- ---- a name that is new
 
-abbrev underscores : ℕ → List ℕ
+abbrev pub underscores : ℕ → List ℕ
 underscores zero = []
 underscores (suc n) = 95 ∷ underscores n
 
@@ -25,7 +25,7 @@ underscores-length zero = refl
 underscores-length (suc n) = ap suc (underscores-length n)
 
 -- more than the length of each name among these
-abbrev bound : List Kind → ℕ
+abbrev pub bound : List Kind → ℕ
 bound [] = zero
 bound (t.Name n ∷ ks) = suc (length n) + bound ks
 bound (_ ∷ ks) = bound ks
@@ -49,17 +49,17 @@ longer-new [] n h = refl
 longer-new (t.Name m ∷ ks) n h = both _ _ (shorter-differs m n (omega arith)) (longer-new ks n (omega arith))
 longer-new (_ ∷ ks) n h = longer-new ks n h
 
-abbrev fresh : List Kind → List ℕ
+abbrev pub fresh : List Kind → List ℕ
 fresh ks = underscores (suc (bound ks))
 
 fresh-new : (ks : List Kind) → IsTrue (is_new (fresh ks) ks)
 fresh-new ks = longer-new ks (fresh ks) (let e = underscores-length (suc (bound ks)) in omega arith)
 
-abbrev fresh_name : Option Names → (List Kind → List Kind) → List ℕ
+abbrev pub fresh_name : Option Names → (List Kind → List Kind) → List ℕ
 fresh_name None earlier = fresh (earlier [])
 fresh_name (Some ns) earlier = fresh (earlier (spell_names ns []))
 
-fresh_name-new : (ns : Option Names) (earlier : List Kind → List Kind) → IsTrue (is_new_name ns (fresh_name ns earlier) earlier)
+pub fresh_name-new : (ns : Option Names) (earlier : List Kind → List Kind) → IsTrue (is_new_name ns (fresh_name ns earlier) earlier)
 fresh_name-new None earlier = fresh-new (earlier [])
 fresh_name-new (Some ns) earlier = fresh-new (earlier (spell_names ns []))
 
