@@ -9,9 +9,9 @@ use Rattle.py_grammar.specs.Depth.{in_cell}
 use Rattle.py_grammar.proofs.Standing.{Spelling}
 use Rattle.py_grammar.proofs.Places.{statement-tokens, statements-tokens}
 use Rattle.py_grammar.proofs.Whole.{is_read}
-use Rattle.py_frames.specs.Under.{first, nth}
+use Rattle.py_frames.specs.Under.{first, nth, placed}
 use Rattle.py_frames.proofs.Trees.{left-less, right-less}
-use Rattle.py_blocks.specs.Blocks.{nothing}
+use Rattle.py_blocks.specs.Blocks.{Texts, nothing}
 use Rattle.py_blocks.specs.Kept.{under_statement, under_statements, kept_whole, kept_statements}
 use Rattle.py_blocks.specs.Held.{held_done}
 use Rattle.py_blocks.specs.Follows.{Follows, forms_run, run, from_start, by_place, HoldsCell, ReadsCells}
@@ -66,11 +66,16 @@ top-kept source most all (statements_more xs x) rest e stands h is in_all =
 pub fair : (most all a b : ℕ) → from_start most all (max a b) ≡ max (from_start most all a) (from_start most all b)
 fair most all a b = omega arith
 
+-- the first place at each depth
+pub cell-places : (most : ℕ) (texts : Texts) (c : Cell) (depth : ℕ) → placed (from_start most (length (spelling c))) (first (in_cell c depth)) ≡ nth depth (held_done (from_start most (length (spelling c))) texts c (t.End ∷ [])).under
+cell-places most texts None depth = refl
+cell-places most texts (Some ss) depth = (statements-row (from_start most (length (spelling (Some ss)))) (fair most (length (spelling (Some ss)))) ss (t.End ∷ []) depth).is
+
 holds : (source : Source) (most : ℕ) (c : Cell) → front_stands c outside_all (λ rest. rest) → length (spelling c) ≤ most → HoldsCell source most c (held_done (from_start most (length (spelling c))) (by_place source most) c (t.End ∷ []))
-holds source most None stands in_all = record { tree = λ h. refl; places = λ d. refl }
+holds source most None stands in_all = record { tree = λ h. refl; places = cell-places most (by_place source most) None }
 holds source most (Some ss) stands in_all = record {
   tree = λ h. top-kept source most (length (spelling (Some ss))) ss (t.End ∷ []) (λ rest. rest) stands (omega (arith, h)) refl in_all;
-  places = λ d. (statements-row (from_start most (length (spelling (Some ss)))) (fair most (length (spelling (Some ss)))) ss (t.End ∷ []) d).is;
+  places = cell-places most (by_place source most) (Some ss);
 }
 
 pub reads-cells : ReadsCells

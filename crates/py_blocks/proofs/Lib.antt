@@ -9,4 +9,5 @@ pub mod Moves
 pub mod Parts
 pub mod Sooner
 pub mod Texts
+pub mod TooDeep
 pub mod Trees

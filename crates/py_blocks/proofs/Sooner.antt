@@ -391,7 +391,7 @@ moves-grow alone texts at left x names token = head-grows texts at left x names 
 
 -- ---- all tokens
 
-abbrev RunGrows : List ℕ → Option Reader → Type 0
+abbrev pub RunGrows : List ℕ → Option Reader → Type 0
 RunGrows p None = Unit {0}
 RunGrows p (Some r) = Sooner p (forced_now r.state)
 

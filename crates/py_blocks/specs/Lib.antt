@@ -8,3 +8,4 @@ pub mod Kept
 pub mod Outside
 pub mod Source
 pub mod Steps
+pub mod Telling

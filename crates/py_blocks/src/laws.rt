@@ -1,6 +1,6 @@
 //! That what the program holds of a cell is what its forms say. The forms are those of the grammar, and `rest` is what is to
 //! come.
-ghost use Rattle.std.specs.Prelude.{◌≡◌, ℕ, max, List};
+ghost use Rattle.std.specs.Prelude.{◌≡◌, ℕ, Bool, max, List};
 ghost use Rattle.py_token.specs.declared.kinds.Kind.{Kind};
 ghost use Rattle.py_grammar.specs.Statements.{Statements};
 ghost use Rattle.py_grammar.specs.States.{State};
@@ -12,6 +12,10 @@ ghost use Rattle.py_blocks.specs.Held.{held_state};
 ghost use Rattle.py_blocks.specs.Kept.{under_statements};
 ghost use Rattle.py_blocks.specs.Outside.{outside};
 ghost use Rattle.py_blocks.specs.Follows.{StepFollows, RunFollows, KeepsTrees, ReadsCells};
+ghost use Rattle.py_blocks.specs.declared.state.State as machine;
+ghost use Rattle.py_blocks.specs.Steps.{Names, moves};
+ghost use Rattle.py_blocks.specs.Forced.{forced_now, Grows};
+ghost use Rattle.py_blocks.specs.Telling.{TellsDepth, TellsCells};
 
 /// One more token is read exactly if the forms go on with it. What is held then is what they say.
 pub fn a_token_is_read_as_its_forms_are()
@@ -42,4 +46,20 @@ pub fn the_places_are_the_first_at_each_depth()
 /// The tree of a statement that isn't too deep is the tree of the grammar.
 pub fn the_tree_is_kept()
     ensures { (place : ℕ → ℕ) → KeepsTrees place }
+{}
+
+/// What is forced stays forced: with one more token each depth is reached no later.
+pub fn what_is_forced_stays_forced()
+    ensures { (alone : Bool) (texts : Texts) (at left : ℕ) (state : machine.State) (names : Names) (token : Kind)
+        → Grows (forced_now state) (moves alone texts at left state names token) }
+{}
+
+/// What is forced of tokens tells whether they are too deep, and where.
+pub fn what_is_forced_tells_what_is_too_deep()
+    ensures { TellsDepth }
+{}
+
+/// What is held of a cell at its end tells whether it is too deep, and where.
+pub fn a_cell_tells_whether_it_is_too_deep()
+    ensures { TellsCells }
 {}
