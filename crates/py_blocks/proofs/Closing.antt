@@ -44,14 +44,14 @@ use Rattle.py_blocks.proofs.Sooner.{closed-forced, ended-forced, colon-either}
 
 -- ---- the order
 
-equal : {at : ℕ} {p q : List ℕ} → p ≡ q → AddsAt at p q
+pub equal : {at : ℕ} {p q : List ℕ} → p ≡ q → AddsAt at p q
 equal {at} {p} {q} e = subst (AddsAt at p) e (same p)
 
 -- one part more
 one-more : (at : ℕ) (p : List ℕ) → AddsAt at p (beside p (at ∷ []))
 one-more at p = record { each = λ d. omega (arith, reach-beside p (at ∷ []) d, (one at).each d) }
 
-no-more : {at : ℕ} (p : List ℕ) → AddsAt at p (beside p [])
+pub no-more : {at : ℕ} (p : List ℕ) → AddsAt at p (beside p [])
 no-more p = equal (sym (beside-none p))
 
 enclose-adds : {at : ℕ} (os : List Outer) {p q : List ℕ} → AddsAt at p q → AddsAt at (enclose os p) (enclose os q)
@@ -165,7 +165,7 @@ head-adds at x p (Some w) s v e y = begun-adds x.begun (and_then (beside-adds x.
 head-adds at x p None s v e y = absurd (none-some e)
   where
     none-some : {A : Type 0} {a : A} → ◌≡◌ {A = Option A} None (Some a) → ⊥
-    none-some {A} {a} e = grind e
+    none-some {A} {a} e = cc
 
 dedent-adds : (texts : Texts) (at left : ℕ) (o : Outer) (os : List Outer) (done : Done) (l : Last) → Adds at (enclose (o ∷ os) (settled done l).under) (m.dedent_at texts left (o ∷ os) done l)
 dedent-adds texts at left o os done last.Nothing = tt

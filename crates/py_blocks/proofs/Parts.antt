@@ -86,7 +86,7 @@ module _ (place : ℕ → ℕ) where
   elements-held : (es : Elements) (rest : List Kind) → (if target_elements es then Some (map target_of (kept_elements place es rest), drop 1 (inner_elements place [] es rest)) else None) ≡ held_many (places_of es) rest
   elements-held (elements_one a) rest = first-held (target_expression a) _ _ (m.target_of (primary_alone a)) rest (element-held a rest)
   elements-held (elements_more es a) rest =
-      same-test (target_elements es && target_expression a) _ _ (pair-same (map-append target_of (kept_elements place es (comma ∷ spell_expression a rest)) (kept_expression place a rest ∷ [])) (drop-beside (inner_elements place [] es (comma ∷ spell_expression a rest)) (length (spell_expression a rest)) (under_expression place a rest)))
+      same-test (target_elements es && target_expression a) _ _ (pair-same (map-append target_of (kept_elements place es (comma ∷ spell_expression a rest)) (kept_expression place a rest ∷ [])) (drop-beside (inner_elements place [] es (comma ∷ spell_expression a rest)) (place (length (spell_expression a rest))) (under_expression place a rest)))
       ∙ more-held (target_elements es) (target_expression a) _ _ _ _ (places_of es) (m.target_of (primary_alone a)) rest (spell_expression a rest) (elements-held es (comma ∷ spell_expression a rest)) (element-held a rest) (λ to e. spelled-target _ to (spell_expression a) rest (expression-target a) e)
     where
       pair-same : {A B : Type 0} {a b : A} {c d : B} → a ≡ b → c ≡ d → ◌≡◌ {A = A × B} (a, c) (b, d)

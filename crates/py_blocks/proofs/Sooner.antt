@@ -120,11 +120,11 @@ word-opens p at x k.Continue g = allowed-grows (spot_around x.outers x.spot).in_
 word-opens p at x k.Return g = allowed-grows (spot_around x.outers x.spot).in_function p _ (g _)
 word-opens p at x k.Global g = allowed-grows (spot_around x.outers x.spot).in_function p _ (g _)
 word-opens p at x k.Del g = g _
-word-opens p at x word g = goes_on-opens p x purpose.Showing _ g
+word-opens p at x word g = goes_on-opens p x purpose.Showing (e.step m.begun (t.Keyword word) at) g
 
 begins-opens : (p : List ℕ) (at : ℕ) (x : Simple) (token : Kind) → Opens p x → Grows p (m.begins at x token)
 begins-opens p at x (t.Keyword word) g = word-opens p at x word g
-begins-opens p at x token g = goes_on-opens p x purpose.Showing _ g
+begins-opens p at x token g = goes_on-opens p x purpose.Showing (e.step m.begun token at) g
 
 -- its expression goes on
 goes_on-grows : (x : Simple) (u : Purpose) (r : reading.State) (o : Option reading.State) → ((targets : Bool) → f.Grows targets (forced targets r) o) → Grows (in_simple x (in_purpose u r)) (m.goes_on x u o)
@@ -356,7 +356,7 @@ on_line-grows : (texts : Texts) (at left : ℕ) (os : List Outer) (done : Done) 
 on_line-grows texts at left os done l (t.Keyword word) = line_word-grows at os done l word
 on_line-grows texts at left os done l t.Dedent = dedent-grows texts left os done l
 on_line-grows texts at left os done l t.End = end-grows os (settled done l)
-on_line-grows texts at left os done l token = goes_on-opens _ (m.own at os (settled done l)) purpose.Showing _ (own-opens at os (settled done l))
+on_line-grows texts at left os done l token = goes_on-opens _ (m.own at os (settled done l)) purpose.Showing (e.step m.begun token at) (own-opens at os (settled done l))
 
 any_line-grows : (b : Bool) (p : List ℕ) (o : Option State) → Grows p o → Grows p (if b then o else None)
 any_line-grows true p o g = g
@@ -399,10 +399,13 @@ run-later : (p q : List ℕ) (o : Option Reader) → Sooner p q → RunGrows q o
 run-later p q None e g = tt
 run-later p q (Some r) e g = and_then e g
 
+next-grows : (texts : Texts) (alone : Bool) (at : ℕ) (names : Names) (ts : List Kind) (p : List ℕ) (o : Option State) → Grows p o → ((x : State) → RunGrows (forced_now x) (run alone texts at (record { state = x; names = names }) ts))
+    → RunGrows p (elim (with_names names o) [ None ↦ None | Some next ↦ run alone texts at next ts ])
+next-grows texts alone at names ts p None g f = tt
+next-grows texts alone at names ts p (Some x) g f = run-later _ _ (run alone texts at (record { state = x; names = names }) ts) g (f x)
+
 pub run-grows : (alone : Bool) (texts : Texts) (at : ℕ) (r : Reader) (ts : List Kind) → RunGrows (forced_now r.state) (run alone texts at r ts)
 run-grows alone texts at r [] = same _
-run-grows alone texts at r (token ∷ ts) = on (moves alone texts at (at - 1) r.state r.names token) (moves-grow alone texts at (at - 1) r.state r.names token)
-  where
-    on : (o : Option State) → Grows (forced_now r.state) o → RunGrows (forced_now r.state) (elim (with_names (m.renamed r.state token r.names) o) [ None ↦ None | Some next ↦ run alone texts (at - 1) next ts ])
-    on None g = tt
-    on (Some x) g = run-later _ _ (run alone texts (at - 1) (record { state = x; names = m.renamed r.state token r.names }) ts) g (run-grows alone texts (at - 1) (record { state = x; names = m.renamed r.state token r.names }) ts)
+run-grows alone texts at r (token ∷ ts) =
+    next-grows texts alone (at - 1) (m.renamed r.state token r.names) ts (forced_now r.state) (moves alone texts at (at - 1) r.state r.names token) (moves-grow alone texts at (at - 1) r.state r.names token)
+    (λ x. run-grows alone texts (at - 1) (record { state = x; names = m.renamed r.state token r.names }) ts)

@@ -42,10 +42,10 @@ pub record Completion (r : Reading) : Type 0 where
   pub leads : Leads r more (has os (upper ps None o a n) w p)
   pub outermost : Outermost os
 
-then : {r s : Reading} (t : Kind) → Next r t s → Completion s → Completion r
-then {r} {s} t x c = record { more = t ∷ c.more; os = c.os; ps = c.ps; o = c.o; a = c.a; n = c.n; w = c.w; p = c.p; leads = onward r s _ t c.more x c.leads; outermost = c.outermost }
+first : {r s : Reading} (t : Kind) → Next r t s → Completion s → Completion r
+first {r} {s} t x c = record { more = t ∷ c.more; os = c.os; ps = c.ps; o = c.o; a = c.a; n = c.n; w = c.w; p = c.p; leads = onward r s _ t c.more x c.leads; outermost = c.outermost }
 
-abbrev blank : List ℕ
+abbrev pub blank : List ℕ
 blank = 95 ∷ []
 
 -- an operand comes
@@ -71,8 +71,8 @@ Closed os = (ps : List Picked) (o : Option Ors) (a : Option Ands) (n : ℕ) (w :
 with-else : (os : List Opened) (u : Upper) (w : Lower) (p : Primary) → Closed os → Completion (has os u w p)
 with-else os (upper ps None o a n) w p f = f ps o a n w p
 with-else os (upper ps (Some b) o a n) w p f =
-    then else_word (record { reads = refl; ending = λ place rest. otherwise _ _; narrows = not-bare os ps b o a n w _; divides = λ h. h; simply = λ os at u. refl })
-    (then (t.Name blank) (named os _ _) (f _ None None zero no_lower (name blank)))
+    first else_word (record { reads = refl; ending = λ place rest. otherwise _ _; narrows = not-bare os ps b o a n w _; divides = λ h. h; simply = λ os at u. refl })
+    (first (t.Name blank) (named os _ _) (f _ None None zero no_lower (name blank)))
 
 abbrev whole : List Picked → Option Ors → Option Ands → ℕ → Lower → Primary → Expression
 whole ps o a n w p = add_picked ps (plain (add_or o (add_and a (add_nots n (compared (compares_of w p))))))
@@ -88,39 +88,39 @@ closes-all : (os : List Opened) → lists_stand os → Closed os
 closes-all [] k ps o a n w p = record { more = []; os = []; ps = ps; o = o; a = a; n = n; w = w; p = p; leads = here _; outermost = alone }
 closes-all (listed es ∷ []) k ps o a n w p = record { more = []; os = listed es ∷ []; ps = ps; o = o; a = a; n = n; w = w; p = p; leads = here _; outermost = in_tuple es }
 closes-all (listed es ∷ opened u v in_group ∷ os) k ps o a n w p =
-    then close_parenthesis (record { reads = refl; ending = λ place rest. parenthesis _ _; narrows = λ h. h; divides = λ h. h; simply = λ os at u. refl }) (with-else os u v (group (tuple es (whole ps o a n w p))) (closes-all os k.1))
+    first close_parenthesis (record { reads = refl; ending = λ place rest. parenthesis _ _; narrows = λ h. h; divides = λ h. h; simply = λ os at u. refl }) (with-else os u v (group (tuple es (whole ps o a n w p))) (closes-all os k.1))
 closes-all (listed es ∷ _) k ps o a n w p = absurd (false≢true k.0)
 closes-all (opened u v in_group ∷ os) k ps o a n w p =
-    then close_parenthesis (record { reads = refl; ending = λ place rest. parenthesis _ _; narrows = λ h. h; divides = λ h. h; simply = λ os at u. refl }) (with-else os u v (group (single (whole ps o a n w p))) (closes-all os k))
+    first close_parenthesis (record { reads = refl; ending = λ place rest. parenthesis _ _; narrows = λ h. h; divides = λ h. h; simply = λ os at u. refl }) (with-else os u v (group (single (whole ps o a n w p))) (closes-all os k))
 closes-all (opened u v (in_call f es) ∷ os) k ps o a n w p =
-    then close_parenthesis (record { reads = refl; ending = λ place rest. parenthesis _ _; narrows = λ h. h; divides = λ h. h; simply = λ os at u. refl }) (with-else os u v (call f (args (add_element es (whole ps o a n w p)))) (closes-all os k))
+    first close_parenthesis (record { reads = refl; ending = λ place rest. parenthesis _ _; narrows = λ h. h; divides = λ h. h; simply = λ os at u. refl }) (with-else os u v (call f (args (add_element es (whole ps o a n w p)))) (closes-all os k))
 closes-all (opened u v (in_display es) ∷ os) k ps o a n w p =
-    then close_bracket (record { reads = refl; ending = λ place rest. bracket _ _; narrows = λ h. h; divides = λ h. h; simply = λ os at u. refl }) (with-else os u v (display (args (add_element es (whole ps o a n w p)))) (closes-all os k))
+    first close_bracket (record { reads = refl; ending = λ place rest. bracket _ _; narrows = λ h. h; divides = λ h. h; simply = λ os at u. refl }) (with-else os u v (display (args (add_element es (whole ps o a n w p)))) (closes-all os k))
 closes-all (opened u v (in_index q) ∷ os) k ps o a n w p =
-    then close_bracket (record { reads = refl; ending = λ place rest. bracket _ _; narrows = λ h. h; divides = λ h. h; simply = λ os at u. refl }) (with-else os u v (index q (whole ps o a n w p)) (closes-all os k))
+    first close_bracket (record { reads = refl; ending = λ place rest. bracket _ _; narrows = λ h. h; divides = λ h. h; simply = λ os at u. refl }) (with-else os u v (index q (whole ps o a n w p)) (closes-all os k))
 closes-all (opened u v (in_slice q b) ∷ os) k ps o a n w p =
-    then close_bracket (record { reads = refl; ending = λ place rest. bracket _ _; narrows = λ h. h; divides = λ h. h; simply = λ os at u. refl }) (with-else os u v (slice q b (bounded (whole ps o a n w p))) (closes-all os k))
+    first close_bracket (record { reads = refl; ending = λ place rest. bracket _ _; narrows = λ h. h; divides = λ h. h; simply = λ os at u. refl }) (with-else os u v (slice q b (bounded (whole ps o a n w p))) (closes-all os k))
 closes-all (opened u v (in_pair qs b) ∷ os) k ps o a n w p =
-    then close_brace (record { reads = refl; ending = λ place rest. brace _ _; narrows = λ h. h; divides = λ h. h; simply = λ os at u. refl }) (with-else os u v (dict (entries (add_pair qs b (whole ps o a n w p)))) (closes-all os k))
+    first close_brace (record { reads = refl; ending = λ place rest. brace _ _; narrows = λ h. h; divides = λ h. h; simply = λ os at u. refl }) (with-else os u v (dict (entries (add_pair qs b (whole ps o a n w p)))) (closes-all os k))
 closes-all (opened u v (in_dict qs) ∷ os) k ps o a n w p =
-    then colon (record { reads = refl; ending = λ place rest. key _ _ (in-dict place os u v qs ps o a n w p (colon ∷ rest)); narrows = λ h. h; divides = λ h. h; simply = λ os at u. refl })
-    (then (t.Name blank) (named (opened u v (in_pair qs (whole ps o a n w p)) ∷ os) no_upper no_lower)
-    (then close_brace (record { reads = refl; ending = λ place rest. brace _ _; narrows = λ h. h; divides = λ h. h; simply = λ os at u. refl })
+    first colon (record { reads = refl; ending = λ place rest. key _ _ (in-dict place os u v qs ps o a n w p (colon ∷ rest)); narrows = λ h. h; divides = λ h. h; simply = λ os at u. refl })
+    (first (t.Name blank) (named (opened u v (in_pair qs (whole ps o a n w p)) ∷ os) no_upper no_lower)
+    (first close_brace (record { reads = refl; ending = λ place rest. brace _ _; narrows = λ h. h; divides = λ h. h; simply = λ os at u. refl })
     (with-else os u v (dict (entries (add_pair qs (whole ps o a n w p) (whole [] None None zero no_lower (name blank))))) (closes-all os k))))
 
 operand-completes : (os : List Opened) (u : Upper) (w : Lower) → lists_stand os → Completion (wants os u w)
-operand-completes os u w k = then (t.Name blank) (named os u w) (with-else os u w (name blank) (closes-all os k))
+operand-completes os u w k = first (t.Name blank) (named os u w) (with-else os u w (name blank) (closes-all os k))
 
 none-completes : (os : List Opened) (u : Upper) (c : Compares) → lists_stand os → Completion (has_none os u c)
-none-completes os u c k = then in_word (record { reads = refl; ending = λ place rest. goes_on _ _; narrows = λ h. h; divides = λ h. h; simply = λ os at u. refl }) (operand-completes os u (lower (Some (related (compares_none c) within)) None None []) k)
+none-completes os u c k = first in_word (record { reads = refl; ending = λ place rest. goes_on _ _; narrows = λ h. h; divides = λ h. h; simply = λ os at u. refl }) (operand-completes os u (lower (Some (related (compares_none c) within)) None None []) k)
 
 not_none-completes : (os : List Opened) (u : Upper) (c : Compares) → lists_stand os → Completion (has_not_none os u c)
-not_none-completes os u c k = then in_word (record { reads = refl; ending = λ place rest. goes_on _ _; narrows = λ h. h; divides = λ h. h; simply = λ os at u. refl }) (operand-completes os u (lower (Some (related (compares_not_none c) within)) None None []) k)
+not_none-completes os u c k = first in_word (record { reads = refl; ending = λ place rest. goes_on _ _; narrows = λ h. h; divides = λ h. h; simply = λ os at u. refl }) (operand-completes os u (lower (Some (related (compares_not_none c) within)) None None []) k)
 
 call-completes : (os : List Opened) (u : Upper) (w : Lower) (p : Primary) (n : List ℕ) → lists_stand os → Completion (after_method os u w p n)
 call-completes os u w p n k =
-    then open_parenthesis (record { reads = refl; ending = λ place rest. called _ _ n; narrows = λ h. h; divides = λ h. h; simply = λ os at u. refl })
-    (then close_parenthesis (record { reads = refl; ending = λ place rest. none_given _; narrows = λ h. h; divides = λ h. h; simply = λ os at u. refl })
+    first open_parenthesis (record { reads = refl; ending = λ place rest. called _ _ n; narrows = λ h. h; divides = λ h. h; simply = λ os at u. refl })
+    (first close_parenthesis (record { reads = refl; ending = λ place rest. none_given _; narrows = λ h. h; divides = λ h. h; simply = λ os at u. refl })
     (with-else os u w (call (method p n) no_args) (closes-all os k)))
 
 pub completes : (r : Reading) → reading_stands r → Completion r
@@ -128,8 +128,8 @@ completes (wants os u w) k = operand-completes os u w k
 completes (has os u w p) k = with-else os u w p (closes-all os k)
 completes (has_none os u c) k = none-completes os u c k
 completes (has_not_none os u c) k = not_none-completes os u c k
-completes (after_is os u c) k = then none_word (record { reads = refl; ending = λ place rest. no_value _ _; narrows = λ h. h; divides = λ h. h; simply = λ os at u. refl }) (none-completes os u c k)
-completes (after_is_not os u c) k = then none_word (record { reads = refl; ending = λ place rest. not_no_value _ _; narrows = λ h. h; divides = λ h. h; simply = λ os at u. refl }) (not_none-completes os u c k)
-completes (after_not os u c) k = then in_word (record { reads = refl; ending = λ place rest. denied _ _; narrows = λ h. h; divides = λ h. h; simply = λ os at u. refl }) (operand-completes os u (lower (Some (related c not_within)) None None []) k)
-completes (after_dot os u w p) k = then (t.Name blank) (record { reads = refl; ending = λ place rest. a_method _ _ blank; narrows = λ h. h; divides = λ h. h; simply = λ os at u. refl }) (call-completes os u w p blank k)
+completes (after_is os u c) k = first none_word (record { reads = refl; ending = λ place rest. no_value _ _; narrows = λ h. h; divides = λ h. h; simply = λ os at u. refl }) (none-completes os u c k)
+completes (after_is_not os u c) k = first none_word (record { reads = refl; ending = λ place rest. not_no_value _ _; narrows = λ h. h; divides = λ h. h; simply = λ os at u. refl }) (not_none-completes os u c k)
+completes (after_not os u c) k = first in_word (record { reads = refl; ending = λ place rest. denied _ _; narrows = λ h. h; divides = λ h. h; simply = λ os at u. refl }) (operand-completes os u (lower (Some (related c not_within)) None None []) k)
+completes (after_dot os u w p) k = first (t.Name blank) (record { reads = refl; ending = λ place rest. a_method _ _ blank; narrows = λ h. h; divides = λ h. h; simply = λ os at u. refl }) (call-completes os u w p blank k)
 completes (after_method os u w p n) k = call-completes os u w p n k
