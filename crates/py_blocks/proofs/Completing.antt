@@ -1,5 +1,5 @@
 -- Each cell that has begun goes on to one that ends with no more than what is forced of it.
-use Rattle.std.proofs.Common.{◌≡◌, ℕ, zero, suc, ◌≤◌, max, Bool, true, false, IsTrue, ◌&&◌, if◌then◌else◌, drop, List, [], ◌∷◌, length, Option, Some, None, refl, ap, ◌∙◌, sym, subst, arith}
+use Rattle.std.proofs.Common.{◌≡◌, ℕ, zero, suc, ◌≤◌, max, Bool, true, false, IsTrue, ◌&&◌, if◌then◌else◌, drop, List, [], ◌∷◌, ◌++◌, length, Option, Some, None, refl, ap, ◌∙◌, sym, subst, arith}
 use Rattle.std.specs.Prelude.{pos}
 use Rattle.std.proofs.lemmas.Bool.{false≢true}
 use Rattle.py_token.specs.declared.kinds.Kind.{Kind}
@@ -27,7 +27,7 @@ use Rattle.py_frames.specs.declared.seeing.Sight.{Sight}
 use Rattle.py_frames.specs.Values.{beside, places}
 use Rattle.py_frames.specs.Steps as e
 use Rattle.py_frames.specs.Ends as ex
-use Rattle.py_frames.specs.Targets.{sight}
+use Rattle.py_frames.specs.Targets.{sight, sight_if}
 use Rattle.py_frames.specs.Forced.{loose, forced, reach, AddsAt, EndsAs, Ending, a_name, bracket}
 use Rattle.py_frames.specs.Held.{target_primary, target_expression, target_elements, held}
 use Rattle.py_frames.proofs.Ended.{same, and_then, beside-adds}
@@ -59,8 +59,8 @@ pub record CellCloses (s : State) : Type 0 where
 abbrev Can : State → Kind → Type 0
 Can s t = (place : ℕ → ℕ) (texts : Texts) (rest : List Kind) → Closing (held_state place texts s (t ∷ rest)) t
 
-then : {s u : State} (t : Kind) → step s t ≡ Some u → Can s t → CellCloses u → CellCloses s
-then {s} {u} t e k c = record { more = t ∷ c.more; cell = c.cell; closes = onward s u t c.more c.cell e k c.closes }
+comes : {s u : State} (t : Kind) → step s t ≡ Some u → Can s t → CellCloses u → CellCloses s
+comes {s} {u} t e k c = record { more = t ∷ c.more; cell = c.cell; closes = onward s u t c.more c.cell e k c.closes }
 
 -- ---- what ends with a value
 
@@ -89,12 +89,12 @@ abbrev zero_line : Simple
 zero_line = show (single_of (number (pos 0)))
 
 line-closes : (os : List Outer) (before : Option Statements) → CellCloses (line os before)
-line-closes [] before = then t.End refl (λ place texts rest. finish _ _) (record { more = []; cell = before; closes = at_end before })
-line-closes (o ∷ os) (Some ss) = then t.Dedent refl (λ place texts rest. dedent _ _ _ _) (line-closes os (close o (indented ss)))
+line-closes [] before = comes t.End refl (λ place texts rest. finish _ _) (record { more = []; cell = before; closes = at_end before })
+line-closes (o ∷ os) (Some ss) = comes t.Dedent refl (λ place texts rest. dedent _ _ _ _) (line-closes os (close o (indented ss)))
 line-closes (o ∷ os) None =
-    then (t.Number (pos 0)) refl (λ place texts rest. statement _ _ _ (pos 0))
-    (then t.Newline refl (λ place texts rest. ends _ purpose.Showing _ (λ n. same _))
-    (then t.Dedent refl (λ place texts rest. dedent _ _ _ _) (line-closes os (close o (indented (statements_one (simple zero_line)))))))
+    comes (t.Number (pos 0)) refl (λ place texts rest. statement _ _ _ (pos 0))
+    (comes t.Newline refl (λ place texts rest. ends _ purpose.Showing _ (λ n. same _))
+    (comes t.Dedent refl (λ place texts rest. dedent _ _ _ _) (line-closes os (close o (indented (statements_one (simple zero_line)))))))
 
 ended-closes : (os : List Outer) (at : Spot) (s : Simple) → CellCloses (ended os at s)
 ended-closes os (own before) s = line-closes os _
@@ -102,8 +102,8 @@ ended-closes os (behind_head o) s = line-closes os _
 
 colon-closes : (os : List Outer) (o : Outer) → CellCloses (after_colon os o)
 colon-closes os o =
-    then (t.Number (pos 0)) refl (λ place texts rest. block _ _ (pos 0))
-    (then t.Newline refl (λ place texts rest. ends _ purpose.Showing _ (λ n. same _)) (ended-closes os (behind_head o) zero_line))
+    comes (t.Number (pos 0)) refl (λ place texts rest. block _ _ (pos 0))
+    (comes t.Newline refl (λ place texts rest. ends _ purpose.Showing _ (λ n. same _)) (ended-closes os (behind_head o) zero_line))
 
 -- ---- an expression of a simple statement
 
@@ -128,27 +128,27 @@ next-fits (augmenting to by) n f = tt
 simple-leads : (os : List Outer) (at : Spot) (u : Purpose) {x y : Reading} {ts : List Kind} → Leads x ts y → Fits u x → (Fits u y → CellCloses (in_simple os at u y)) → CellCloses (in_simple os at u x)
 simple-leads os at u (here x) f c = c f
 simple-leads os at u (one_more x z y t ts n l) f c =
-    then t (n.simply os at u ∙ ap (then_simple os at u) n.reads ∙ goes_on os at u z (next-fits u n f)) (λ place texts rest. goes _ _ _ t (n.ending place rest)) (simple-leads os at u l (next-fits u n f) c)
+    comes t (n.simply os at u ∙ ap (then_simple os at u) n.reads ∙ goes_on os at u z (next-fits u n f)) (λ place texts rest. goes _ _ _ t (n.ending place rest)) (simple-leads os at u l (next-fits u n f) c)
 
 abbrev Last : List r.Opened → List Picked → Option Ors → Option Ands → ℕ → Lower → Primary → Reading
 Last os ps o a n w p = has os (upper ps None o a n) w p
 
 -- it is a whole
 whole-last : (os : List r.Opened) (ps : List Picked) (o : Option Ors) (a : Option Ands) (n : ℕ) (w : Lower) (p : Primary) → Outermost os → (x : Exprs) × (whole (Last os ps o a n w p) ≡ Some x)
-whole-last [] ps o a n w p alone = (_, refl)
-whole-last (listed es ∷ []) ps o a n w p (in_tuple _) = (_, refl)
+whole-last _ ps o a n w p alone = (_, refl)
+whole-last _ ps o a n w p (in_tuple es) = (_, refl)
 
 give-closes : (os : List Outer) (at : Spot) (x : Reading) (c : Completion x) → CellCloses (in_simple os at giving x)
 give-closes os at x c = simple-leads os at giving c.leads tt (λ f. let z = whole-last c.os c.ps c.o c.a c.n c.w c.p c.outermost in
-    then t.Newline (ap (λ o. ends_with os at (if_made give o)) z.1) (λ place texts rest. ends _ purpose.Giving _ (λ n. given-adds n _ (ex.ended (held place (Last c.os c.ps c.o c.a c.n c.w c.p) (t.Newline ∷ rest))) (ended-as (held place (Last c.os c.ps c.o c.a c.n c.w c.p) (t.Newline ∷ rest))))) (ended-closes os at (give z.0)))
+    comes t.Newline (ap (λ o. ends_with os at (if_made give o)) z.1) (λ place texts rest. ends _ purpose.Giving _ (λ n. given-adds n _ (ex.ended (held place (Last c.os c.ps c.o c.a c.n c.w c.p) (t.Newline ∷ rest))) (ended-as (held place (Last c.os c.ps c.o c.a c.n c.w c.p) (t.Newline ∷ rest))))) (ended-closes os at (give z.0)))
 
 assign-closes : (os : List Outer) (at : Spot) (ts : Targets) (x : Reading) (c : Completion x) → CellCloses (in_simple os at (assigning ts) x)
 assign-closes os at ts x c = simple-leads os at (assigning ts) c.leads tt (λ f. let z = whole-last c.os c.ps c.o c.a c.n c.w c.p c.outermost in
-    then t.Newline (ap (λ o. ends_with os at (if_made (assign ts) o)) z.1) (λ place texts rest. ends _ _ _ (λ n. assigned-adds n _ _ (ex.ended (held place (Last c.os c.ps c.o c.a c.n c.w c.p) (t.Newline ∷ rest))) (ended-as (held place (Last c.os c.ps c.o c.a c.n c.w c.p) (t.Newline ∷ rest))))) (ended-closes os at (assign ts z.0)))
+    comes t.Newline (ap (λ o. ends_with os at (if_made (assign ts) o)) z.1) (λ place texts rest. ends _ _ _ (λ n. assigned-adds n _ _ (ex.ended (held place (Last c.os c.ps c.o c.a c.n c.w c.p) (t.Newline ∷ rest))) (ended-as (held place (Last c.os c.ps c.o c.a c.n c.w c.p) (t.Newline ∷ rest))))) (ended-closes os at (assign ts z.0)))
 
 augment-closes : (os : List Outer) (at : Spot) (to : g.Target) (by : g.Augmentation) (x : Reading) (c : Completion x) → CellCloses (in_simple os at (augmenting to by) x)
 augment-closes os at to by x c = simple-leads os at (augmenting to by) c.leads tt (λ f. let z = whole-last c.os c.ps c.o c.a c.n c.w c.p c.outermost in
-    then t.Newline (ap (λ o. ends_with os at (if_made (augment to by) o)) z.1) (λ place texts rest. ends _ _ _ (λ n. augmented-adds n _ _ _ _ (ex.ended (held place (Last c.os c.ps c.o c.a c.n c.w c.p) (t.Newline ∷ rest))) (ended-as (held place (Last c.os c.ps c.o c.a c.n c.w c.p) (t.Newline ∷ rest))))) (ended-closes os at (augment to by z.0)))
+    comes t.Newline (ap (λ o. ends_with os at (if_made (augment to by) o)) z.1) (λ place texts rest. ends _ _ _ (λ n. augmented-adds n _ _ _ _ (ex.ended (held place (Last c.os c.ps c.o c.a c.n c.w c.p) (t.Newline ∷ rest))) (ended-as (held place (Last c.os c.ps c.o c.a c.n c.w c.p) (t.Newline ∷ rest))))) (ended-closes os at (augment to by z.0)))
 
 -- ---- what may turn out to be targets
 
@@ -157,15 +157,15 @@ shows : (os : List Outer) (at : Spot) (os' : List r.Opened) (ps : List Picked) (
     → ((place : ℕ → ℕ) (rest : List Kind) → EndsAs (forced true (held place (Last os' ps o a n w p) rest)) (ex.ended (held place (Last os' ps o a n w p) rest))) → CellCloses (in_simple os at showing (Last os' ps o a n w p))
 shows os at os' ps o a n w p k f =
     let z = whole-last os' ps o a n w p k in
-    then t.Newline (ap (λ o. ends_with os at (if_made show o)) z.1) (λ place texts rest. ends _ purpose.Showing _ (λ i. shown-adds i _ _ (f place (t.Newline ∷ rest)))) (ended-closes os at (show z.0))
+    comes t.Newline (ap (λ o. ends_with os at (if_made show o)) z.1) (λ place texts rest. ends _ purpose.Showing _ (λ i. shown-adds i _ _ (f place (t.Newline ∷ rest)))) (ended-closes os at (show z.0))
 
 assigns-zero : (os : List Outer) (at : Spot) (ts : Targets) → CellCloses (in_simple os at (assigning ts) begun)
 assigns-zero os at ts = assign-closes os at ts begun (completes begun tt)
 
 -- one target, or one value alone
 one-shows : (os : List Outer) (at : Spot) (p : Primary) → CellCloses (in_simple os at showing (has [] no_upper no_lower p))
-one-shows os at (name n) = then assign_sign refl (λ place texts rest. assigned _ _ (λ i. same _)) (assigns-zero os at _)
-one-shows os at (index q x) = then assign_sign refl (λ place texts rest. assigned _ _ (λ i. same _)) (assigns-zero os at _)
+one-shows os at (name n) = comes assign_sign refl (λ place texts rest. assigned _ _ (λ i. same _)) (assigns-zero os at _)
+one-shows os at (index q x) = comes assign_sign refl (λ place texts rest. assigned _ _ (λ i. same _)) (assigns-zero os at _)
 one-shows os at p = shows os at [] [] None None zero no_lower p alone (λ place rest. refl)
 
 element-target : (a : Expression) → target_expression a ≡ true → (to : g.Target) × (target_of (primary_alone a) ≡ Some to)
@@ -196,14 +196,14 @@ dropped : {at : ℕ} (u : List ℕ) (v : Value) → AddsAt at (beside (drop 1 u)
 dropped [] v = same _
 dropped (y ∷ u) v = same _
 
+list-sees : (at : ℕ) (c : Bool) (under : List ℕ) (xs : List Expr) (v : Value) → c ≡ true → Sees at (beside (drop 1 under) (if c then v.under else places v)) (sight_if true c xs (drop 1 (beside under (places v))))
+list-sees at true under xs v k = dropped under v
+list-sees at false under xs v k = absurd (false≢true k)
+
 -- a list of targets
 tuple-sees : (at : ℕ) (may : Bool) (from : ℕ) (under : List ℕ) (xs : List Expr) (v : Value) → may ≡ true → v.target ≡ true → Sees at (forced true (Has (in_list from under xs may ∷ []) v)) (sight (Has (in_list from under xs may ∷ []) v))
 tuple-sees at may from under xs v e k =
-    subst (λ b. Sees at (forced true (Has (in_list from under xs b ∷ []) v)) (sight (Has (in_list from under xs b ∷ []) v))) (sym e) (seen v.target k)
-  where
-    seen : (c : Bool) → c ≡ true → Sees at (beside (drop 1 under) (if c then v.under else places v)) (if c then Some _ else None)
-    seen true k = dropped under v
-    seen false k = absurd (false≢true k)
+    subst (λ b. Sees at (forced true (Has (in_list from under xs b ∷ []) v)) (sight (Has (in_list from under xs b ∷ []) v))) (sym e) (list-sees at v.target under (xs ++ v.tree ∷ []) v k)
 
 abbrev Tupled : Elements → Primary → Reading
 Tupled es p = has (listed es ∷ []) no_upper no_lower p
@@ -211,14 +211,14 @@ Tupled es p = has (listed es ∷ []) no_upper no_lower p
 tuple-assigns : (os : List Outer) (at : Spot) (es : Elements) (p : Primary) (to : g.Target) → target_elements es ≡ true → target_of (Some p) ≡ Some to → target_primary p ≡ true → CellCloses (in_simple os at showing (Tupled es p))
 tuple-assigns os at es p to e k j =
     let ps = elements-places es e in
-    then assign_sign (ap (λ o. assigns os at showing (undivided_targets (more_places o (target_of (Some p))))) ps.1 ∙ ap (λ o. assigns os at showing (undivided_targets (more_places (Some ps.0) o))) k) (λ place texts rest. assigned _ _ (λ i. tuple-sees i (target_elements es) _ _ _ _ e j)) (assigns-zero os at (targets (places_more ps.0 to)))
+    comes assign_sign (ap (λ o. assigns os at showing (undivided_targets (more_places o (target_of (Some p))))) ps.1 ∙ ap (λ o. assigns os at showing (undivided_targets (more_places (Some ps.0) o))) k) (λ place texts rest. assigned _ _ (λ i. tuple-sees i (target_elements es) _ _ _ _ e j)) (assigns-zero os at (targets (places_more ps.0 to)))
 
 -- an item of it, if it is none
 tuple-extends : (os : List Outer) (at : Spot) (es : Elements) (p : Primary) → target_elements es ≡ true → ((place : ℕ → ℕ) (rest : List Kind) → target_primary p ≡ false) → CellCloses (in_simple os at showing (Tupled es p))
 tuple-extends os at es p e k =
-    then open_bracket refl (λ place texts rest. item _ purpose.Showing _ (λ i. extended i (target_elements es) (target_primary p) e (k place rest)))
-    (then (t.Name blank) refl (λ place texts rest. goes _ _ _ _ (a_name _ blank))
-    (then close_bracket refl (λ place texts rest. goes _ _ _ _ (bracket _ _)) (tuple-assigns os at es (index p _) _ e refl refl)))
+    comes open_bracket refl (λ place texts rest. item _ purpose.Showing _ (λ i. extended i (target_elements es) (target_primary p) e (k place rest)))
+    (comes (t.Name blank) refl (λ place texts rest. goes _ _ _ _ (a_name _ blank))
+    (comes close_bracket refl (λ place texts rest. goes _ _ _ _ (bracket _ _)) (tuple-assigns os at es (index p _) _ e refl refl)))
   where
     extended : (i : ℕ) (may c : Bool) {from : ℕ} {under : List ℕ} {v : Value} → may ≡ true → c ≡ false → AddsAt i (if (true && may) && true then beside (drop 1 under) (if c then v.under else places v) else from ∷ beside under (places v)) (if (true && may) && true then beside (drop 1 under) (beside (places v) []) else from ∷ beside under (v.from ∷ beside (places v) []))
     extended i true false {under = under} {v = v} e k = beside-adds (drop 1 under) (no-more (places v))
@@ -240,24 +240,24 @@ last-shows os at os' ps o a (suc n) (lower None None None []) p k = shows os at 
 last-shows os at os' ps o (Some a) zero (lower None None None []) p k = shows os at os' ps o (Some a) zero no_lower p k (λ place rest. operator-as _ _ _ refl)
 last-shows os at os' ps (Some o) None zero (lower None None None []) p k = shows os at os' ps (Some o) None zero no_lower p k (λ place rest. operator-as _ _ _ refl)
 last-shows os at os' (picked b test ∷ ps) None None zero (lower None None None []) p k = shows os at os' (picked b test ∷ ps) None None zero no_lower p k (λ place rest. operator-as _ _ _ refl)
-last-shows os at [] [] None None zero (lower None None None []) p alone = one-shows os at p
-last-shows os at (listed es ∷ []) [] None None zero (lower None None None []) p (in_tuple _) = tuple-shows os at es p (target_elements es) refl
+last-shows os at _ [] None None zero (lower None None None []) p alone = one-shows os at p
+last-shows os at _ [] None None zero (lower None None None []) p (in_tuple es) = tuple-shows os at es p (target_elements es) refl
 
 -- `del` of one target
 one-deletes : (os : List Outer) (at : Spot) (p : Primary) → CellCloses (in_simple os at deleting (has [] no_upper no_lower p))
-one-deletes os at (name n) = then t.Newline refl (λ place texts rest. ends _ purpose.Deleting _ (λ i. same _)) (ended-closes os at _)
-one-deletes os at (index q x) = then t.Newline refl (λ place texts rest. ends _ purpose.Deleting _ (λ i. same _)) (ended-closes os at _)
+one-deletes os at (name n) = comes t.Newline refl (λ place texts rest. ends _ purpose.Deleting _ (λ i. same _)) (ended-closes os at _)
+one-deletes os at (index q x) = comes t.Newline refl (λ place texts rest. ends _ purpose.Deleting _ (λ i. same _)) (ended-closes os at _)
 one-deletes os at p =
-    then open_bracket refl (λ place texts rest. item _ purpose.Deleting _ (λ i. no-more _))
-    (then (t.Name blank) refl (λ place texts rest. goes _ _ _ _ (a_name _ blank))
-    (then close_bracket refl (λ place texts rest. goes _ _ _ _ (bracket _ _))
-    (then t.Newline refl (λ place texts rest. ends _ purpose.Deleting _ (λ i. same _)) (ended-closes os at _))))
+    comes open_bracket refl (λ place texts rest. item _ purpose.Deleting _ (λ i. no-more _))
+    (comes (t.Name blank) refl (λ place texts rest. goes _ _ _ _ (a_name _ blank))
+    (comes close_bracket refl (λ place texts rest. goes _ _ _ _ (bracket _ _))
+    (comes t.Newline refl (λ place texts rest. ends _ purpose.Deleting _ (λ i. same _)) (ended-closes os at _))))
 
 last-deletes : (os : List Outer) (at : Spot) (os' : List r.Opened) (ps : List Picked) (o : Option Ors) (a : Option Ands) (n : ℕ) (w : Lower) (p : Primary) → Outermost os' → IsTrue (narrow (Last os' ps o a n w p)) → CellCloses (in_simple os at deleting (Last os' ps o a n w p))
-last-deletes os at [] ps o a n w p alone k =
+last-deletes os at _ ps o a n w p alone k =
     let b = bare_is (upper ps None o a n) w k in
     subst (λ u. CellCloses (in_simple os at deleting (has [] u w p))) (sym b.0) (subst (λ x. CellCloses (in_simple os at deleting (has [] no_upper x p))) (sym b.1) (one-deletes os at p))
-last-deletes os at (listed es ∷ []) ps o a n w p (in_tuple _) k = absurd (false≢true k)
+last-deletes os at _ ps o a n w p (in_tuple es) k = absurd (false≢true k)
 
 simple-closes : (os : List Outer) (at : Spot) (u : Purpose) (x : Reading) → Completion x → Fits u x → CellCloses (in_simple os at u x)
 simple-closes os at showing x c f = simple-leads os at showing c.leads tt (λ k. last-shows os at c.os c.ps c.o c.a c.n c.w c.p c.outermost)
@@ -278,30 +278,32 @@ test-leads : (os : List Outer) (before : Option Statements) (l : Lead) {x y : Re
 test-leads os before l (here x) f c = c f
 test-leads os before l (one_more x z y t ts n k) f c =
     let g = next-heads l n f in
-    then t (ap (then_test os before l x t) n.reads ∙ ap (λ b. if_allowed b (in_test os before l z)) g) (λ place texts rest. test _ _ t (n.ending place rest)) (test-leads os before l k g c)
+    comes t (ap (then_test os before l x t) n.reads ∙ ap (λ b. if_allowed b (in_test os before l z)) g) (λ place texts rest. test _ _ t (n.ending place rest)) (test-leads os before l k g c)
 
 last-heads : (os : List Outer) (before : Option Statements) (l : Lead) (os' : List r.Opened) (ps : List Picked) (o : Option Ors) (a : Option Ands) (n : ℕ) (w : Lower) (p : Primary) → Outermost os' → IsTrue (fits l (Last os' ps o a n w p)) → CellCloses (in_test os before l (Last os' ps o a n w p))
-last-heads os before lead_if [] ps o a n w p alone f = then colon refl (λ place texts rest. head _ _ _ (reading-ended place (Last [] ps o a n w p) (colon ∷ rest))) (colon-closes os _)
-last-heads os before (lead_elif bs) [] ps o a n w p alone f = then colon refl (λ place texts rest. head _ _ _ (reading-ended place (Last [] ps o a n w p) (colon ∷ rest))) (colon-closes os _)
-last-heads os before lead_while [] ps o a n w p alone f = then colon refl (λ place texts rest. head _ _ _ (reading-ended place (Last [] ps o a n w p) (colon ∷ rest))) (colon-closes os _)
-last-heads os before (lead_for vs) [] ps o a n w p alone f = then colon refl (λ place texts rest. head _ _ _ (reading-ended place (Last [] ps o a n w p) (colon ∷ rest))) (colon-closes os _)
-last-heads os before (lead_for vs) (listed es ∷ []) ps o a n w p (in_tuple _) f = then colon refl (λ place texts rest. head _ _ _ (reading-ended place (Last (listed es ∷ []) ps o a n w p) (colon ∷ rest))) (colon-closes os _)
-last-heads os before _ (listed es ∷ []) ps o a n w p (in_tuple _) f = absurd (false≢true f)
+last-heads os before lead_if _ ps o a n w p alone f = comes colon refl (λ place texts rest. head _ _ _ (reading-ended place (Last _ ps o a n w p) (colon ∷ rest))) (colon-closes os _)
+last-heads os before (lead_elif bs) _ ps o a n w p alone f = comes colon refl (λ place texts rest. head _ _ _ (reading-ended place (Last _ ps o a n w p) (colon ∷ rest))) (colon-closes os _)
+last-heads os before lead_while _ ps o a n w p alone f = comes colon refl (λ place texts rest. head _ _ _ (reading-ended place (Last _ ps o a n w p) (colon ∷ rest))) (colon-closes os _)
+last-heads os before (lead_for vs) _ ps o a n w p alone f = comes colon refl (λ place texts rest. head _ _ _ (reading-ended place (Last _ ps o a n w p) (colon ∷ rest))) (colon-closes os _)
+last-heads os before (lead_for vs) _ ps o a n w p (in_tuple es) f = comes colon refl (λ place texts rest. head _ _ _ (reading-ended place (Last _ ps o a n w p) (colon ∷ rest))) (colon-closes os _)
+last-heads os before lead_if _ ps o a n w p (in_tuple es) f = absurd (false≢true f)
+last-heads os before (lead_elif bs) _ ps o a n w p (in_tuple es) f = absurd (false≢true f)
+last-heads os before lead_while _ ps o a n w p (in_tuple es) f = absurd (false≢true f)
 
 test-closes : (os : List Outer) (before : Option Statements) (l : Lead) (x : Reading) → Completion x → IsTrue (fits l x) → CellCloses (in_test os before l x)
 test-closes os before l x c f = test-leads os before l c.leads f (λ k. last-heads os before l c.os c.ps c.o c.a c.n c.w c.p c.outermost k)
 
 variables-closes : (os : List Outer) (before : Option Statements) (ns : Names) → CellCloses (has_variables os before ns)
-variables-closes os before ns = then in_word refl (λ place texts rest. in_comes _ _) (test-closes os before (lead_for (variables ns)) begun (completes begun tt) refl)
+variables-closes os before ns = comes in_word refl (λ place texts rest. in_comes _ _) (test-closes os before (lead_for (variables ns)) begun (completes begun tt) refl)
 
 params-close : (before : Option Statements) (n : List ℕ) (ps : g.Params) → CellCloses (after_params before n ps)
-params-close before n ps = then colon refl (λ place texts rest. params_colon _ _ _) (colon-closes [] _)
+params-close before n ps = comes colon refl (λ place texts rest. params_colon _ _ _) (colon-closes [] _)
 
 in_params-closes : (before : Option Statements) (n : List ℕ) (ns : Option Names) → CellCloses (in_params before n ns)
-in_params-closes before n ns = then close_parenthesis refl (λ place texts rest. no_param _ _ _) (params-close before n (params_of ns))
+in_params-closes before n ns = comes close_parenthesis refl (λ place texts rest. no_param _ _ _) (params-close before n (params_of ns))
 
 name-closes : (before : Option Statements) (n : List ℕ) → CellCloses (after_def_name before n)
-name-closes before n = then open_parenthesis refl (λ place texts rest. after_name _ n) (in_params-closes before n None)
+name-closes before n = comes open_parenthesis refl (λ place texts rest. after_name _ n) (in_params-closes before n None)
 
 fit : (u : Purpose) (x : Reading) (a : g.Around) → purpose_stands u x a → Fits u x
 fit showing x a h = tt
@@ -313,22 +315,22 @@ fit (augmenting to by) x a h = tt
 pub state-closes : (s : State) → state_stands s → CellCloses s
 state-closes (line os before) h = line-closes os before
 state-closes (in_simple os at u x) h = simple-closes os at u x (completes x h.3) (fit u x _ h.2)
-state-closes (after_word os at w) h = then t.Newline refl (λ place texts rest. word_ends _ _) (ended-closes os at (word w))
+state-closes (after_word os at w) h = comes t.Newline refl (λ place texts rest. word_ends _ _) (ended-closes os at (word w))
 state-closes (in_global os at ns) h =
     let n = fresh_name ns (spot_heard os at) in
-    then (t.Name n) (ap (λ b. if_allowed b (has_global os at (add_name ns n))) (fresh_name-new ns (spot_heard os at))) (λ place texts rest. global_name _ _ n) (then t.Newline refl (λ place texts rest. after_global _ _) (ended-closes os at _))
-state-closes (has_global os at ns) h = then t.Newline refl (λ place texts rest. after_global _ _) (ended-closes os at (declare ns))
+    comes (t.Name n) (ap (λ b. if_allowed b (has_global os at (add_name ns n))) (fresh_name-new ns (spot_heard os at))) (λ place texts rest. global_name _ _ n) (comes t.Newline refl (λ place texts rest. after_global _ _) (ended-closes os at _))
+state-closes (has_global os at ns) h = comes t.Newline refl (λ place texts rest. after_global _ _) (ended-closes os at (declare ns))
 state-closes (in_test os before l x) h = test-closes os before l x (completes x h.4) h.3
-state-closes (in_variables os before ns) h = then (t.Name blank) refl (λ place texts rest. variable _ _ blank) (variables-closes os before (add_name ns blank))
+state-closes (in_variables os before ns) h = comes (t.Name blank) refl (λ place texts rest. variable _ _ blank) (variables-closes os before (add_name ns blank))
 state-closes (has_variables os before ns) h = variables-closes os before ns
-state-closes (after_else os before bs) h = then colon refl (λ place texts rest. else_ends _ _ _) (colon-closes os _)
-state-closes (after_def before) h = then (t.Name blank) refl (λ place texts rest. def_named _ blank) (name-closes before blank)
+state-closes (after_else os before bs) h = comes colon refl (λ place texts rest. else_ends _ _ _) (colon-closes os _)
+state-closes (after_def before) h = comes (t.Name blank) refl (λ place texts rest. def_named _ blank) (name-closes before blank)
 state-closes (after_def_name before n) h = name-closes before n
 state-closes (in_params before n ns) h = in_params-closes before n ns
-state-closes (has_params before n ns) h = then close_parenthesis refl (λ place texts rest. params_end _ _ _) (params-close before n (params ns))
+state-closes (has_params before n ns) h = comes close_parenthesis refl (λ place texts rest. params_end _ _ _) (params-close before n (params ns))
 state-closes (after_params before n ps) h = params-close before n ps
 state-closes (after_colon os o) h = colon-closes os o
-state-closes (after_newline os o) h = then t.Indent refl (λ place texts rest. indent _ _) (line-closes (o ∷ os) None)
+state-closes (after_newline os o) h = comes t.Indent refl (λ place texts rest. indent _ _) (line-closes (o ∷ os) None)
 state-closes (done c) h = record { more = []; cell = c; closes = at_end c }
 
 -- ---- it reads to the end, and adds no more

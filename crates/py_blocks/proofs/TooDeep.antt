@@ -40,10 +40,11 @@ larger (suc x) (suc y) = elim (larger x y) [ inl e ↦ inl (omega (arith, e)) | 
 reaches : (p : List ℕ) (d : ℕ) → 0 < reach p d → Reaches p d
 reaches [] d h = absurd (omega (arith, h))
 reaches (x ∷ p) (suc d) h = let k = reaches p d h in record { depth = suc k.depth; deep = omega (arith, k.deep); is = k.is }
-reaches (x ∷ p) zero h = elim (larger x (reach p zero)) [ inl e ↦ record { depth = zero; deep = omega arith; is = ap Some (sym e) } | inr e ↦ on e ]
+reaches (x ∷ p) zero h = reaches-in x p h (reaches p zero) (larger x (reach p zero))
   where
-    on : max x (reach p zero) ≡ reach p zero → Reaches (x ∷ p) zero
-    on e = let k = reaches p zero (subst (λ n. 0 < n) e h) in record { depth = suc k.depth; deep = omega arith; is = k.is ∙ ap Some (sym e) }
+    reaches-in : (x : ℕ) (p : List ℕ) → 0 < max x (reach p zero) → (0 < reach p zero → Reaches p zero) → (max x (reach p zero) ≡ x) ⊎ (max x (reach p zero) ≡ reach p zero) → Reaches (x ∷ p) zero
+    reaches-in x p h f (inl e) = record { depth = zero; deep = omega arith; is = ap Some (sym e) }
+    reaches-in x p h f (inr e) = let k = f (subst (λ n. 0 < n) e h) in record { depth = suc k.depth; deep = omega arith; is = k.is ∙ ap Some (sym e) }
 
 some-same : {a b : ℕ} → ◌≡◌ {A = Option ℕ} (Some a) (Some b) → a ≡ b
 some-same {a} {b} e = cc
@@ -80,20 +81,19 @@ all-less xs m l h a k d b = let x = a k d b in omega (arith, h, x)
 
 is-first : (xs : List ℕ) (l : ℕ) → first xs ≡ Some l → IsFirst xs l
 is-first [] l e = none-some e
-is-first (x ∷ xs) l e = on (first xs) refl e
+is-first (x ∷ xs) l e = on (first xs) (is-first xs) refl e
   where
-    on : (o : Option ℕ) → first xs ≡ o → either (Some x) o ≡ Some l → IsFirst (x ∷ xs) l
-    on None f e =
+    one : {y : ℕ} → (max x y ≡ x) ⊎ (max x y ≡ y) → Contains xs y → Contains (x ∷ xs) (max x y)
+    one {y} (inl e) c = subst (Contains (x ∷ xs)) (sym e) (in-front x xs)
+    one {y} (inr e) c = subst (Contains (x ∷ xs)) (sym e) (Contains-append_right (x ∷ []) xs y c)
+    on : (o : Option ℕ) → ((m : ℕ) → first xs ≡ Some m → IsFirst xs m) → first xs ≡ o → either (Some x) o ≡ Some l → IsFirst (x ∷ xs) l
+    on None g f e =
         let s = some-same e in
         subst (IsFirst (x ∷ xs)) s (record { is_in = in-front x xs; greatest = All-cons (λ o. o ≤ x) x xs (omega arith) (subst (All (λ o. o ≤ x)) (sym (first-none xs f)) (All-nil (λ o. o ≤ x))) })
-    on (Some y) f e =
+    on (Some y) g f e =
         let s = some-same e in
-        let k = is-first xs y f in
+        let k = g y f in
         subst (IsFirst (x ∷ xs)) s (record { is_in = one (larger x y) k.is_in; greatest = All-cons (λ o. o ≤ max x y) x xs (omega arith) (all-less xs y (max x y) (omega arith) k.greatest) })
-      where
-        one : {y : ℕ} → (max x y ≡ x) ⊎ (max x y ≡ y) → Contains xs y → Contains (x ∷ xs) (max x y)
-        one {y} (inl e) c = subst (Contains (x ∷ xs)) (sym e) (in-front x xs)
-        one {y} (inr e) c = subst (Contains (x ∷ xs)) (sym e) (Contains-append_right (x ∷ []) xs y c)
 
 -- ---- a cell, by the places of its parts
 
@@ -160,11 +160,11 @@ then_run texts at ts o = elim o [ None ↦ None | Some r ↦ run false texts at 
 
 run-joined : (texts : Texts) (at : ℕ) (r : Reader) (xs ys : List Kind) → run false texts at r (xs ++ ys) ≡ then_run texts (at - length xs) ys (run false texts at r xs)
 run-joined texts at r [] ys = ap (λ n. run false texts n r ys) (omega arith)
-run-joined texts at r (x ∷ xs) ys = on (step false texts at (at - 1) r x)
+run-joined texts at r (x ∷ xs) ys = on (step false texts at (at - 1) r x) (λ q. run-joined texts (at - 1) q xs ys)
   where
-    on : (o : Option Reader) → (elim o [ None ↦ None | Some q ↦ run false texts (at - 1) q (xs ++ ys) ]) ≡ then_run texts (at - suc (length xs)) ys (elim o [ None ↦ None | Some q ↦ run false texts (at - 1) q xs ])
-    on None = refl
-    on (Some q) = run-joined texts (at - 1) q xs ys ∙ ap (λ n. then_run texts n ys (run false texts (at - 1) q xs)) (omega arith)
+    on : (o : Option Reader) → ((q : Reader) → run false texts (at - 1) q (xs ++ ys) ≡ then_run texts (at - 1 - length xs) ys (run false texts (at - 1) q xs)) → (elim o [ None ↦ None | Some q ↦ run false texts (at - 1) q (xs ++ ys) ]) ≡ then_run texts (at - suc (length xs)) ys (elim o [ None ↦ None | Some q ↦ run false texts (at - 1) q xs ])
+    on None f = refl
+    on (Some q) f = f q ∙ ap (λ n. then_run texts n ys (run false texts (at - 1) q xs)) (omega arith)
 
 -- the forms that have been read, whatever comes
 record Read (texts : Texts) (most : ℕ) (tokens : List Kind) (reader : Reader) : Type 0 where
