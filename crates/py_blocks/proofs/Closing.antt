@@ -1,5 +1,5 @@
 -- By the tokens that end a cell no more is forced.
-use Rattle.std.proofs.Common.{◌≡◌, ℕ, max, ◌≤◌, Bool, true, false, if◌then◌else◌, List, [], ◌∷◌, ◌++◌, Option, Some, None, refl, ap, ◌∙◌, sym, subst, arith}
+use Rattle.std.proofs.Common.{◌≡◌, ℕ, zero, suc, max, ◌≤◌, Bool, true, false, if◌then◌else◌, List, [], ◌∷◌, ◌++◌, Option, Some, None, refl, ap, ◌∙◌, sym, subst, arith}
 use Rattle.std.proofs.lemmas.Bool.{false≢true}
 use Rattle.py_token.specs.declared.kinds.Kind.{Kind}
 use Rattle.py_token.specs.declared.kinds.Kind.TheVariants as t
@@ -20,7 +20,7 @@ use Rattle.py_frames.specs.Targets.{sight}
 use Rattle.py_frames.specs.Forced as f
 use Rattle.py_frames.specs.Forced.{forced, reach, AddsAt, EndsAs, of_dict, is_dict, Ending, a_name, no_args, parenthesis, bracket, brace, otherwise, key, related, no_value, not_no_value, within, a_method, called}
 use Rattle.py_frames.proofs.Forced.{reach-beside, beside-none}
-use Rattle.py_frames.proofs.Ended.{same, and_then, cons, beside-adds, one, ending-adds}
+use Rattle.py_frames.proofs.Ended.{same, and_then, cons, beside-adds, ending-adds}
 use Rattle.py_frames.proofs.AtEnd.{ended-as}
 use Rattle.py_blocks.specs.declared.state.Begun.{Begun}
 use Rattle.py_blocks.specs.declared.state.Done.{Done}
@@ -47,9 +47,17 @@ use Rattle.py_blocks.proofs.Sooner.{closed-forced, ended-forced, colon-either}
 pub equal : {at : ℕ} {p q : List ℕ} → p ≡ q → AddsAt at p q
 equal {at} {p} {q} e = subst (AddsAt at p) e (same p)
 
--- one part more
-one-more : (at : ℕ) (p : List ℕ) → AddsAt at p (beside p (at ∷ []))
-one-more at p = record { each = λ d. omega (arith, reach-beside p (at ∷ []) d, (one at).each d) }
+two-each : (at d : ℕ) → reach (at ∷ at ∷ []) d ≤ max at (reach [] d)
+two-each at zero = omega arith
+two-each at (suc zero) = omega arith
+two-each at (suc (suc d)) = omega arith
+
+-- a part, and one in it
+two : (at : ℕ) → AddsAt at [] (at ∷ at ∷ [])
+two at = record { each = two-each at }
+
+two-more : (at : ℕ) (p : List ℕ) → AddsAt at p (beside p (at ∷ at ∷ []))
+two-more at p = record { each = λ d. omega (arith, reach-beside p (at ∷ at ∷ []) d, (two at).each d) }
 
 pub no-more : {at : ℕ} (p : List ℕ) → AddsAt at p (beside p [])
 no-more p = equal (sym (beside-none p))
@@ -175,7 +183,7 @@ dedent-adds texts at left o os done (last.Branches b) = equal (sym (closed-force
 -- ---- one more token
 
 pub closing-adds : (texts : Texts) (at left : ℕ) (x : State) (names : Names) (token : Kind) → Closing x token → Adds at (forced_now x) (moves false texts at left x names token)
-closing-adds texts at left x names token (statement os done l n) = enclose-adds os (one-more at (settled done l).under)
+closing-adds texts at left x names token (statement os done l n) = enclose-adds os (two-more at (settled done l).under)
 closing-adds texts at left x names token (dedent o os done l) = dedent-adds texts at left o os done l
 closing-adds texts at left x names token (finish done l) = same _
 closing-adds texts at left x names token (goes y u r z d) = subst (Adds at (in_simple y (in_purpose u r))) (sym (ending-goes_on texts at left y u r z d)) (goes_on-adds at y u _ (e.step r z at) (reading-adds at u r (e.step r z at) (λ targets. ending-adds targets r z at d)))
@@ -196,5 +204,5 @@ closing-adds texts at left x names token (after_name b n) = same _
 closing-adds texts at left x names token (no_param b n ps) = same _
 closing-adds texts at left x names token (params b n ps) = same _
 closing-adds texts at left x names token (after_params b n ps) = same _
-closing-adds texts at left x names token (block os o n) = enclose-adds (o ∷ os) (one at)
+closing-adds texts at left x names token (block os o n) = enclose-adds (o ∷ os) (two at)
 closing-adds texts at left x names token (indent os o) = same _

@@ -8,8 +8,8 @@ use Rattle.py_tree.specs.declared.expressions.Expr.{Expr}
 use Rattle.py_tree.specs.declared.expressions.Op.{Op}
 use Rattle.py_tree.specs.declared.expressions.Target as tree_of
 use Rattle.py_tree.specs.declared.statements.Stmt.{Stmt}
-use Rattle.py_grammar.specs.Words.{in_word, assign_sign, open_parenthesis, close_parenthesis, open_bracket, close_bracket, colon}
-use Rattle.py_grammar.specs.Expressions.{plain, ors_one, ands_one, compared, compares_one, sums_one, products_one, unsigned, Expression, Ors, Ands, Primary, name, number, index, Exprs, single, tuple, Elements, elements_one, elements_more}
+use Rattle.py_grammar.specs.Words.{in_word, assign_sign, open_parenthesis, close_parenthesis, open_bracket, close_bracket, colon, comma}
+use Rattle.py_grammar.specs.Expressions.{plain, ors_one, ands_one, compared, compares_one, sums_one, products_one, unsigned, Expression, Ors, Ands, Primary, name, number, index, Exprs, single, tuple, Elements, elements_one, elements_more, spell_primary}
 use Rattle.py_grammar.specs.Readings as r
 use Rattle.py_grammar.specs.Readings.{Picked, picked, upper, no_upper, related, added, scaled, Lower, lower, no_lower, in_index, opened, listed, Reading, wants, has, begun, bare, narrow, undivided, whole, reading_stands}
 use Rattle.py_grammar.specs.Statements as g
@@ -29,7 +29,8 @@ use Rattle.py_frames.specs.Steps as e
 use Rattle.py_frames.specs.Ends as ex
 use Rattle.py_frames.specs.Targets.{sight, sight_if}
 use Rattle.py_frames.specs.Forced.{loose, forced, reach, AddsAt, EndsAs, Ending, a_name, bracket}
-use Rattle.py_frames.specs.Held.{target_primary, target_expression, target_elements, held}
+use Rattle.py_frames.specs.Held.{target_primary, target_expression, target_elements, value_primary, frame_tuple, held}
+use Rattle.py_frames.specs.Kept.{kept_elements}
 use Rattle.py_frames.proofs.Ended.{same, and_then, beside-adds}
 use Rattle.py_frames.proofs.AtEnd.{ended-as, operator-as}
 use Rattle.py_frames.proofs.Completing.{Next, Leads, here, onward as one_more, Outermost, alone, in_tuple, Completion, completes, blank}
@@ -211,19 +212,19 @@ Tupled es p = has (listed es ∷ []) no_upper no_lower p
 tuple-assigns : (os : List Outer) (at : Spot) (es : Elements) (p : Primary) (to : g.Target) → target_elements es ≡ true → target_of (Some p) ≡ Some to → target_primary p ≡ true → CellCloses (in_simple os at showing (Tupled es p))
 tuple-assigns os at es p to e k j =
     let ps = elements-places es e in
-    comes assign_sign (ap (λ o. assigns os at showing (undivided_targets (more_places o (target_of (Some p))))) ps.1 ∙ ap (λ o. assigns os at showing (undivided_targets (more_places (Some ps.0) o))) k) (λ place texts rest. assigned _ _ (λ i. tuple-sees i (target_elements es) _ _ _ _ e j)) (assigns-zero os at (targets (places_more ps.0 to)))
+    comes assign_sign (ap (λ o. assigns os at showing (undivided_targets (more_places o (target_of (Some p))))) ps.1 ∙ ap (λ o. assigns os at showing (undivided_targets (more_places (Some ps.0) o))) k) (λ place texts rest. assigned _ _ (λ i. tuple-sees i (target_elements es) (frame_tuple place es (spell_primary p (assign_sign ∷ rest))).from (frame_tuple place es (spell_primary p (assign_sign ∷ rest))).under (kept_elements place es (comma ∷ spell_primary p (assign_sign ∷ rest))) (value_primary place p (assign_sign ∷ rest)) e j)) (assigns-zero os at (targets (places_more ps.0 to)))
 
 -- an item of it, if it is none
 tuple-extends : (os : List Outer) (at : Spot) (es : Elements) (p : Primary) → target_elements es ≡ true → ((place : ℕ → ℕ) (rest : List Kind) → target_primary p ≡ false) → CellCloses (in_simple os at showing (Tupled es p))
 tuple-extends os at es p e k =
-    comes open_bracket refl (λ place texts rest. item _ purpose.Showing _ (λ i. extended i (target_elements es) (target_primary p) e (k place rest)))
+    comes open_bracket refl (λ place texts rest. item _ purpose.Showing _ (λ i. extended i (target_elements es) (target_primary p) (frame_tuple place es (spell_primary p (open_bracket ∷ rest))).from (frame_tuple place es (spell_primary p (open_bracket ∷ rest))).under (value_primary place p (open_bracket ∷ rest)) e (k place rest)))
     (comes (t.Name blank) refl (λ place texts rest. goes _ _ _ _ (a_name _ blank))
     (comes close_bracket refl (λ place texts rest. goes _ _ _ _ (bracket _ _)) (tuple-assigns os at es (index p _) _ e refl refl)))
   where
-    extended : (i : ℕ) (may c : Bool) {from : ℕ} {under : List ℕ} {v : Value} → may ≡ true → c ≡ false → AddsAt i (if (true && may) && true then beside (drop 1 under) (if c then v.under else places v) else from ∷ beside under (places v)) (if (true && may) && true then beside (drop 1 under) (beside (places v) []) else from ∷ beside under (v.from ∷ beside (places v) []))
-    extended i true false {under = under} {v = v} e k = beside-adds (drop 1 under) (no-more (places v))
-    extended i true true e k = absurd (false≢true (sym k))
-    extended i false c e k = absurd (false≢true e)
+    extended : (i : ℕ) (may c : Bool) (from : ℕ) (under : List ℕ) (v : Value) → may ≡ true → c ≡ false → AddsAt i (if (true && may) && true then beside (drop 1 under) (if c then v.under else places v) else from ∷ beside under (places v)) (if (true && may) && true then beside (drop 1 under) (beside (places v) []) else from ∷ beside under (v.from ∷ beside (places v) []))
+    extended i true false from under v e k = beside-adds (drop 1 under) (no-more (places v))
+    extended i true true from under v e k = absurd (false≢true (sym k))
+    extended i false c from under v e k = absurd (false≢true e)
 
 tuple-shows : (os : List Outer) (at : Spot) (es : Elements) (p : Primary) (b : Bool) → target_elements es ≡ b → CellCloses (in_simple os at showing (Tupled es p))
 tuple-shows os at es (name n) true e = tuple-assigns os at es (name n) _ e refl refl
@@ -281,11 +282,11 @@ test-leads os before l (one_more x z y t ts n k) f c =
     comes t (ap (then_test os before l x t) n.reads ∙ ap (λ b. if_allowed b (in_test os before l z)) g) (λ place texts rest. test _ _ t (n.ending place rest)) (test-leads os before l k g c)
 
 last-heads : (os : List Outer) (before : Option Statements) (l : Lead) (os' : List r.Opened) (ps : List Picked) (o : Option Ors) (a : Option Ands) (n : ℕ) (w : Lower) (p : Primary) → Outermost os' → IsTrue (fits l (Last os' ps o a n w p)) → CellCloses (in_test os before l (Last os' ps o a n w p))
-last-heads os before lead_if _ ps o a n w p alone f = comes colon refl (λ place texts rest. head _ _ _ (reading-ended place (Last _ ps o a n w p) (colon ∷ rest))) (colon-closes os _)
-last-heads os before (lead_elif bs) _ ps o a n w p alone f = comes colon refl (λ place texts rest. head _ _ _ (reading-ended place (Last _ ps o a n w p) (colon ∷ rest))) (colon-closes os _)
-last-heads os before lead_while _ ps o a n w p alone f = comes colon refl (λ place texts rest. head _ _ _ (reading-ended place (Last _ ps o a n w p) (colon ∷ rest))) (colon-closes os _)
-last-heads os before (lead_for vs) _ ps o a n w p alone f = comes colon refl (λ place texts rest. head _ _ _ (reading-ended place (Last _ ps o a n w p) (colon ∷ rest))) (colon-closes os _)
-last-heads os before (lead_for vs) _ ps o a n w p (in_tuple es) f = comes colon refl (λ place texts rest. head _ _ _ (reading-ended place (Last _ ps o a n w p) (colon ∷ rest))) (colon-closes os _)
+last-heads os before lead_if _ ps o a n w p alone f = comes colon refl (λ place texts rest. head _ _ _ (reading-ended place (Last [] ps o a n w p) (colon ∷ rest))) (colon-closes os _)
+last-heads os before (lead_elif bs) _ ps o a n w p alone f = comes colon refl (λ place texts rest. head _ _ _ (reading-ended place (Last [] ps o a n w p) (colon ∷ rest))) (colon-closes os _)
+last-heads os before lead_while _ ps o a n w p alone f = comes colon refl (λ place texts rest. head _ _ _ (reading-ended place (Last [] ps o a n w p) (colon ∷ rest))) (colon-closes os _)
+last-heads os before (lead_for vs) _ ps o a n w p alone f = comes colon refl (λ place texts rest. head _ _ _ (reading-ended place (Last [] ps o a n w p) (colon ∷ rest))) (colon-closes os _)
+last-heads os before (lead_for vs) _ ps o a n w p (in_tuple es) f = comes colon refl (λ place texts rest. head _ _ _ (reading-ended place (Last (listed es ∷ []) ps o a n w p) (colon ∷ rest))) (colon-closes os _)
 last-heads os before lead_if _ ps o a n w p (in_tuple es) f = absurd (false≢true f)
 last-heads os before (lead_elif bs) _ ps o a n w p (in_tuple es) f = absurd (false≢true f)
 last-heads os before lead_while _ ps o a n w p (in_tuple es) f = absurd (false≢true f)
