@@ -230,7 +230,7 @@ tuple-shows : (os : List Outer) (at : Spot) (es : Elements) (p : Primary) (b : B
 tuple-shows os at es (name n) true e = tuple-assigns os at es (name n) _ e refl refl
 tuple-shows os at es (index q x) true e = tuple-assigns os at es (index q x) _ e refl refl
 tuple-shows os at es p true e = tuple-extends os at es p e (λ place rest. refl)
-tuple-shows os at es p false e = shows os at (listed es ∷ []) [] None None zero no_lower p (in_tuple es) (λ place rest. tuple-as (target_elements es) _ _ _ _ e)
+tuple-shows os at es p false e = shows os at (listed es ∷ []) [] None None zero no_lower p (in_tuple es) (λ place rest. tuple-as (target_elements es) (frame_tuple place es (spell_primary p rest)).from (frame_tuple place es (spell_primary p rest)).under (kept_elements place es (comma ∷ spell_primary p rest)) (value_primary place p rest) e)
 
 last-shows : (os : List Outer) (at : Spot) (os' : List r.Opened) (ps : List Picked) (o : Option Ors) (a : Option Ands) (n : ℕ) (w : Lower) (p : Primary) → Outermost os' → CellCloses (in_simple os at showing (Last os' ps o a n w p))
 last-shows os at os' ps o a n (lower x y z (s ∷ ss)) p k = shows os at os' ps o a n (lower x y z (s ∷ ss)) p k (λ place rest. operator-as _ _ _ refl)
@@ -240,7 +240,7 @@ last-shows os at os' ps o a n (lower (Some (related c s)) None None []) p k = sh
 last-shows os at os' ps o a (suc n) (lower None None None []) p k = shows os at os' ps o a (suc n) no_lower p k (λ place rest. operator-as _ _ _ refl)
 last-shows os at os' ps o (Some a) zero (lower None None None []) p k = shows os at os' ps o (Some a) zero no_lower p k (λ place rest. operator-as _ _ _ refl)
 last-shows os at os' ps (Some o) None zero (lower None None None []) p k = shows os at os' ps (Some o) None zero no_lower p k (λ place rest. operator-as _ _ _ refl)
-last-shows os at os' (picked b test ∷ ps) None None zero (lower None None None []) p k = shows os at os' (picked b test ∷ ps) None None zero no_lower p k (λ place rest. operator-as _ _ _ refl)
+last-shows os at os' (picked b y ∷ ps) None None zero (lower None None None []) p k = shows os at os' (picked b y ∷ ps) None None zero no_lower p k (λ place rest. operator-as _ _ _ refl)
 last-shows os at _ [] None None zero (lower None None None []) p alone = one-shows os at p
 last-shows os at _ [] None None zero (lower None None None []) p (in_tuple es) = tuple-shows os at es p (target_elements es) refl
 
