@@ -1,5 +1,5 @@
 -- Each cell that has begun goes on to one that ends with no more than what is forced of it.
-use Rattle.std.proofs.Common.{◌≡◌, ℕ, zero, suc, ◌≤◌, max, Bool, true, false, IsTrue, ◌&&◌, if◌then◌else◌, drop, List, [], ◌∷◌, ◌++◌, length, Option, Some, None, refl, ap, ◌∙◌, sym, subst, arith}
+use Rattle.std.proofs.Common.{◌≡◌, ℕ, zero, suc, ◌≤◌, max, Bool, true, false, IsTrue, ◌&&◌, if◌then◌else◌, nat_le, drop, List, [], ◌∷◌, ◌++◌, length, Option, Some, None, refl, ap, ◌∙◌, sym, subst, arith}
 use Rattle.std.specs.Prelude.{pos}
 use Rattle.std.proofs.lemmas.Bool.{false≢true}
 use Rattle.py_token.specs.declared.kinds.Kind.{Kind}
@@ -19,12 +19,12 @@ use Rattle.py_grammar.proofs.Bare.{bare_is}
 use Rattle.py_grammar.proofs.Completed.{fresh_name, fresh_name-new}
 use Rattle.py_grammar.proofs.Keeps.{Keeps, step-keeps}
 use Rattle.py_frames.specs.declared.frames.State as reading
-use Rattle.py_frames.specs.declared.frames.State.TheVariants.{Has}
+use Rattle.py_frames.specs.declared.frames.State.TheVariants.{Wants, Has, Compared, AfterIs, AfterIsNot, AfterNot, AfterDot, AfterMethod}
 use Rattle.py_frames.specs.declared.frames.Value.{Value}
 use Rattle.py_frames.specs.declared.frames.Frame.{Frame}
 use Rattle.py_frames.specs.declared.frames.Hole.TheVariants as hole_of
 use Rattle.py_frames.specs.declared.seeing.Sight.{Sight}
-use Rattle.py_frames.specs.Values.{beside, places}
+use Rattle.py_frames.specs.Values.{beside, places, level}
 use Rattle.py_frames.specs.Steps as e
 use Rattle.py_frames.specs.Ends as ex
 use Rattle.py_frames.specs.Targets.{sight, sight_if}
@@ -232,15 +232,31 @@ tuple-shows os at es (index q x) true e = tuple-assigns os at es (index q x) _ e
 tuple-shows os at es p true e = tuple-extends os at es p e (λ place rest. refl)
 tuple-shows os at es p false e = shows os at (listed es ∷ []) [] None None zero no_lower p (in_tuple es) (λ place rest. tuple-as (target_elements es) (frame_tuple place es (spell_primary p rest)).from (frame_tuple place es (spell_primary p rest)).under (kept_elements place es (comma ∷ spell_primary p rest)) (value_primary place p rest) e)
 
+-- an operator is before what has ended last
+abbrev AfterOperator : reading.State → Type 0
+AfterOperator (Has (x ∷ fs) v) = nat_le 2 (level x.hole) ≡ true
+AfterOperator _ = ⊥
+
+operated : (x : reading.State) → AfterOperator x → EndsAs (forced true x) (ex.ended x)
+operated (Has (x ∷ fs) v) e = operator-as x fs v e
+operated (Has [] v) e = elim e [ ]
+operated (Wants fs) e = elim e [ ]
+operated (Compared fs c) e = elim e [ ]
+operated (AfterIs fs c) e = elim e [ ]
+operated (AfterIsNot fs c) e = elim e [ ]
+operated (AfterNot fs c) e = elim e [ ]
+operated (AfterDot fs v) e = elim e [ ]
+operated (AfterMethod fs v n) e = elim e [ ]
+
 last-shows : (os : List Outer) (at : Spot) (os' : List r.Opened) (ps : List Picked) (o : Option Ors) (a : Option Ands) (n : ℕ) (w : Lower) (p : Primary) → Outermost os' → CellCloses (in_simple os at showing (Last os' ps o a n w p))
-last-shows os at os' ps o a n (lower x y z (s ∷ ss)) p k = shows os at os' ps o a n (lower x y z (s ∷ ss)) p k (λ place rest. operator-as _ _ _ refl)
-last-shows os at os' ps o a n (lower x y (Some (scaled b s)) []) p k = shows os at os' ps o a n (lower x y (Some (scaled b s)) []) p k (λ place rest. operator-as _ _ _ refl)
-last-shows os at os' ps o a n (lower x (Some (added b s)) None []) p k = shows os at os' ps o a n (lower x (Some (added b s)) None []) p k (λ place rest. operator-as _ _ _ refl)
-last-shows os at os' ps o a n (lower (Some (related c s)) None None []) p k = shows os at os' ps o a n (lower (Some (related c s)) None None []) p k (λ place rest. operator-as _ _ _ refl)
-last-shows os at os' ps o a (suc n) (lower None None None []) p k = shows os at os' ps o a (suc n) no_lower p k (λ place rest. operator-as _ _ _ refl)
-last-shows os at os' ps o (Some a) zero (lower None None None []) p k = shows os at os' ps o (Some a) zero no_lower p k (λ place rest. operator-as _ _ _ refl)
-last-shows os at os' ps (Some o) None zero (lower None None None []) p k = shows os at os' ps (Some o) None zero no_lower p k (λ place rest. operator-as _ _ _ refl)
-last-shows os at os' (picked b y ∷ ps) None None zero (lower None None None []) p k = shows os at os' (picked b y ∷ ps) None None zero no_lower p k (λ place rest. operator-as _ _ _ refl)
+last-shows os at os' ps o a n (lower x y z (s ∷ ss)) p k = shows os at os' ps o a n (lower x y z (s ∷ ss)) p k (λ place rest. operated (held place (Last os' ps o a n (lower x y z (s ∷ ss)) p) rest) refl)
+last-shows os at os' ps o a n (lower x y (Some (scaled b s)) []) p k = shows os at os' ps o a n (lower x y (Some (scaled b s)) []) p k (λ place rest. operated (held place (Last os' ps o a n (lower x y (Some (scaled b s)) []) p) rest) refl)
+last-shows os at os' ps o a n (lower x (Some (added b s)) None []) p k = shows os at os' ps o a n (lower x (Some (added b s)) None []) p k (λ place rest. operated (held place (Last os' ps o a n (lower x (Some (added b s)) None []) p) rest) refl)
+last-shows os at os' ps o a n (lower (Some (related c s)) None None []) p k = shows os at os' ps o a n (lower (Some (related c s)) None None []) p k (λ place rest. operated (held place (Last os' ps o a n (lower (Some (related c s)) None None []) p) rest) refl)
+last-shows os at os' ps o a (suc n) (lower None None None []) p k = shows os at os' ps o a (suc n) no_lower p k (λ place rest. operated (held place (Last os' ps o a (suc n) no_lower p) rest) refl)
+last-shows os at os' ps o (Some a) zero (lower None None None []) p k = shows os at os' ps o (Some a) zero no_lower p k (λ place rest. operated (held place (Last os' ps o (Some a) zero no_lower p) rest) refl)
+last-shows os at os' ps (Some o) None zero (lower None None None []) p k = shows os at os' ps (Some o) None zero no_lower p k (λ place rest. operated (held place (Last os' ps (Some o) None zero no_lower p) rest) refl)
+last-shows os at os' (picked b y ∷ ps) None None zero (lower None None None []) p k = shows os at os' (picked b y ∷ ps) None None zero no_lower p k (λ place rest. operated (held place (Last os' (picked b y ∷ ps) None None zero no_lower p) rest) refl)
 last-shows os at _ [] None None zero (lower None None None []) p alone = one-shows os at p
 last-shows os at _ [] None None zero (lower None None None []) p (in_tuple es) = tuple-shows os at es p (target_elements es) refl
 

@@ -103,6 +103,43 @@ fn begin_arithmetic(
     put(frames, Frame { from, under, hole })
 }
 
+/// The innermost part is a sum or a product: it goes on, or one begins in it.
+fn arithmetic_after(
+    alloc: Global,
+    product: bool,
+    op: Op,
+    frames: Nest<Frame>,
+    value: Value,
+    from: usize,
+    under: Places,
+    same: bool,
+    first: Expr,
+    rest: Items<Operand>,
+    before: Op,
+) -> Result<Nest<Frame>, AllocError>
+    ensures { IfOk result (λ all. all ≡ arithmetic_in product op (h.Arithmetic same first rest before) (record { from = from; under = under; hole = h.Arithmetic same first rest before }) frames value) }
+{
+    if same != product {
+        let hole = Hole::Arithmetic {
+            product: same,
+            first,
+            rest,
+            op: before,
+        };
+        let frames = put(frames, Frame { from, under, hole })?;
+        return begin_arithmetic(alloc, product, op, frames, value);
+    }
+    let rest = operate(rest, before, value.tree)?;
+    let under = join(under, value.from, value.under)?;
+    let hole = Hole::Arithmetic {
+        product,
+        first,
+        rest,
+        op,
+    };
+    put(frames, Frame { from, under, hole })
+}
+
 /// A sign of a sum or of a product after what comes before it.
 pub fn arithmetic(
     alloc: Global,
@@ -114,28 +151,21 @@ pub fn arithmetic(
     ensures { IfOk result (λ all. all ≡ arithmetic product op frames value) }
 {
     match frames.pop() {
-        Some(Frame {
-            from,
-            under,
-            hole: Hole::Arithmetic {
+        None => begin_arithmetic(alloc, product, op, frames, value),
+        Some(Frame { from, under, hole }) => match hole {
+            Hole::Arithmetic {
                 product: same,
                 first,
                 rest,
                 op: before,
-            },
-        }) if same == product => {
-            let rest = operate(rest, before, value.tree)?;
-            let under = join(under, value.from, value.under)?;
-            let hole = Hole::Arithmetic {
-                product,
-                first,
-                rest,
-                op,
-            };
-            put(frames, Frame { from, under, hole })
-        }
-        Some(frame) => begin_arithmetic(alloc, product, op, put(frames, frame)?, value),
-        None => begin_arithmetic(alloc, product, op, frames, value),
+            } => arithmetic_after(
+                alloc, product, op, frames, value, from, under, same, first, rest, before,
+            ),
+            hole => {
+                let frames = put(frames, Frame { from, under, hole })?;
+                begin_arithmetic(alloc, product, op, frames, value)
+            }
+        },
     }
 }
 
