@@ -249,11 +249,11 @@ tells-depth texts most tokens reader within e =
         (most - reach (places_of most texts c) 64, omega (arith, g), too-deep most c (places_of most texts c) (cell-places most texts c) (omega (arith, g, h)))
 
 pub tells-cells : TellsCells
-tells-cells texts most tokens c reader is e =
+tells-cells texts most tokens c reader within is e =
     let all : length (tokens ++ []) ≡ length (spelling c) = ap length (append-nil tokens) ∙ ap length is.spelled in
     let f = subst (λ n. Follows (from_start most n) texts [] (run false texts most start tokens) (m.run m.start tokens)) all (run-follows false texts most tokens []) in
     let g = subst (Follows (from_start most (length (spelling c))) texts [] (run false texts most start tokens)) (is_read tokens c is) f in
     let same : forced_now reader.state ≡ places_of most texts c = ap (λ r. forced_now r.state) (reader-same (sym e ∙ g.1)) in
     let rows = cell-places most texts c in
     ((λ h. same-place (ap (λ p. most - reach p 64) (sym same)) (too-deep most c (places_of most texts c) rows (subst (λ p. 0 < reach p 64) same h))),
-    (λ h place i x. let n = no-deeper most c (places_of most texts c) place rows x in let r = subst (λ p. reach p 64 ≡ 0) same h in omega (arith, n, r, i)))
+    (λ h place x. let n = no-deeper most c (places_of most texts c) place rows x in let r = subst (λ p. reach p 64 ≡ 0) same h in let i = x.is_place in let t = ap length is.spelled in omega (arith, n, r, i, t, within)))

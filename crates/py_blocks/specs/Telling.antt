@@ -21,5 +21,5 @@ TellsDepth = (texts : Texts) (most : ℕ) (tokens : List Kind) (reader : Reader)
 
 -- of a whole cell, when it has been read
 abbrev pub TellsCells : Type 0
-TellsCells = (texts : Texts) (most : ℕ) (tokens : List Kind) (c : Cell) (reader : Reader) → IsCell tokens c → run false texts most start tokens ≡ Some reader
-    → (0 < deepest reader → IsTooDeep c (most - deepest reader)) × (deepest reader ≡ 0 → (place : ℕ) → place < most → IsTooDeep c place → ⊥)
+TellsCells = (texts : Texts) (most : ℕ) (tokens : List Kind) (c : Cell) (reader : Reader) → length tokens < most → IsCell tokens c → run false texts most start tokens ≡ Some reader
+    → (0 < deepest reader → IsTooDeep c (most - deepest reader)) × (deepest reader ≡ 0 → (place : ℕ) → IsTooDeep c place → ⊥)
