@@ -86,6 +86,7 @@ is-first (x ∷ xs) l e = on (first xs) (is-first xs) refl e
     one : {y : ℕ} → (max x y ≡ x) ⊎ (max x y ≡ y) → Contains xs y → Contains (x ∷ xs) (max x y)
     one {y} (inl e) c = subst (Contains (x ∷ xs)) (sym e) (in-front x xs)
     one {y} (inr e) c = subst (Contains (x ∷ xs)) (sym e) (Contains-append_right (x ∷ []) xs y c)
+
     on : (o : Option ℕ) → ((m : ℕ) → first xs ≡ Some m → IsFirst xs m) → first xs ≡ o → either (Some x) o ≡ Some l → IsFirst (x ∷ xs) l
     on None g f e =
         let s = some-same e in
@@ -184,6 +185,7 @@ is-read texts most tokens reader e = on (m.run m.start tokens) refl
   where
     follows : (more : List Kind) (o : Option m.State) → m.run m.start tokens ≡ o → Follows (from_start most (length (tokens ++ more))) texts more (run false texts most start tokens) o
     follows more o f = subst (Follows (from_start most (length (tokens ++ more))) texts more (run false texts most start tokens)) f (run-follows false texts most tokens more)
+
     on : (o : Option m.State) → m.run m.start tokens ≡ o → Read texts most tokens reader
     on None f = none-reader (sym (follows [] None f) ∙ e)
     on (Some s) f = record { forms = s; runs = f; stands = ((read_iff_stands tokens s).0 f).0; held = λ more. let g = follows more (Some s) f in (g.0, reader-same (sym e ∙ g.1), g.2) }
@@ -235,13 +237,14 @@ tells-depth texts most tokens reader within e =
     let l = least texts most tokens reader x in
     let g = (cell-grows texts most tokens l.more reader l.cell e l.is).each 64 in
     let a = l.adds.each 64 in
-    let rows = cell-places most texts l.cell in
-    ((λ h. record {
+    let rows = cell-places most texts l.cell in (
+      (λ h. record {
         within = omega (arith, h, within);
         each = λ more c is. deep-in more c is (omega (arith, h));
         some = (l.more, l.cell, l.is, same-place (ap (λ n. most - n) (omega (arith, g, a, h))) (too-deep most l.cell (places_of most texts l.cell) rows (omega (arith, g, h))));
       }),
-    (λ h place x. let y = x.each l.more l.cell l.is in let i = x.within in let j = y.1 in let n = no-deeper most l.cell (places_of most texts l.cell) y.0 rows y.2 in omega (arith, h, i, j, n, a, within)))
+      (λ h place x. let y = x.each l.more l.cell l.is in let i = x.within in let j = y.1 in let n = no-deeper most l.cell (places_of most texts l.cell) y.0 rows y.2 in omega (arith, h, i, j, n, a, within)),
+    )
   where
     deep-in : (more : List Kind) (c : Cell) → IsCell (tokens ++ more) c → 0 < deepest reader → (at : ℕ) × (at ≤ most - deepest reader) × IsTooDeep c at
     deep-in more c is h =
@@ -254,6 +257,7 @@ tells-cells texts most tokens c reader within is e =
     let f = subst (λ n. Follows (from_start most n) texts [] (run false texts most start tokens) (m.run m.start tokens)) all (run-follows false texts most tokens []) in
     let g = subst (Follows (from_start most (length (spelling c))) texts [] (run false texts most start tokens)) (is_read tokens c is) f in
     let same : forced_now reader.state ≡ places_of most texts c = ap (λ r. forced_now r.state) (reader-same (sym e ∙ g.1)) in
-    let rows = cell-places most texts c in
-    ((λ h. same-place (ap (λ p. most - reach p 64) (sym same)) (too-deep most c (places_of most texts c) rows (subst (λ p. 0 < reach p 64) same h))),
-    (λ h place x. let n = no-deeper most c (places_of most texts c) place rows x in let r = subst (λ p. reach p 64 ≡ 0) same h in let i = x.is_place in let t = ap length is.spelled in omega (arith, n, r, i, t, within)))
+    let rows = cell-places most texts c in (
+      (λ h. same-place (ap (λ p. most - reach p 64) (sym same)) (too-deep most c (places_of most texts c) rows (subst (λ p. 0 < reach p 64) same h))),
+      (λ h place x. let n = no-deeper most c (places_of most texts c) place rows x in let r = subst (λ p. reach p 64 ≡ 0) same h in let i = x.is_place in let t = ap length is.spelled in omega (arith, n, r, i, t, within)),
+    )
