@@ -4,13 +4,14 @@ ghost use Rattle.py_tree.specs.declared.statements.Stmt.TheVariants as s;
 ghost use Rattle.py_frames.specs.Values.{beside};
 ghost use Rattle.py_frames.specs.Gives.{Gives};
 ghost use Rattle.std.specs.Prelude.{Some};
+ghost use Rattle.py_blocks.specs.declared.state.Head.TheVariants as head;
 ghost use Rattle.py_blocks.specs.Source.{left_of};
 ghost use Rattle.py_blocks.specs.Blocks as machine;
 ghost use Rattle.py_blocks.specs.Blocks.{kept_statement, nothing, add, add_branches, settled, grown, closed, ended, around_of, spot_around, block_around};
 
 use crate::source::text_left;
 use crate::state::{Around, Branches, Done, Head, Last, Outer, Simple, Spot, State};
-use plain_data::{Items, Shared, Stack};
+use plain_data::{Items, Shared, Stack, Text};
 use py_frames::{Places, Stop};
 use py_token::Token;
 use py_tree::{Arm, Def, Stmt};
@@ -119,6 +120,29 @@ fn close_with(
     Ok(State::Line(outers, before, Last::Other))
 }
 
+/// A function, with its text.
+fn define(
+    alloc: Global,
+    code: &str,
+    tokens: &[Token],
+    from: usize,
+    left: usize,
+    name: Text,
+    params: Items<Text>,
+    body: Items<Stmt>,
+) -> Result<Stmt, AllocError>
+    ensures { IfOk result (λ tree. tree ≡ machine.statement_of (left_of code.now tokens.now) from left (head.Function name params) body) }
+{
+    let source = text_left(alloc, code, tokens, from, left)?;
+    let def = Def {
+        name,
+        params,
+        body,
+        source,
+    };
+    Ok(Stmt::Function(Shared::new(alloc, def)?))
+}
+
 /// What a head and its block make.
 fn statement(
     alloc: Global,
@@ -150,14 +174,7 @@ fn statement(
             body,
         },
         Head::Function { name, params } => {
-            let source = text_left(alloc, code, tokens, from, left)?;
-            let def = Def {
-                name,
-                params,
-                body,
-                source,
-            };
-            Stmt::Function(Shared::new(alloc, def)?)
+            define(alloc, code, tokens, from, left, name, params, body)?
         }
     })
 }
