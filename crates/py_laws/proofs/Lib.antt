@@ -12,6 +12,7 @@ pub mod Slotted
 pub mod Showing
 pub mod Operating
 pub mod Itemizing
+pub mod Unpacking
 pub mod Comparing
 pub mod Iterating
 pub mod Methodical
