@@ -402,7 +402,8 @@ module _ (c : Setting) where
 
     given_respects : (comma : Bool) (targets : List Target) (v w : Value) → AllByRecursion (BindsAt Binds c.rules.evals) targets → Values c v w → Respects c Any (given inner comma targets v) (given inner comma targets w)
     given_respects true targets v w may h = next c (unpacked_respects c (length targets) v w h) λ vs ws k. all_stored_respect targets vs ws may k
-    given_respects false targets v w may h = all_stored_respect targets (v ∷ []) (w ∷ []) may (h, tt)
+    given_respects false (into ∷ others) v w may h = stored_respects into v w may.0 h
+    given_respects false [] v w may h = pure_respects c Any tt tt tt
 
     assign_respects : (targets : List Target) (comma : Bool) (e : Expr) → AllByRecursion (BindsAt Binds c.rules.evals) targets → c.rules.evals e → Flows c (assign inner targets comma e) (assign inner targets comma e)
     unfolding assign

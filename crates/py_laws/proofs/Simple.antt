@@ -239,7 +239,8 @@ module _ (c : Setting) where
 
   pub names_given_respect : (comma : Bool) (names : List Name) (v w : Value) → MayBind names → Values c v w → Respects c Any (names_given comma names v) (names_given comma names w)
   names_given_respect true names v w may h = next c (unpacked_respects c (length names) v w h) λ vs ws k. names_stored_respect names vs ws may k
-  names_given_respect false names v w may h = names_stored_respect names (v ∷ []) (w ∷ []) may (h, tt)
+  names_given_respect false (name ∷ others) v w may h = store_respects name v w may.0 h
+  names_given_respect false [] v w may h = pure_respects c Any tt tt tt
 
   -- ---- augmented assignments
 

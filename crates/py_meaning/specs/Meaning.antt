@@ -178,10 +178,11 @@ abbrev pub names_stored : List Name → List Value → Act (Unit {0})
 names_stored (name ∷ names) (held ∷ more) = store name held >> names_stored names more
 names_stored _ _ = pure tt
 
--- a value goes to a name, or if a comma stands among the names, what it unpacks into goes to them
+-- a value goes to a name by itself, or if a comma stands among the names, what it unpacks into goes to them
 abbrev pub names_given : Bool → List Name → Value → Act (Unit {0})
 names_given true names held = unpacked (length names) held >>= names_stored names
-names_given false names held = names_stored names (held ∷ [])
+names_given false (name ∷ others) held = store name held
+names_given false [] held = pure tt
 
 -- ---- augmented assignments
 
@@ -512,10 +513,11 @@ module _ (inner : Inner) where
   all_stored (target ∷ targets) (held ∷ more) = stored target held >> all_stored targets more
   all_stored _ _ = pure tt
 
-  -- a value goes to a target, or if a comma stands among the targets, what it unpacks into goes to them
+  -- a value goes to a target by itself, or if a comma stands among the targets, what it unpacks into goes to them
   abbrev pub given : Bool → List Target → Value → Act (Unit {0})
   given true targets held = unpacked (length targets) held >>= all_stored targets
-  given false targets held = all_stored targets (held ∷ [])
+  given false (target ∷ others) held = stored target held
+  given false [] held = pure tt
 
   -- the value comes before the targets
   unfoldable pub assign : List Target → Bool → Expr → Act Flow
