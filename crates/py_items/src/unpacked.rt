@@ -1,6 +1,7 @@
 ghost use Rattle.std.specs.Prelude.{◌≡◌, encode_utf8, slice_get, IfOk};
 ghost use Rattle.py_machine.specs.Runs.{Still};
-ghost use Rattle.py_meaning.specs.Acts.{run};
+ghost use Rattle.py_meaning.specs.Acts.{run, chain, pure};
+ghost use Rattle.py_meaning.specs.Operators.{steps};
 ghost use Rattle.py_meaning.specs.Unpacking as spec;
 
 use plain_data::{Items, SharedText, Text};
@@ -41,6 +42,20 @@ fn characters_of(alloc: Global, text: &SharedText) -> Result<Items<Value>, Alloc
     Ok(characters)
 }
 
+/// Takes a step for each of `count` values, and gives them.
+fn taken(
+    alloc: Global,
+    machine: &mut Machine,
+    count: usize,
+    values: Items<Value>,
+) -> Result<Items<Value>, Fault>
+    ensures runs { Still (run (chain (steps count) (λ _. pure values))) machine.old result machine.new }
+    ensures drawn { machine.new.drawn ≡ machine.old.drawn }
+{
+    take_steps(alloc, machine, count)?;
+    Ok(values)
+}
+
 /// Unpacks a text. Its characters are counted before they are copied.
 #[tactic(auto, unfolding(py_meaning::specs::Unpacking::counted))]
 fn text_unpacked(
@@ -57,8 +72,7 @@ fn text_unpacked(
         return Err(Fault::Raised(wrong_count(alloc, count, found)?));
     }
     let values = characters_of(alloc, text)?;
-    take_steps(alloc, machine, count)?;
-    Ok(values)
+    taken(alloc, machine, count, values)
 }
 
 /// Unpacks the object at an address. What it holds is counted before it is copied.
@@ -79,8 +93,7 @@ fn object_unpacked(
                 return Err(Fault::Raised(wrong_count(alloc, count, found)?));
             }
             let values = copy_items(alloc, items.as_slice())?;
-            take_steps(alloc, machine, count)?;
-            Ok(values)
+            taken(alloc, machine, count, values)
         }
         Some(Object::Dict(pairs)) => {
             let found = pairs.len();
@@ -88,8 +101,7 @@ fn object_unpacked(
                 return Err(Fault::Raised(wrong_count(alloc, count, found)?));
             }
             let values = keys_of(alloc, pairs)?;
-            take_steps(alloc, machine, count)?;
-            Ok(values)
+            taken(alloc, machine, count, values)
         }
         Some(Object::Function(_)) => Err(Fault::Raised(not_unpacked(alloc, ValueKind::Function)?)),
         Some(Object::Handle { .. }) => Err(Fault::Raised(not_unpacked(alloc, ValueKind::Handle)?)),

@@ -292,8 +292,8 @@ impl<
         ensures fed { Feeding machine.old.drawn (F.seen feed.old) machine.new.drawn (F.seen feed.new) }
     {
         machine.step(self.alloc)?;
-        let value = self.eval(machine, feed, value)?;
-        self.give(machine, feed, comma, targets, value)?;
+        let given = self.eval(machine, feed, value)?;
+        self.give(machine, feed, comma, targets, given)?;
         Ok(Flow::Next)
     }
 
