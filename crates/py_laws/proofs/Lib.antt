@@ -5,6 +5,7 @@ pub mod Sameness
 pub mod Members
 pub mod Bindings
 pub mod Sparing
+pub mod Constant
 pub mod Rules
 pub mod Respecting
 pub mod LeastActs
