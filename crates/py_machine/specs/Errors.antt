@@ -165,9 +165,12 @@ abbrev pub not_an_index : PyError
 not_an_index = record { kind = error.Type; text = codes "indices must be integers" }
 
 -- an index past the ends
+abbrev pub index_text : SequenceKind → List ℕ
+index_text sequence.List = codes "list index out of range"
+index_text sequence.Tuple = codes "tuple index out of range"
+
 abbrev pub no_index : SequenceKind → PyError
-no_index sequence.List = record { kind = error.Index; text = codes "list index out of range" }
-no_index sequence.Tuple = record { kind = error.Index; text = codes "tuple index out of range" }
+no_index kind = record { kind = error.Index; text = index_text kind }
 
 abbrev pub no_text_index : PyError
 no_text_index = record { kind = error.Index; text = codes "string index out of range" }

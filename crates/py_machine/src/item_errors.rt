@@ -61,17 +61,23 @@ pub fn not_an_index(alloc: Global) -> Result<Boxed<PyError>, AllocError>
     boxed_error(alloc, ErrorKind::Type, text)
 }
 
+fn index_text(kind: SequenceKind) -> &'static str
+    ensures { result.now ≡ spec.index_text kind }
+{
+    match kind {
+        SequenceKind::List => "list index out of range",
+        SequenceKind::Tuple => "tuple index out of range",
+    }
+}
+
 /// The error of an index past the ends of a list or a tuple.
 #[cold]
 #[inline(never)]
 pub fn no_index(alloc: Global, kind: SequenceKind) -> Result<Boxed<PyError>, AllocError>
     ensures { IfOk result (λ error. error ≡ spec.no_index kind) }
 {
-    let text = match kind {
-        SequenceKind::List => "list index out of range",
-        SequenceKind::Tuple => "tuple index out of range",
-    };
-    boxed_error(alloc, ErrorKind::Index, Text::new(alloc, text)?)
+    let text = Text::new(alloc, index_text(kind))?;
+    boxed_error(alloc, ErrorKind::Index, text)
 }
 
 /// The error of an index past the ends of a text.
