@@ -54,13 +54,13 @@ fn store_names(
     ensures runs { Still (run (spec.names_stored names.entry.now values.entry.now)) machine.old result machine.new }
     ensures drawn { machine.new.drawn ≡ machine.old.drawn }
 {
-    let mut left = names;
+    let mut ahead = names;
     let mut rest = values;
-    while let [name, more @ ..] = left {
+    while let [name, more @ ..] = ahead {
         match rest {
             [value, others @ ..] => {
                 store(alloc, machine, name, value.copy()?)?;
-                left = more;
+                ahead = more;
                 rest = others;
             }
             [] => return Ok(()),
@@ -235,13 +235,13 @@ impl<
         ensures grows { Grows machine.old machine.new }
         ensures fed { Feeding machine.old.drawn (F.seen feed.old) machine.new.drawn (F.seen feed.new) }
     {
-        let mut left = targets;
+        let mut ahead = targets;
         let mut rest = values;
-        while let [target, more @ ..] = left {
+        while let [target, more @ ..] = ahead {
             match rest {
                 [value, others @ ..] => {
                     self.store_in(machine, feed, target, value.copy()?)?;
-                    left = more;
+                    ahead = more;
                     rest = others;
                 }
                 [] => return Ok(()),

@@ -135,7 +135,8 @@ fn refs_equal(
                 let others = others.len();
                 sequences_equal(alloc, left, machine, a, b, count, others)
             }
-            _ => Ok(a == b),
+            Some(Object::Tuple(_) | Object::Dict(_) | Object::Function(_) | Object::Handle { .. })
+            | None => Ok(a == b),
         },
         Some(Object::Tuple(items)) => match machine.object_at(b) {
             Some(Object::Tuple(others)) => {
@@ -143,7 +144,8 @@ fn refs_equal(
                 let others = others.len();
                 sequences_equal(alloc, left, machine, a, b, count, others)
             }
-            _ => Ok(a == b),
+            Some(Object::List(_) | Object::Dict(_) | Object::Function(_) | Object::Handle { .. })
+            | None => Ok(a == b),
         },
         Some(Object::Dict(pairs)) => match machine.object_at(b) {
             Some(Object::Dict(others)) => {
@@ -153,7 +155,8 @@ fn refs_equal(
                 }
                 pairs_equal(alloc, left, machine, a, b, count)
             }
-            _ => Ok(a == b),
+            Some(Object::List(_) | Object::Tuple(_) | Object::Function(_) | Object::Handle { .. })
+            | None => Ok(a == b),
         },
         Some(Object::Function(_)) | Some(Object::Handle { .. }) | None => Ok(a == b),
     }

@@ -179,16 +179,24 @@ fn refs_joined(alloc: Global, machine: &mut Machine, a: u32, b: u32) -> Result<V
                 let all = both(alloc, items.as_slice(), more.as_slice())?;
                 joined(alloc, machine, SequenceKind::List, all)
             }
-            _ => unsupported(alloc, machine, Op::Plus, &Value::Ref(a), &Value::Ref(b)),
+            Some(Object::Tuple(_) | Object::Dict(_) | Object::Function(_) | Object::Handle { .. })
+            | None => unsupported(alloc, machine, Op::Plus, &Value::Ref(a), &Value::Ref(b)),
         },
         Some(Object::Tuple(items)) => match machine.object_at(b) {
             Some(Object::Tuple(more)) => {
                 let all = both(alloc, items.as_slice(), more.as_slice())?;
                 joined(alloc, machine, SequenceKind::Tuple, all)
             }
-            _ => unsupported(alloc, machine, Op::Plus, &Value::Ref(a), &Value::Ref(b)),
+            Some(Object::List(_) | Object::Dict(_) | Object::Function(_) | Object::Handle { .. })
+            | None => unsupported(alloc, machine, Op::Plus, &Value::Ref(a), &Value::Ref(b)),
         },
-        _ => unsupported(alloc, machine, Op::Plus, &Value::Ref(a), &Value::Ref(b)),
+        Some(Object::Dict(_) | Object::Function(_) | Object::Handle { .. }) | None => unsupported(
+            alloc,
+            machine,
+            Op::Plus,
+            &Value::Ref(a),
+            &Value::Ref(b),
+        ),
     }
 }
 

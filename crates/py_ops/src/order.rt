@@ -93,7 +93,8 @@ fn refs_ordered(
                 let others = others.len();
                 items_ordered(alloc, left, machine, op, a, b, count, others)
             }
-            _ => no_order(alloc, machine, op, &Value::Ref(a), &Value::Ref(b)),
+            Some(Object::Tuple(_) | Object::Dict(_) | Object::Function(_) | Object::Handle { .. })
+            | None => no_order(alloc, machine, op, &Value::Ref(a), &Value::Ref(b)),
         },
         Some(Object::Tuple(items)) => match machine.object_at(b) {
             Some(Object::Tuple(others)) => {
@@ -101,9 +102,16 @@ fn refs_ordered(
                 let others = others.len();
                 items_ordered(alloc, left, machine, op, a, b, count, others)
             }
-            _ => no_order(alloc, machine, op, &Value::Ref(a), &Value::Ref(b)),
+            Some(Object::List(_) | Object::Dict(_) | Object::Function(_) | Object::Handle { .. })
+            | None => no_order(alloc, machine, op, &Value::Ref(a), &Value::Ref(b)),
         },
-        _ => no_order(alloc, machine, op, &Value::Ref(a), &Value::Ref(b)),
+        Some(Object::Dict(_) | Object::Function(_) | Object::Handle { .. }) | None => no_order(
+            alloc,
+            machine,
+            op,
+            &Value::Ref(a),
+            &Value::Ref(b),
+        ),
     }
 }
 

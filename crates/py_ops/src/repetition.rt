@@ -218,7 +218,13 @@ fn ref_repeated(
                 items.as_slice(),
             )
         }
-        _ => unsupported(alloc, machine, Op::Times, left, right),
+        Some(Object::Dict(_) | Object::Function(_) | Object::Handle { .. }) | None => unsupported(
+            alloc,
+            machine,
+            Op::Times,
+            left,
+            right,
+        ),
     }
 }
 
