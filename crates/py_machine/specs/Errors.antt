@@ -202,7 +202,7 @@ not_unpacked kind = record { kind = error.Type; text = (codes "cannot unpack non
 abbrev pub not_enough : ℕ → ℕ → PyError
 not_enough wanted got = record {
   kind = error.Value;
-  text = (((codes "not enough values to unpack (expected " ++ decimal wanted) ++ codes ", got ") ++ decimal got) ++ codes ")";
+  text = codes "not enough values to unpack (expected " ++ (decimal wanted ++ (codes ", got " ++ (decimal got ++ codes ")")));
 }
 
 -- more values than targets
