@@ -160,7 +160,7 @@ module _ (IsOfKind : Def → Type 0) where
   stays_fit p (object.Function def) h = tt
   stays_fit p (object.Handle name uses) h = handle_fit p name uses
 
-  sequence_fit : (kind : SequenceKind) (items : List Value) → Fit (sequence kind items)
+  pub sequence_fit : (kind : SequenceKind) (items : List Value) → Fit (sequence kind items)
   sequence_fit sequences.List items = tt
   sequence_fit sequences.Tuple items = tt
 
