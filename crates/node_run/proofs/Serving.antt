@@ -96,7 +96,7 @@ same_queues queues rest o done cell next number listed =
     let same : Some cell.0 ≡ Some next.queue = sym here ∙ there in
     cc
 
-open_first : (queues left : List SharedQueues) (later : List Taken) (rest : List OpenSession) (o : OpenSession) (q : SharedQueues) → queues ≡ q ∷ left → AreOpen later (o ∷ rest) queues
+pub open_first : (queues left : List SharedQueues) (later : List Taken) (rest : List OpenSession) (o : OpenSession) (q : SharedQueues) → queues ≡ q ∷ left → AreOpen later (o ∷ rest) queues
     → (s : Taken) × (more : List Taken) × (later ≡ s ∷ more) × IsOpen q s o × AreOpen more rest left
 open_first queues left [] rest o q is are = absurd are
 open_first queues left (s ∷ more) rest o q is are = let there : IsOpen q s o × AreOpen more rest left = subst (AreOpen (s ∷ more) (o ∷ rest)) is are in (s, more, refl, there.0, there.1)
@@ -131,7 +131,7 @@ pub none_left : {X : Type 0} (xs : List X) → length xs ≡ 0 → xs ≡ []
 none_left [] is = refl
 none_left (x ∷ xs) is = absurd (omega (arith, is))
 
-open_none : (later : List Taken) (queues : List SharedQueues) → AreOpen later [] queues → later ≡ []
+pub open_none : (later : List Taken) (queues : List SharedQueues) → AreOpen later [] queues → later ≡ []
 open_none [] queues are = refl
 open_none (s ∷ later) queues are = absurd are
 
