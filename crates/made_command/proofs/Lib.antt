@@ -4,3 +4,5 @@ pub mod Returned
 pub mod Frames
 pub mod Ending
 pub mod Counting
+pub mod Asked
+pub mod Alone

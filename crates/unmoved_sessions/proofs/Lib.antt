@@ -3,6 +3,8 @@ pub mod Ran
 pub mod Unmoved
 pub mod Streaming
 pub mod OneWay
+pub mod NotebooksOneWay
 pub mod OneReason
 pub mod OneEntry
+pub mod OneList
 pub mod OneJournal

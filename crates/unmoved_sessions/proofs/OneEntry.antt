@@ -83,8 +83,8 @@ module _ (meaning : Meaning) (hosts : ℕ) (way : IsOneWay meaning) (p : Progres
   -- ---- of a session that is with its owner
 
   module _ (here : p.phase ≡ settled) where
-    not_moved : (to : ℕ) → MayBeMoved p.phase to → ⊥
-    not_moved to may = subst (λ (phase : Phase). MayBeMoved phase to) here may
+    not_moved : (to : ℕ) → MayBeMoved meaning hosts p.phase to → ⊥
+    not_moved to may = subst (λ (phase : Phase). MayBeMoved meaning hosts phase to) here may
 
     not_adopted : (from to : ℕ) (r : Request) (by : Certified) (objects : ℕ) → MayBeAdopted meaning hosts p p.phase from to r by objects → ⊥
     not_adopted from to r by objects may = subst (λ (phase : Phase). MayBeAdopted meaning hosts p phase from to r by objects) here may
