@@ -218,8 +218,19 @@ moves_back to small =
       numbers = (one, (one, (one, (one, (IsNumber-decimal to (omega arith), tt)))));
       shallow = omega arith;
       is = rw (one_read, to_read);
-      texts = (IsUtf8-are_ascii (codes "copy_base") refl, one_text, (IsUtf8-are_ascii (codes "per_byte") refl, one_text, (IsUtf8-are_ascii (codes "per_step") refl, one_text,
-          (IsUtf8-are_ascii (codes "run_base") refl, one_text, (IsUtf8-are_ascii (codes "to") refl, number_utf8 to small, tt)))));
+      texts = (
+        IsUtf8-are_ascii (codes "copy_base") refl,
+        one_text,
+        (
+          IsUtf8-are_ascii (codes "per_byte") refl,
+          one_text,
+          (
+            IsUtf8-are_ascii (codes "per_step") refl,
+            one_text,
+            (IsUtf8-are_ascii (codes "run_base") refl, one_text, (IsUtf8-are_ascii (codes "to") refl, number_utf8 to small, tt)),
+          ),
+        ),
+      );
     }
 
 pub move_back : (j : ℕ) → j ≤ 4000 → read (compact_text (moving j)) ≡ Some (moving j)

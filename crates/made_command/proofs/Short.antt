@@ -41,7 +41,7 @@ later_short j small =
     let counted : length (codes "for k in d:\n    total += len(d[k])") ≤ 110 = omega arith in
     let keys : length (codes "total += len(d)") ≤ 110 = omega arith in
     either_short (j % 4 == 0) _ _ 110 (added_short j small)
-        (either_short (j % 4 == 1) _ _ 110 keys (either_short (j % 4 == 2) _ _ 110 counted printed))
+    (either_short (j % 4 == 1) _ _ 110 keys (either_short (j % 4 == 2) _ _ 110 counted printed))
 
 code_short : (j : ℕ) → j ≤ 4000 → length (code_of j) ≤ 110
 code_short j small = either_short (j == 1) _ _ 110 first_short (later_short j small)
