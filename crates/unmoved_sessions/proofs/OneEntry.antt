@@ -97,7 +97,7 @@ module _ (meaning : Meaning) (hosts : ℕ) (way : IsOneWay meaning) (p : Progres
         let runs : meaning.IsRun (more p.served r.ask e) = subst (λ (q : Request). meaning.IsRun (more p.served q.ask e)) (sym same) run_too in
         let draws = way.served p.served r.ask d e x y run runs drew in
         ran_is h k p.owner r s d e reply other (meaning.answer p.served r.ask d) host host_too same draws says
-            (says_too ∙ (ap (λ (q : Request). meaning.answer p.served q.ask e) (sym same) ∙ ap (meaning.answer p.served r.ask) (sym draws)))
+        (says_too ∙ (ap (λ (q : Request). meaning.answer p.served q.ask e) (sym same) ∙ ap (meaning.answer p.served r.ask) (sym draws)))
     ran_alike h r d reply (Died k s count OutOfMemory) rs ss x y one two had asks drew = absurd had
     ran_alike h r d reply (Died k s count (TooMany which e)) rs ss x y (phase, alive, host, work, says, run) (phase_too, alive_too, host_too, work_too, count_is, full) had asks drew =
         let same = same_first r s rs ss asks in

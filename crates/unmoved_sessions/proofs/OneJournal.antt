@@ -24,7 +24,7 @@ one_feed gives d e (x, n, one) (y, m, two) =
       x ++ replicate m Failed,
       y ++ replicate n Failed,
       sym (append_assoc d x (replicate m Failed)) ∙ (ap (λ z. z ++ replicate m Failed) (sym one) ∙ (append_assoc gives (replicate n Failed) (replicate m Failed) ∙ (ap (λ z. gives ++ z) swapped
-      ∙ (sym (append_assoc gives (replicate m Failed) (replicate n Failed)) ∙ (ap (λ z. z ++ replicate n Failed) two ∙ append_assoc e y (replicate n Failed)))))),
+          ∙ (sym (append_assoc gives (replicate m Failed) (replicate n Failed)) ∙ (ap (λ z. z ++ replicate n Failed) two ∙ append_assoc e y (replicate n Failed)))))),
     )
 
 module _ (hosts : ℕ) (gives : List Drawn) (s : Taken) (none : control_requests s ≡ []) where
