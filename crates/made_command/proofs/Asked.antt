@@ -25,7 +25,7 @@ use Rattle.unmoved_sessions.specs.Streams.{Asks, AreBodiesOf}
 use Rattle.unmoved_sessions.proofs.Streaming.{node_is}
 use Rattle.made_command.specs.Asked.{kernel, header, cell_request, move_request, requested, requests, session, IsAlone}
 use Rattle.made_command.specs.Made.{session_of, code_of, message, opening, cell, moving, asked, sent, stream}
-use Rattle.made_command.proofs.Short.{number_short, session_short}
+use Rattle.made_command.proofs.Short.{costs, number_short, session_short}
 use Rattle.made_command.proofs.Returned.{opening_back, cell_back, move_back, opening_text, cell_text, move_text}
 use Rattle.made_command.proofs.Frames.{sent_bodies}
 use Rattle.made_command.proofs.Ending.{stream_framed}
@@ -41,9 +41,6 @@ asks_cell : (session id code : List ℕ) → length session ≤ 256 → length i
     → message_of (message session id (codes "execute_request") (json_of ((codes "code", string code) ∷ []))) ≡ Ok (record { header = header session id (codes "execute_request"); channel = Shell; kernel = kernel; kind = Asking (Execute code false true) })
 unfolding uuid_on_literals message member of_kind text_of short_text required_text optional_text optional_bool optional_object required_object required_long_text header_of channel_named channel_of kernel_named kernel_of execute_of type_named channel_for whole_of message_of
 asks_cell session id code one two = rw (le-leb (length id) 256 two, le-leb (length session) 256 one)
-
-abbrev costs : ℕ → Data
-costs to = json_of ((codes "copy_base", whole 1) ∷ (codes "per_byte", whole 1) ∷ (codes "per_step", whole 1) ∷ (codes "run_base", whole 1) ∷ (codes "to", whole to) ∷ [])
 
 asks_move : (session id : List ℕ) (to : ℕ) → length session ≤ 256 → length id ≤ 256 → message_of (message session id (codes "migrate_request") (costs to))
     ≡ Ok (record { header = header session id (codes "migrate_request"); channel = Shell; kernel = kernel; kind = Asking (Migrate to (record { copy_base = 1; per_byte = 1; run_base = 1; per_step = 1 })) })

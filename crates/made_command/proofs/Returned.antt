@@ -19,6 +19,7 @@ use Rattle.serde_json.proofs.Numbers.{number_of-decimal}
 use Rattle.serde_json.proofs.Texts.{print-outline}
 use Rattle.reply_frames.specs.Messages.{json as json_of, whole}
 use Rattle.made_command.specs.Made.{first_code, later_code, code_of, session_of, message, opening, cell, moving}
+use Rattle.made_command.proofs.Short.{costs}
 
 -- ---- values
 
@@ -135,9 +136,6 @@ message_back session id type content back =
     let all : HasNumbers (outline (message session id type content)) = (tt, (back.numbers, ((tt, (tt, (tt, (tt, (tt, (tt, tt)))))), (tt, tt)))) in
     read_compact (message session id type content) all (omega (arith, back.shallow)) (message_is session id type content back.is)
 
-ascii : (s : List ℕ) → IsUtf8 s → IsUtf8 s
-ascii s is = is
-
 message_text : (session id type : List ℕ) (content : Data) → ReadsBack content → IsUtf8 session → IsUtf8 id → IsUtf8 type → is_utf8 (compact_text (message session id type content)) ≡ true
 unfolding message
 message_text session id type content back one two three =
@@ -158,11 +156,10 @@ message_text session id type content back one two three =
     is_utf8-from_IsUtf8 (compact_text (message session id type content)) (all_text (message session id type content)
     (channel, shell, (contents, back.texts, (header, (date, IsUtf8-nil, (ids, two, (types, three, (sessions, one, (names, made, (versions, version, tt)))))), (kernel, number, tt)))))
 
-opening_content : Data
+abbrev opening_content : Data
 opening_content = json_of ((codes "host", whole 0) ∷ [])
 
 opens_back : ReadsBack opening_content
-unfolding opening_content
 opens_back = record {
   numbers = (IsNumber-decimal 0 (omega arith), tt);
   shallow = omega arith;
@@ -171,19 +168,18 @@ opens_back = record {
 }
 
 pub opening_back : read (compact_text opening) ≡ Some opening
-unfolding opening opening_content
+unfolding opening
 opening_back = message_back (codes "f1") (codes "o") (codes "kernel_open_request") opening_content opens_back
 
 pub opening_text : is_utf8 (compact_text opening) ≡ true
-unfolding opening opening_content
+unfolding opening
 opening_text = message_text (codes "f1") (codes "o") (codes "kernel_open_request") opening_content opens_back
     (IsUtf8-are_ascii (codes "f1") refl) (IsUtf8-are_ascii (codes "o") refl) (IsUtf8-are_ascii (codes "kernel_open_request") refl)
 
-cell_content : ℕ → Data
+abbrev cell_content : ℕ → Data
 cell_content j = json_of ((codes "code", string (code_of j)) ∷ [])
 
 asks_back : (j : ℕ) → j ≤ 4000 → ReadsBack (cell_content j)
-unfolding cell_content
 asks_back j small = record {
   numbers = (tt, tt);
   shallow = omega arith;
@@ -195,20 +191,16 @@ numbered : (letter j : ℕ) → j ≤ 4000 → IsUtf8 (letter ∷ []) → IsUtf8
 numbered letter j small is = ascii_then letter (decimal j) is (number_utf8 j small)
 
 pub cell_back : (j : ℕ) → j ≤ 4000 → read (compact_text (cell j)) ≡ Some (cell j)
-unfolding cell cell_content
+unfolding cell
 cell_back j small = message_back (session_of j) (codes "c" ++ decimal j) (codes "execute_request") (cell_content j) (asks_back j small)
 
 pub cell_text : (j : ℕ) → j ≤ 4000 → is_utf8 (compact_text (cell j)) ≡ true
-unfolding cell cell_content
+unfolding cell
 cell_text j small =
     message_text (session_of j) (codes "c" ++ decimal j) (codes "execute_request") (cell_content j) (asks_back j small)
     (session_utf8 j) (numbered 99 j small (IsUtf8-are_ascii (codes "c") refl)) (IsUtf8-are_ascii (codes "execute_request") refl)
 
-move_content : ℕ → Data
-move_content to = json_of ((codes "copy_base", whole 1) ∷ (codes "per_byte", whole 1) ∷ (codes "per_step", whole 1) ∷ (codes "run_base", whole 1) ∷ (codes "to", whole to) ∷ [])
-
-moves_back : (to : ℕ) → to ≤ 4000 → ReadsBack (move_content to)
-unfolding move_content
+moves_back : (to : ℕ) → to ≤ 4000 → ReadsBack (costs to)
 moves_back to small =
     let one = IsNumber-decimal 1 (omega arith) in
     let one_read = number_of-decimal 1 (omega arith) in
@@ -234,11 +226,11 @@ moves_back to small =
     }
 
 pub move_back : (j : ℕ) → j ≤ 4000 → read (compact_text (moving j)) ≡ Some (moving j)
-unfolding moving move_content
-move_back j small = message_back (codes "f1") (codes "m" ++ decimal j) (codes "migrate_request") (move_content (j / 4 % 3)) (moves_back (j / 4 % 3) (omega arith))
+unfolding moving
+move_back j small = message_back (codes "f1") (codes "m" ++ decimal j) (codes "migrate_request") (costs (j / 4 % 3)) (moves_back (j / 4 % 3) (omega arith))
 
 pub move_text : (j : ℕ) → j ≤ 4000 → is_utf8 (compact_text (moving j)) ≡ true
-unfolding moving move_content
+unfolding moving
 move_text j small =
-    message_text (codes "f1") (codes "m" ++ decimal j) (codes "migrate_request") (move_content (j / 4 % 3)) (moves_back (j / 4 % 3) (omega arith))
+    message_text (codes "f1") (codes "m" ++ decimal j) (codes "migrate_request") (costs (j / 4 % 3)) (moves_back (j / 4 % 3) (omega arith))
     (IsUtf8-are_ascii (codes "f1") refl) (numbered 109 j small (IsUtf8-are_ascii (codes "m") refl)) (IsUtf8-are_ascii (codes "migrate_request") refl)

@@ -15,7 +15,7 @@ use Rattle.made_command.proofs.Sizes.{room, HasShortNumbers, text_short}
 
 -- ---- its parts
 
-number_short : (n : ℕ) → n ≤ 4000 → length (decimal n) ≤ 4
+pub number_short : (n : ℕ) → n ≤ 4000 → length (decimal n) ≤ 4
 number_short n small = length-decimal-le 4 n (omega arith) (omega arith) (omega arith)
 
 either_short : (b : Bool) (xs ys : List ℕ) (n : ℕ) → length xs ≤ n → length ys ≤ n → length (if b then xs else ys) ≤ n
@@ -46,7 +46,7 @@ later_short j small =
 code_short : (j : ℕ) → j ≤ 4000 → length (code_of j) ≤ 110
 code_short j small = either_short (j == 1) _ _ 110 first_short (later_short j small)
 
-session_short : (j : ℕ) → length (session_of j) ≤ 2
+pub session_short : (j : ℕ) → length (session_of j) ≤ 2
 session_short j = either_short (j % 2 == 1) _ _ 2 (omega arith) (omega arith)
 
 -- ---- the messages
@@ -82,18 +82,18 @@ cell_short j small =
     message_short (session_of j) (codes "c" ++ decimal j) (codes "execute_request") (json ((codes "code", string (code_of j)) ∷ [])) (tt, tt)
     (session_short j) (numbered 99 j small) (omega arith) (omega (arith, code_short j small))
 
-costs : ℕ → Data
+-- what a move to this host says
+abbrev pub costs : ℕ → Data
 costs to = json ((codes "copy_base", whole 1) ∷ (codes "per_byte", whole 1) ∷ (codes "per_step", whole 1) ∷ (codes "run_base", whole 1) ∷ (codes "to", whole to) ∷ [])
 
 costs_short : (to : ℕ) → to ≤ 4000 → HasShortNumbers (costs to)
-unfolding costs
 costs_short to small =
     let one : length (decimal 1) ≤ 20 = omega (arith, number_short 1 (omega arith)) in
     let host : length (decimal to) ≤ 20 = omega (arith, number_short to small) in
     (one, (one, (one, (one, (host, tt)))))
 
 move_short : (j : ℕ) → j ≤ 4000 → length (compact_text (moving j)) ≤ 4000
-unfolding moving costs
+unfolding moving
 move_short j small =
     message_short (codes "f1") (codes "m" ++ decimal j) (codes "migrate_request") (costs (j / 4 % 3)) (costs_short (j / 4 % 3) (omega arith))
     (omega arith) (numbered 109 j small) (omega arith) (omega arith)
@@ -108,7 +108,7 @@ unfolding cell
 cell_some j = message_some (session_of j) (codes "c" ++ decimal j) (codes "execute_request") (json ((codes "code", string (code_of j)) ∷ []))
 
 move_some : (j : ℕ) → 0 < length (compact_text (moving j))
-unfolding moving costs
+unfolding moving
 move_some j = message_some (codes "f1") (codes "m" ++ decimal j) (codes "migrate_request") (costs (j / 4 % 3))
 
 pub opening_read : IsBody (compact_text opening)
