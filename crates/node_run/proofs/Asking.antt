@@ -146,11 +146,12 @@ requests_both (Asked r ∷ items) more = ap (λ l. r ∷ l) (requests_both items
 -- the first requests on main after the opening are those that the journal answers
 pub main_requests_begin : (kernel_of host : ℕ) (request : Header) (channel : Channel) (rs : List Request) (kernel : ℕ) (es : List Entry) (more : List MainItem)
     → Opening kernel_of host request channel ∷ as_main rs ≡ (opening_of kernel es ++ as_main (asked es)) ++ more → (later : List Request) × (filter is_main rs ≡ main_asked es ++ later)
-main_requests_begin kernel_of host request channel rs kernel es more is =
-    (requests_in more,
-      sym (requests_asked (filter is_main rs)) ∙ sym (after_opening kernel_of host request channel (as_main rs)) ∙ ap requests_in is
-          ∙ requests_both (opening_of kernel es ++ as_main (asked es)) more
-          ∙ ap (λ l. l ++ requests_in more) (openings_skipped kernel es (as_main (asked es)) ∙ requests_asked (main_asked es)))
+main_requests_begin kernel_of host request channel rs kernel es more is = (
+  requests_in more,
+  sym (requests_asked (filter is_main rs)) ∙ sym (after_opening kernel_of host request channel (as_main rs)) ∙ ap requests_in is
+      ∙ requests_both (opening_of kernel es ++ as_main (asked es)) more
+      ∙ ap (λ l. l ++ requests_in more) (openings_skipped kernel es (as_main (asked es)) ∙ requests_asked (main_asked es)),
+)
 
 -- the requests on main after the opening are those that the journal answers
 pub main_requests_are : (kernel_of host : ℕ) (request : Header) (channel : Channel) (rs : List Request) (kernel : ℕ) (es : List Entry)

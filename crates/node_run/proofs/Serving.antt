@@ -40,6 +40,7 @@ module _ {E F : Type 0} (seen : F → SeenFeed) where
         begins = first.1;
         main = main_requests_are s.kernel s.host s.request s.channel s.requests h.kernel h.entries main;
         control = sym control;
+        settled = fin.0;
         fed = subst (λ a. AreFirstAnswers a (drawn_in h.entries)) (fin.9 ∙ ap gives first.0) (first_answers (seen h.feed).made h.entries (seen h.feed) fed);
       }
 

@@ -242,16 +242,7 @@ where
             unreachable!()
         };
         cell.is_listed();
-        close_next(
-            rt,
-            alloc,
-            link,
-            is_cut,
-            cell,
-            session,
-            gate,
-            &mut closings,
-        );
+        close_next(rt, alloc, link, is_cut, cell, session, gate, &mut closings);
     }
     discard(cells);
     closings

@@ -123,11 +123,7 @@ impl Ends {
 }
 
 /// Drops all that is queued.
-fn drop_waiting<T: Drop, N: Numbering<T>, R: Wait>(
-    rt: &R,
-    queue: &Queue<T, N>,
-    seat: &mut Seat<T>,
-)
+fn drop_waiting<T: Drop, N: Numbering<T>, R: Wait>(rt: &R, queue: &Queue<T, N>, seat: &mut Seat<T>)
     requires queue { IsSegPassOf queue.now seat.old }
     requires consumer { seat.old.me.view.client.pops ≡ true }
     ensures { (items : List T) × Waits N.number seat.old.me.view.client items }
