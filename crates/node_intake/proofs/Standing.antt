@@ -1,6 +1,6 @@
 -- A desk, and the node that it stands for.
 use Rattle.std.proofs.Common.{◌≡◌, ℕ, List, ◌∷◌, [], ◌++◌, Some, None, Result, Ok, Err, refl, sym, ap, ◌∙◌, subst, append_assoc, append-nil}
-use Rattle.std.specs.Prelude.{map, slice_get, slice_set, OnOk, OnErr}
+use Rattle.std.specs.Prelude.{map, slice_get, slice_set, OnOk}
 use Rattle.session_core.specs.declared.request.Request.{Request}
 use Rattle.reply_frames.specs.declared.node.NodeError.{NodeError}
 use Rattle.node_intake.specs.Intake.{Taken, Node, session_of, with_request}
@@ -14,17 +14,9 @@ pub map_ok : {A E : Type 0} {P Q : Type 0} (r : Result A E) → (P → Q) → On
 map_ok (Ok a) f h = f h
 map_ok (Err e) f h = tt
 
-pub map_err : {A E : Type 0} {P Q : Type 0} (r : Result A E) → (P → Q) → OnErr r P → OnErr r Q
-map_err (Ok a) f h = tt
-map_err (Err e) f h = f h
-
 module _ {D : Type 0} (Holds : D → List Taken → Type 0) where
   pub as_handed : (n : Intake D) (h : Handed D) (node : Node) → StandsFor Holds n node → h.desk ≡ n.desk → h.errors ≡ n.errors.items → Holds h.desk node.sessions × (h.errors ≡ node.errors)
   as_handed n h node stands desk errors = (subst (λ d. Holds d node.sessions) (sym desk) stands.sessions, errors ∙ stands.errors)
-
-  -- nothing more
-  pub still_stands : (old new : Intake D) (node : Node) → ((ts : List Taken) → Holds old.desk ts → Holds new.desk ts) → new.errors.items ≡ old.errors.items → StandsFor Holds old node → StandsFor Holds new node
-  still_stands old new node still same stands = record { sessions = still node.sessions stands.sessions; errors = same ∙ stands.errors; apart = stands.apart }
 
   -- an error more
   pub failed_more : (old new : Intake D) (e : NodeError) (node : Node) → new.desk ≡ old.desk → new.errors.items ≡ old.errors.items ++ e ∷ [] → StandsFor Holds old node

@@ -1,15 +1,11 @@
 use Rattle.std.proofs.Common.{refl}
 use Rattle.node_intake.specs.Sessions.{new_session}
-use Rattle.node_intake.proofs.Standing.{map_ok, map_err, still_stands, opened_more, kept_same}
+use Rattle.node_intake.proofs.Standing.{map_ok, opened_more, kept_same}
 use Rattle.node_intake.proofs.node.Intake.begin.Goals as goal
 
 pub returns-clause-node : goal.returns-clause-node
 returns-clause-node g c =
     map_ok c.open.result (λ opens node stands none. opened_more g.D.Desk.holds c.args.self.now _ (new_session c.args.kernel c.args.host c.args.header c.args.channel) node opens refl stands none) c.open.ensures.ok
-
-pub returns-clause-err : goal.returns-clause-err
-returns-clause-err g c =
-    map_err c.open.result (λ still node stands. still_stands g.D.Desk.holds c.args.self.now _ node still refl stands) c.open.ensures.err
 
 pub returns-clause-kept : goal.returns-clause-kept
 returns-clause-kept g c = kept_same g.D.Desk.keeps c.args.self.now _ c.open.ensures.kept refl
