@@ -47,6 +47,7 @@ module _ {E F : Type 0} (seen : F → SeenFeed) where
         begins = first.1;
         main = more;
         control = control;
+        settled = fin.0;
         fed = subst (λ a. AreFirstAnswers a (drawn_in h.entries)) (fin.9 ∙ ap gives first.0) (first_answers (seen h.feed).made h.entries (seen h.feed) fed);
       }
 
@@ -100,6 +101,7 @@ whole_so_far meaning hosts answers s es j = record {
   begins = j.begins;
   main = ([], sym (append-nil (main_asked es) ∙ j.main));
   control = ([], sym (append-nil (control_asked es) ∙ j.control));
+  settled = j.settled;
   fed = j.fed;
 }
 

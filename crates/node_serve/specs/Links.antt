@@ -7,7 +7,7 @@ use Rattle.session_core.specs.declared.request.Request.{Request}
 use Rattle.session_core.specs.declared.entry.Entry.{Entry}
 use Rattle.session_core.specs.declared.entry.Entry.TheVariants.{Opened}
 use Rattle.session_core.specs.Meanings.{Meaning}
-use Rattle.session_core.specs.Legal.{IsLegal, main_asked, control_asked}
+use Rattle.session_core.specs.Legal.{settled, progress_of, IsLegal, main_asked, control_asked}
 use Rattle.session_core.specs.Feeding.{drawn_in, AreFirstAnswers}
 use Rattle.reply_frames.specs.declared.node.NodeError.{NodeError}
 use Rattle.node_intake.specs.Intake.{Taken, Node, main_requests, control_requests}
@@ -38,12 +38,13 @@ pub record HasServed (meaning : Meaning) (hosts : ℕ) (gives : Answers) (end : 
 -- ---- when memory ran out
 
 -- The journal of a session that was opened so, as far as it came: it is legal; what it answers are the first of each of the two lists
--- that were asked; and what its cells drew is what its feed gave first.
+-- that were asked; each move that was begun has ended; and what its cells drew is what its feed gave first.
 pub record IsJournalSoFar (meaning : Meaning) (hosts : ℕ) (answers : Option (List Drawn)) (s : Taken) (es : List Entry) : Type 0 where
   pub legal : IsLegal meaning hosts es
   pub begins : (more : List Entry) × (es ≡ Opened s.host s.request s.channel ∷ more)
   pub main : (more : List Request) × (main_requests s ≡ main_asked es ++ more)
   pub control : (more : List Request) × (control_requests s ≡ control_asked es ++ more)
+  pub settled : (progress_of es).phase ≡ settled
   pub fed : AreFirstAnswers answers (drawn_in es)
 
 abbrev pub AreJournalsSoFar : Meaning → ℕ → Answers → List Taken → List (List Entry) → Type 0
