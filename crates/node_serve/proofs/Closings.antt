@@ -1,5 +1,5 @@
 -- Sessions are closed one after the other.
-use Rattle.std.proofs.Common.{◌≡◌, ℕ, ◌+◌, ◌≤◌, Bool, true, false, true≢false, if◌then◌else◌, List, [], ◌∷◌, ◌++◌, length, map, take, Option, Some, None, refl, sym, ap, ◌∙◌, subst, append_assoc, length-append, arith}
+use Rattle.std.proofs.Common.{◌≡◌, ℕ, ◌+◌, ◌≤◌, Bool, true, false, true≢false, cond, List, [], ◌∷◌, ◌++◌, length, map, take, Option, Some, None, refl, sym, ap, ◌∙◌, subst, append_assoc, length-append, arith}
 use Rattle.std.specs.Prelude.{slice_get, drop}
 use mathlib.Core.List.{reverse}
 use Rattle.std.proofs.lemmas.List.{append-nil, length-reverse, reverse-reverse}
@@ -78,7 +78,7 @@ module _ {E F : Type 0} (seen : F → SeenFeed) where
       let legal_now : IsLegal meaning h.hosts h.entries = subst (λ n. IsLegal meaning n h.entries) all (subst (λ (x : List Entry). IsLegal meaning k.hosts x) es legal) in
       let fed_now : HasFed (seen h.feed).made h.entries (seen h.feed) =
       subst (λ (f : F). HasFed (seen f).made h.entries (seen f)) feed (subst (λ (x : List Entry). HasFed (seen k.feed).made x (seen k.feed)) es fed) in
-      subst (λ (x : List Entry). IsJournalSoFar meaning hosts (gives s.kernel) s x) (sym es) (so_far seen meaning hosts gives q number s o h is fin (subst HasWaiting ends waits) legal_now fed_now)
+      subst (λ (x : List Entry). IsJournalSoFar meaning hosts (gives s.kernel) s x) (sym es) (so_far meaning hosts gives q number s o h is fin (subst HasWaiting ends waits) legal_now fed_now)
 
   -- it is taken back
   pub taken_back : (meaning : Meaning) (hosts : ℕ) (gives : Answers) (q : SharedQueues) (number : ℕ) (s : Taken) (o : OpenSession) (h k : Holds E F) → k ≡ record h { out = k.out }
@@ -148,7 +148,7 @@ short_between meaning hosts gives old new q s o kernel place entries rest is sam
 -- ---- one session more
 
 pub closes_served : (meaning : Meaning) (hosts : ℕ) (gives : Answers) (old new : Wire) (s : Taken) (o : OpenSession) (run : ServedSession) (suffices : Bool) (runs later : List ServedSession) → IsRunOf meaning hosts gives s run
-    → SendsOn true true old new (read_units o) (run_units run) → later ≡ (if suffices then runs ++ run ∷ [] else runs) → Closes meaning hosts gives old new s o true suffices runs later
+    → SendsOn true true old new (read_units o) (run_units run) → later ≡ cond suffices (runs ++ run ∷ []) runs → Closes meaning hosts gives old new s o true suffices runs later
 closes_served meaning hosts gives old new s o run true runs later is told push = record {
   entries = journal_of run;
   journal = whole_so_far meaning hosts (gives s.kernel) s (journal_of run) is.1;

@@ -121,9 +121,11 @@ front_on lists longer sent fronts front =
     let units = front.1.0 in
     let more = goes_on_to_the_end lists longer units fronts front.1.1 in (
       front.0 ++ joined more.0,
-      units ++ more.0,
-      more.1,
-      sym (append_assoc sent front.0 (joined more.0)) ∙ ap (λ z. z ++ joined more.0) front.1.2 ∙ sym (joined_both units more.0),
+      (
+        units ++ more.0,
+        more.1,
+        sym (append_assoc sent front.0 (joined more.0)) ∙ ap (λ z. z ++ joined more.0) front.1.2 ∙ sym (joined_both units more.0),
+      ),
     )
 
 -- what is the front of these lists is the front of those with more at their ends

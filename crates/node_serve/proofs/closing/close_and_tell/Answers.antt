@@ -41,7 +41,7 @@ returns-in-Err-tell_rest-clause-err g c = λ s is.
     let new = wire (g.L.Link.line c.tell_rest.new.link) (g.L.Link.faults c.tell_rest.new.link) c.tell_rest.new.is_cut in
     let run = c.in-Ok.ensures.run s is in
     short_between g.E.Engine.meaning g.N.Name.hosts g.N.Name.gives old new c.args.cell.0 s c.args.session closed.kernel closed.place closed.served.entries p.3.0 is p.0 p.3.1 p.2 run.1
-    (subst (λ (xs : List Entry). SendsOn true false old new (entry_units closed.kernel 1 (take closed.place xs)) (entry_units closed.kernel 1 xs)) c.entries.ensures c.in-Err.ensures.sends)
+    (subst (λ (xs : List Entry). SendsOn true false old new (entry_units closed.kernel 1 (take closed.place xs)) (entry_units closed.kernel 1 xs)) c.entries.ensures c.in-Err-tell_rest.ensures.sends)
 
 pub returns-in-Err-clause-err : goal.returns-in-Err-clause-err
 returns-in-Err-clause-err g c = λ s is.

@@ -24,7 +24,7 @@ returns-in-Ok-false g c =
 pub returns-in-Err-take_frames : goal.returns-in-Err-take_frames
 returns-in-Err-take_frames g c = record {
   took = piece_front c.args.hosts g.N.Name.queues c.args.self.now.framer c.feed.new.self c.args.self.now.node c.take_frames.new.node c.args.piece.now
-      c.in-Ok.ensures.ok c.feed.ensures.place c.in-Err.ensures.err c.in-Err.ensures.kept;
+      c.in-Ok.ensures.ok c.feed.ensures.place c.in-Err-take_frames.ensures.err c.in-Err-take_frames.ensures.kept;
 }
 
 pub returns-in-Err : goal.returns-in-Err
