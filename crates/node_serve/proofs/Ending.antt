@@ -1,6 +1,6 @@
 -- What was served, once all is done.
 use Rattle.std.proofs.Common.{◌≡◌, ℕ, ◌≤◌, Bool, true, false, List, [], ◌∷◌, ◌++◌, length, map, take, Option, Result, Ok, Err, Some, None, inl, inr, refl, sym, ap, ◌∙◌, subst, append-nil}
-use Rattle.std.specs.Prelude.{MatchResult}
+use Rattle.std.specs.Prelude.{OnOk, MatchResult, is_ok}
 use Rattle.std.specs.List.{AllByRecursion}
 use Rattle.nb_outside.specs.Counts.{HasRisen}
 use Rattle.nb_links.specs.Lines.{Line}
@@ -215,6 +215,11 @@ match_both (Err e) is f g = g is
 pub match_one : {A E : Type 0} {P : A → Type 0} {Q R : Type 0} (r : Result A E) → MatchResult r P (λ _. Q) → ((a : A) → P a → R) → (Q → R) → R
 match_one (Ok a) is f g = f a is
 match_one (Err e) is f g = g is
+
+-- what was said of a call that gave no error
+pub when_ok : {A E : Type 0} (P : Type 0) (r : Result A E) → OnOk r P → is_ok r ≡ true → P
+when_ok P (Ok x) h is = h
+when_ok P (Err e) h is = cc
 
 -- what went over the link is told in both cases
 pub match_went : {A E : Type 0} (start now : Wire) (P : A → List ℕ → List ℕ → Type 0) (Q : List ℕ → List ℕ → Type 0) (r : Result A E)

@@ -12,6 +12,6 @@ returns-in-Ok-clause-closes g c = λ s is.
     let old = wire (g.L.Link.line c.args.link.now) (g.L.Link.faults c.args.link.now) c.args.is_cut.now in
     let new = wire (g.L.Link.line c.close_and_tell.new.link) (g.L.Link.faults c.close_and_tell.new.link) c.close_and_tell.new.is_cut in
     let runs = c.args.closings.now.runs.items in
-    let run = c.in-Ok.run in
+    let run = c.in-Ok.run' in
     closes_served g.E.Engine.meaning g.N.Name.hosts g.N.Name.gives old new s c.args.session run c.is_ok-closings.result runs c.push.new.self.items (c.in-Ok.ensures.run s is) c.in-Ok.ensures.ok
     (c.push.ensures.items ∙ ap (λ b. cond b (runs ++ run ∷ []) runs) (sym c.is_ok-closings.ensures.value))
