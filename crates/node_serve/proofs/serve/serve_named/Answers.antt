@@ -21,7 +21,7 @@ close_fed-requires-clause-fed g c =
     (first, fed)
 
 pub let_all_go-requires-clause-table : goal.let_all_go-requires-clause-table
-let_all_go-requires-clause-table g c = (c.into_cells.ensures.table, ap length c.requires.queues.0 ∙ c.requires.queues.1)
+let_all_go-requires-clause-table g c = (c.into_cells-in-Err-converse_beside_workers.ensures.table, ap length c.requires.queues.0 ∙ c.requires.queues.1)
 
 pub let_all_go-requires-clause-left : goal.let_all_go-requires-clause-left
 let_all_go-requires-clause-left g c =
@@ -75,7 +75,7 @@ returns-in-Err-converse_beside_workers-clause-told g c =
     let now = wire (g.L.Link.line c.let_all_go.new.link) (g.L.Link.faults c.let_all_go.new.link) c.let_all_go.new.is_cut in
     let os = c.in-Err-converse_beside_workers.sessions.items in
     let left = subst (λ n. IsLeft n g.N.Name.queues first mid os) (sym c.requires.hosts) c.in-Err-converse_beside_workers.ensures.fed in
-    stopped_as m g.N.Name.hosts c.args.hosts g.N.Name.gives gives first now c.requires.hosts c.requires.gives (c.let_all_go.ensures first left)
+    stopped_as m g.N.Name.hosts c.args.hosts g.N.Name.gives gives first now c.requires.hosts c.requires.gives (c.let_all_go.ensures.stopped first left)
 
 pub returns-in-Err-converse_beside_workers-clause-faults_stay : goal.returns-in-Err-converse_beside_workers-clause-faults_stay
 returns-in-Err-converse_beside_workers-clause-faults_stay g c =
@@ -85,7 +85,7 @@ returns-in-Err-converse_beside_workers-clause-faults_stay g c =
     let mid = wire (g.L.Link.line c.converse_beside_workers.new.link) (g.L.Link.faults c.converse_beside_workers.new.link) c.converse_beside_workers.new.is_cut in
     let os = c.in-Err-converse_beside_workers.sessions.items in
     let left = subst (λ n. IsLeft n g.N.Name.queues first mid os) (sym c.requires.hosts) c.in-Err-converse_beside_workers.ensures.fed in
-    (c.let_all_go.ensures first left).stays
+    (c.let_all_go.ensures.stopped first left).stays
 
 pub returns-in-Err-clause-told : goal.returns-in-Err-clause-told
 returns-in-Err-clause-told g c = ([], [], went_none (g.L.Link.line c.args.link.now), nothing_served g.E.Engine.meaning c.args.hosts (g.Q.Feeds.gives c.args.feeds.now) (left_of (g.L.Link.line c.args.link.now)))
