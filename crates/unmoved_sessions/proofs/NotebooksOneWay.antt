@@ -1,9 +1,8 @@
 -- What a notebook serves is determined by what it served before, and by what its feed gives.
-use Rattle.std.proofs.Common.{◌≡◌, ◌≢◌, ℕ, ◌<◌, ◌≤◌, Bool, true, false, cond, List, [], ◌∷◌, ◌++◌, length, refl, sym, ap, ◌∙◌, subst, ◌⊎◌, inl, inr, arith}
-use Rattle.std.specs.Prelude.{Contains, ◌==◌}
+use Rattle.std.proofs.Common.{◌≡◌, ℕ, ◌≤◌, cond, List, [], ◌∷◌, ◌++◌, length, refl, sym, ap, ◌∙◌, subst, ◌⊎◌, inl, inr, arith}
+use Rattle.std.specs.Prelude.{◌==◌}
 use Rattle.std.proofs.lemmas.Bool.{cases_lt}
 use Rattle.nb_outside.specs.declared.feed.Drawn.{Drawn}
-use Rattle.graph_model.specs.declared.graph.Graph.{Graph}
 use Rattle.graph_model.specs.declared.plan.Tally.{Tally}
 use Rattle.graph_model.specs.declared.plan.Tally.TheVariants as tally
 use Rattle.py_tree.specs.declared.statements.Stmt.{Stmt}
@@ -21,11 +20,10 @@ use Rattle.history_graph.specs.Tallies.{rank}
 use Rattle.replay_laws.proofs.Tidying.{no_more, no_repeats}
 use Rattle.session_core.specs.declared.request.Ask.{Ask}
 use Rattle.session_core.specs.declared.request.Ask.TheVariants.{Execute, Info, Complete, Shutdown, Migrate}
-use Rattle.session_core.specs.Meanings.{Served, Meaning, more}
 use Rattle.notebook_meaning.specs.Cells.{recorded, cell_of, cells_of, unmoved}
 use Rattle.notebook_meaning.specs.Numbers.{IsPassedFirst}
 use Rattle.notebook_meaning.specs.Lists.{MayServe}
-use Rattle.notebook_meaning.specs.Notebooks.{IsGraphOf, HasObjectsOf, Passes, notebooks}
+use Rattle.notebook_meaning.specs.Notebooks.{HasObjectsOf, Passes, notebooks}
 use Rattle.notebook_meaning.proofs.Lists.{last_may}
 use Rattle.unmoved_sessions.proofs.OneWay.{IsOneWay}
 

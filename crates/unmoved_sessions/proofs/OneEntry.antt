@@ -1,5 +1,5 @@
 -- In a session that isn't short of memory, one entry may come that answers the next request, but for the certificate of a move.
-use Rattle.std.proofs.Common.{◌≡◌, ◌≢◌, ℕ, ◌<◌, Bool, true, false, List, [], ◌∷◌, ◌++◌, refl, sym, ap, ◌∙◌, subst}
+use Rattle.std.proofs.Common.{◌≡◌, ℕ, Bool, true, false, List, [], ◌∷◌, ◌++◌, refl, sym, ap, ◌∙◌, subst}
 use Rattle.nb_outside.specs.declared.feed.Drawn.{Drawn}
 use Rattle.graph_model.specs.declared.plan.Certified.{Certified}
 use Rattle.graph_model.specs.declared.plan.Tally.{Tally}
@@ -8,15 +8,14 @@ use Rattle.session_core.specs.declared.request.Ask.{Ask}
 use Rattle.session_core.specs.declared.request.Ask.TheVariants.{Execute, Info, Complete, Shutdown, Migrate}
 use Rattle.session_core.specs.declared.request.Request.{Request}
 use Rattle.session_core.specs.declared.reply.Reply.{Reply}
-use Rattle.session_core.specs.declared.entry.DiedCause.{DiedCause}
 use Rattle.session_core.specs.declared.entry.DiedCause.TheVariants.{OutOfMemory, TooMany}
 use Rattle.session_core.specs.declared.entry.MoveRefusal.{MoveRefusal}
 use Rattle.session_core.specs.declared.entry.Entry.{Entry}
 use Rattle.session_core.specs.declared.entry.Entry.TheVariants.{Opened, Ran, Died, Dead, Sealed, Moved, Adopted, Refused, Resumed}
 use Rattle.session_core.specs.Asks.{IsWork, IsMove}
-use Rattle.session_core.specs.Meanings.{Served, Meaning, more}
+use Rattle.session_core.specs.Meanings.{Meaning, more}
 use Rattle.session_core.specs.Feeding.{drawn_by}
-use Rattle.session_core.specs.Legal.{Phase, settled, sealed, arriving, Progress, IsReason, MayGo, IsCause, MayBeMoved, MayBeAdopted, MayBeResumed, MayCome, asked_by}
+use Rattle.session_core.specs.Legal.{Phase, settled, Progress, IsReason, MayGo, MayBeMoved, MayBeAdopted, MayCome, asked_by}
 use Rattle.unmoved_sessions.specs.Alike.{HadMemory, IsAlike}
 use Rattle.unmoved_sessions.proofs.OneWay.{IsOneWay}
 use Rattle.unmoved_sessions.proofs.OneReason.{one_reason, no_reason}

@@ -93,6 +93,9 @@ run_stream-requires-send-E g c = λ κs within. search (Notebook-send, sendable)
 pub serve_links-requires-send-E : goal.serve_links-requires-send-E
 serve_links-requires-send-E g c = λ κs within. search (Notebook-send, sendable) depth 6
 
+pub made-requires : goal.made-requires
+made-requires g c = (some_command _ _ _ _ (IsCommand (map string_bytes c.args.words.now)) c.in-Ok-Some-Made.field-0-is c.in-Ok-Some-Made.field-0-0-is c.in-Ok-Some-Made.ensures.command).0.1
+
 pub returns-in-Ok-Some-Made-clause-counted : goal.returns-in-Ok-Some-Made-clause-counted
 returns-in-Ok-Some-Made-clause-counted g c = λ cells is.
     subst (λ (n : ℕ). MadeTold n c.made.result (g.K.Sink.written c.args.sink.now) (g.K.Sink.written c.made.new.sink))
