@@ -6,6 +6,7 @@
 
 mod blocks;
 mod constructs;
+mod forcing;
 mod functions;
 mod heads;
 pub mod laws;
@@ -17,6 +18,7 @@ mod state;
 mod steps;
 
 pub use constructs::outside;
+pub use forcing::{deepest, forced_now};
 pub use source::MOST;
 pub use state::{
     Around, Begun, Branches, Done, Head, Last, Lead, Outer, Place, Purpose, Reader, Simple, Spot,

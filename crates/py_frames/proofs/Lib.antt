@@ -4,7 +4,6 @@ pub mod Completing
 pub mod Ended
 pub mod AtEnd
 pub mod Forced
-pub mod Moved
 pub mod Rows
 pub mod Seen
 pub mod Sides
@@ -13,3 +12,5 @@ pub mod Targets
 pub mod Trees
 pub mod Outermost
 pub mod Wholes
+pub mod Around
+pub mod Reached

@@ -29,6 +29,11 @@ bare (h.Dict ps) = true
 bare (h.Pair ps k) = true
 bare _ = false
 
+-- whether it is an operand itself
+abbrev pub is_operand : Hole → Bool
+is_operand (h.Index p) = true
+is_operand hole = bare hole
+
 abbrev pub is_nil : List Frame → Bool
 is_nil [] = true
 is_nil (f ∷ fs) = false
@@ -42,6 +47,17 @@ around targets hole f last operand loose tight outer = outer (bare hole) (node f
 abbrev pub forced_in : Bool → List Frame → Bool → List ℕ → List ℕ → List ℕ
 forced_in targets [] operand loose tight = if targets && operand then loose else tight
 forced_in targets (f ∷ fs) operand loose tight = around targets f.hole f (is_nil fs) operand loose tight (forced_in targets fs)
+
+-- the same in fewer words: what is in a frame has as a target the same places, or all but the least depth
+abbrev pub unless_below : Bool → List ℕ → List ℕ
+unless_below below tight = if below then drop 1 tight else tight
+
+abbrev pub may_target : Hole → Bool
+may_target (h.Tuple xs may) = may
+may_target _ = false
+
+abbrev pub last_as : Bool → Bool → Frame → Bool → List ℕ → List ℕ
+last_as targets operand f below tight = if (targets && operand) && may_target f.hole then beside (drop 1 f.under) (unless_below below tight) else node f tight
 
 -- the places if it is a target
 abbrev pub loose : Value → List ℕ
@@ -65,6 +81,11 @@ abbrev pub reach : List ℕ → ℕ → ℕ
 reach [] d = 0
 reach (x ∷ p) zero = max x (reach p zero)
 reach (x ∷ p) (suc d) = reach p d
+
+-- the greatest of some places, and 0 of none
+abbrev pub greatest : List ℕ → ℕ
+greatest [] = 0
+greatest (x ∷ xs) = max x (greatest xs)
 
 -- at each depth the second gets so deep no later
 pub record Sooner (p q : List ℕ) : Type 0 where

@@ -41,7 +41,7 @@ pub fn level(hole: &Hole) -> u8
     }
 }
 
-fn is_index(hole: &Hole) -> bool
+pub fn is_index(hole: &Hole) -> bool
     ensures { result ≡ is_index hole.now }
 {
     match hole {

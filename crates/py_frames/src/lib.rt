@@ -7,6 +7,7 @@ mod closing;
 mod constructs;
 mod empty_brackets;
 mod endings;
+mod forcing;
 mod frames;
 pub mod laws;
 mod nest;
@@ -18,6 +19,7 @@ mod stop;
 
 pub use constructs::construct;
 pub use endings::{Colon, begun, colon_or_end, end, is_begun, is_narrow, is_undivided};
+pub use forcing::forced_of;
 pub use frames::{Chain, Frame, Hole, State, Value};
 pub use nest::Nest;
 pub use places::Places;

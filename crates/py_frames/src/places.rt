@@ -1,5 +1,6 @@
 //! For each depth of a part, the first place that deep.
 ghost use Rattle.std.specs.Prelude.{◌≡◌, ◌≤◌, [], ◌∷◌, length, reverse, drop, OnOk};
+ghost use Rattle.py_frames.specs.Forced.{reach, greatest};
 ghost use Rattle.py_frames.specs.Values.{beside};
 
 use std::alloc::{AllocError, Global};
@@ -36,6 +37,17 @@ fn raise(long: &mut [usize], short: &[usize])
     }
 }
 
+/// The greatest of them, and 0 of none.
+fn greatest(places: &[usize]) -> usize
+    ensures { result ≡ greatest places.now }
+{
+    let mut most = 0;
+    for place in places {
+        most = most.max(*place);
+    }
+    most
+}
+
 impl Places {
     pub fn none(alloc: Global) -> Places
         ensures { result ≡ [] }
@@ -58,6 +70,15 @@ impl Places {
     {
         self.deepest_first.push(from)?;
         Ok(())
+    }
+
+    /// The first place that deep or deeper, and 0 if there is none.
+    #[tactic(auto, using(crate::proofs::Reached::reach_reversed))]
+    pub fn reach(&self, depth: usize) -> usize
+        ensures { result ≡ reach self.now depth }
+    {
+        let upto = self.deepest_first.len().saturating_sub(depth);
+        greatest(&self.deepest_first[..upto])
     }
 
     /// With those of another part. Takes no memory.
