@@ -3,8 +3,9 @@ use Rattle.std.proofs.Common.{◌≡◌, ℕ, zero, suc, max, ◌≤◌, Bool, t
 use Rattle.std.proofs.lemmas.Bool.{false≢true}
 use Rattle.py_token.specs.declared.kinds.Kind.{Kind}
 use Rattle.py_token.specs.declared.kinds.Kind.TheVariants as t
+use Rattle.py_token.specs.declared.kinds.Keyword.TheVariants as k
 use Rattle.py_tree.specs.declared.statements.Stmt.{Stmt}
-use Rattle.py_grammar.specs.Words.{assign_sign, open_bracket, colon}
+use Rattle.py_grammar.specs.Words.{def_word, assign_sign, open_bracket, colon}
 use Rattle.py_frames.specs.declared.frames.State as reading
 use Rattle.py_frames.specs.declared.frames.State.TheVariants.{Has}
 use Rattle.py_frames.specs.declared.frames.Frame.{Frame}
@@ -20,7 +21,7 @@ use Rattle.py_frames.specs.Targets.{sight}
 use Rattle.py_frames.specs.Forced as f
 use Rattle.py_frames.specs.Forced.{forced, reach, AddsAt, EndsAs, of_dict, is_dict, Ending, a_name, no_args, parenthesis, bracket, brace, otherwise, key, related, no_value, not_no_value, within, a_method, called}
 use Rattle.py_frames.proofs.Forced.{reach-beside, beside-none}
-use Rattle.py_frames.proofs.Ended.{same, and_then, cons, beside-adds, ending-adds}
+use Rattle.py_frames.proofs.Ended.{same, and_then, cons, one, beside-adds, ending-adds}
 use Rattle.py_frames.proofs.AtEnd.{ended-as}
 use Rattle.py_blocks.specs.declared.state.Begun.{Begun}
 use Rattle.py_blocks.specs.declared.state.Done.{Done}
@@ -37,9 +38,9 @@ use Rattle.py_blocks.specs.declared.state.State.TheVariants as h
 use Rattle.py_blocks.specs.declared.state.Test.{Test}
 use Rattle.py_blocks.specs.Blocks.{Texts, settled}
 use Rattle.py_blocks.specs.Steps as m
-use Rattle.py_blocks.specs.Steps.{Names, assignment, moves}
+use Rattle.py_blocks.specs.Steps.{Names, assignment, begins_line, on_line_word, moves}
 use Rattle.py_blocks.specs.Forced.{enclose, at_spot, in_simple, in_purpose, in_begun, forced_now}
-use Rattle.py_blocks.specs.Completes.{Adds, ReadingAdds, Finishes, Sees, Closing, statement, dedent, finish, goes, item, ends, assigned, after_word, global_name, after_global, test, head, variable, variables, after_else, after_def, after_name, no_param, params, after_params, block, indent}
+use Rattle.py_blocks.specs.Completes.{Adds, ReadingAdds, Finishes, Sees, Closing, statement, dedent, finish, function, goes, item, ends, assigned, after_word, global_name, after_global, test, head, variable, variables, after_else, after_def, after_name, no_param, params, after_params, block, indent}
 use Rattle.py_blocks.proofs.Sooner.{closed-forced, ended-forced, colon-either}
 
 -- ---- the order
@@ -180,12 +181,17 @@ dedent-adds texts at left o os done last.Nothing = tt
 dedent-adds texts at left o os done last.Other = equal (sym (closed-forced texts left os o (settled done last.Other)))
 dedent-adds texts at left o os done (last.Branches b) = equal (sym (closed-forced texts left os o (settled done (last.Branches b))))
 
+function-adds : (at : ℕ) (done : Done) (l : Last) → Adds at (settled done l).under (on_line_word at [] done l k.Def)
+unfolding on_line_word begins_line
+function-adds at done l = record { each = λ d. omega (arith, reach-beside (settled done l).under (at ∷ []) d, (one at).each d) }
+
 -- ---- one more token
 
 pub closing-adds : (texts : Texts) (at left : ℕ) (x : State) (names : Names) (token : Kind) → Closing x token → Adds at (forced_now x) (moves false texts at left x names token)
 closing-adds texts at left x names token (statement os done l n) = enclose-adds os (two-more at (settled done l).under)
 closing-adds texts at left x names token (dedent o os done l) = dedent-adds texts at left o os done l
 closing-adds texts at left x names token (finish done l) = same _
+closing-adds texts at left x names token (function done l) = function-adds at done l
 closing-adds texts at left x names token (goes y u r z d) = subst (Adds at (in_simple y (in_purpose u r))) (sym (ending-goes_on texts at left y u r z d)) (goes_on-adds at y u _ (e.step r z at) (reading-adds at u r (e.step r z at) (λ targets. ending-adds targets r z at d)))
 closing-adds texts at left x names token (item y u r d) = subst (Adds at (in_simple y (in_purpose u r))) (sym (item-goes_on texts at left y u r)) (goes_on-adds at y u _ (e.step r open_bracket at) (d at))
 closing-adds texts at left x names token (ends y u r d) = ends-add texts at left y (in_purpose u r) (m.finished u r) (d at)

@@ -8,13 +8,15 @@ use Rattle.py_tree.specs.declared.expressions.Expr.{Expr}
 use Rattle.py_tree.specs.declared.expressions.Op.{Op}
 use Rattle.py_tree.specs.declared.expressions.Target as tree_of
 use Rattle.py_tree.specs.declared.statements.Stmt.{Stmt}
-use Rattle.py_grammar.specs.Words.{in_word, assign_sign, open_parenthesis, close_parenthesis, open_bracket, close_bracket, colon, comma}
+use Rattle.py_grammar.specs.Words.{in_word, def_word, assign_sign, open_parenthesis, close_parenthesis, open_bracket, close_bracket, colon, comma}
 use Rattle.py_grammar.specs.Expressions.{plain, ors_one, ands_one, compared, compares_one, sums_one, products_one, unsigned, Expression, Ors, Ands, Primary, name, number, index, Exprs, single, tuple, Elements, elements_one, elements_more, spell_primary}
 use Rattle.py_grammar.specs.Readings as r
 use Rattle.py_grammar.specs.Readings.{Picked, picked, upper, no_upper, related, added, scaled, Lower, lower, no_lower, in_index, opened, listed, Reading, wants, has, begun, bare, narrow, undivided, whole, reading_stands}
 use Rattle.py_grammar.specs.Statements as g
-use Rattle.py_grammar.specs.Statements.{Places, places_more, targets, Targets, Simple, word, give, declare, delete, assign, augment, show, Statements, statements_one, simple, Block, indented, inline, choose, otherwise, while_true, for_each, define, if_true, else_if, variables, Names, Cell, params}
+use Rattle.py_grammar.specs.Statements.{Places, places_more, targets, Targets, Simple, word, give, declare, delete, assign, augment, show, Statements, statements_one, simple, compound, Block, indented, inline, choose, otherwise, while_true, for_each, define, if_true, else_if, variables, Names, Cell, no_params, params}
 use Rattle.py_grammar.specs.States.{Outer, outer, Spot, own, behind_head, Purpose, showing, giving, deleting, assigning, augmenting, Lead, lead_if, lead_elif, lead_while, lead_for, State, line, in_simple, after_word, in_global, has_global, in_test, in_variables, has_variables, after_else, after_def, after_def_name, in_params, has_params, after_params, after_colon, after_newline, done, primary_alone, target_of, places_of, targets_of, place_of, add_name, close, ended, fits, if_allowed, then_simple, then_test, ends as ends_with, if_made, assigns, first_place, more_places, undivided_targets, spot_heard, is_new_name, params_of, step, run, purpose_stands, state_stands}
+use Rattle.py_grammar.specs.AloneMachine.{step_alone, run_alone}
+use Rattle.py_grammar.proofs.AloneKept.{Same, ends_alone, alone-kept}
 use Rattle.py_grammar.proofs.Bare.{bare_is}
 use Rattle.py_grammar.proofs.Completed.{fresh_name, fresh_name-new}
 use Rattle.py_grammar.proofs.Keeps.{Keeps, step-keeps}
@@ -43,7 +45,7 @@ use Rattle.py_blocks.specs.Steps.{Names as Noted}
 use Rattle.py_blocks.specs.Held.{held_done, held_state}
 use Rattle.py_blocks.specs.Follows.{Hears}
 use Rattle.py_blocks.specs.Forced.{in_purpose, forced_now}
-use Rattle.py_blocks.specs.Completes.{Adds, ReadingAdds, Finishes, Sees, Closing, statement, dedent, finish, goes, item, ends, assigned, after_word as word_ends, global_name, after_global, test, head, variable, variables as in_comes, after_else as else_ends, after_def as def_named, after_name, no_param, params as params_end, after_params as params_colon, block, indent}
+use Rattle.py_blocks.specs.Completes.{Adds, ReadingAdds, Finishes, Sees, Closing, statement, dedent, finish, function, goes, item, ends, assigned, after_word as word_ends, global_name, after_global, test, head, variable, variables as in_comes, after_else as else_ends, after_def as def_named, after_name, no_param, params as params_end, after_params as params_colon, block, indent}
 use Rattle.py_blocks.proofs.Closing.{closing-adds, equal, no-more}
 use Rattle.py_blocks.proofs.Moves.{shown, moves-held}
 use Rattle.py_blocks.proofs.Heard.{HearsTo, step-hears, hears-new}
@@ -355,6 +357,43 @@ state-closes (done c) h = record { more = []; cell = c; closes = at_end c }
 pub closes-run : {s : State} {ts : List Kind} {c : Cell} → Closes s ts c → run s ts ≡ Some (done c)
 closes-run (at_end c) = refl
 closes-run (onward s u t ts c e k l) = ap (λ o. elim o [ None ↦ None | Some v ↦ run v ts ]) e ∙ closes-run l
+
+-- ---- as one function alone
+
+pub record ClosesAlone (s : State) : Type 0 where
+  pub more : List Kind
+  pub cell : Cell
+  pub closes : Closes s more cell
+  pub alone : run_alone s more ≡ Some (done cell)
+
+-- with the least function, if nothing has been read
+start-alone : ClosesAlone (line [] None)
+start-alone = record {
+  more = def_word ∷ t.Name blank ∷ open_parenthesis ∷ close_parenthesis ∷ colon ∷ t.Number (pos 0) ∷ t.Newline ∷ t.End ∷ [];
+  cell = Some (statements_one (compound (define blank no_params) (inline zero_line)));
+  closes =
+    onward _ _ def_word _ _ refl (λ place texts rest. function _ _)
+    (onward _ _ (t.Name blank) _ _ refl (λ place texts rest. def_named _ blank)
+    (onward _ _ open_parenthesis _ _ refl (λ place texts rest. after_name _ blank)
+    (onward _ _ close_parenthesis _ _ refl (λ place texts rest. no_param _ _ _)
+    (onward _ _ colon _ _ refl (λ place texts rest. params_colon _ _ _)
+    (onward _ _ (t.Number (pos 0)) _ _ refl (λ place texts rest. block _ _ (pos 0))
+    (onward _ _ t.Newline _ _ refl (λ place texts rest. ends _ purpose.Showing _ (λ n. same _))
+    (onward _ _ t.End _ _ refl (λ place texts rest. finish _ _) (at_end _))))))));
+  alone = refl;
+}
+
+-- it ends at its first function
+onward-alone : (s u : State) (t : Kind) → step s t ≡ Some u → Can s t → ends_alone s ≡ true → (ends_alone u ≡ true → ClosesAlone u) → ClosesAlone s
+onward-alone (line [] None) u t e k h f = start-alone
+onward-alone (line [] (Some ss)) u token e k h f = record { more = t.End ∷ []; cell = Some ss; closes = onward _ _ t.End _ _ refl (λ place texts rest. finish _ _) (at_end (Some ss)); alone = refl }
+onward-alone s u t e k h f =
+    let r = f (subst (Same true) e (alone-kept s t h)) in
+    record { more = t ∷ r.more; cell = r.cell; closes = onward s u t r.more r.cell e k r.closes; alone = ap (λ o. elim o [ None ↦ None | Some v ↦ run_alone v r.more ]) e ∙ r.alone }
+
+pub closes-alone : {s : State} {ts : List Kind} {c : Cell} → Closes s ts c → ends_alone s ≡ true → ClosesAlone s
+closes-alone (at_end c) h = record { more = []; cell = c; closes = at_end c; alone = refl }
+closes-alone (onward s u t ts c e k l) h = onward-alone s u t e k h (λ g. closes-alone l g)
 
 module _ (place : ℕ → ℕ) (fair : (a b : ℕ) → place (max a b) ≡ max (place a) (place b)) where
   earlier : (n : ℕ) → place n ≤ place (suc n)

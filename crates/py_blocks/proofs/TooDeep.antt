@@ -1,5 +1,5 @@
 -- What is forced of the tokens that have been read tells where they are too deep.
-use Rattle.std.proofs.Common.{◌≡◌, ℕ, zero, suc, ◌+◌, ◌-◌, ◌<◌, ◌≤◌, ◌⊎◌, inl, inr, max, Bool, true, false, List, [], ◌∷◌, ◌++◌, length, Option, Some, None, refl, ap, ◌∙◌, sym, subst, append-nil, arith}
+use Rattle.std.proofs.Common.{◌≡◌, ℕ, zero, suc, ◌+◌, ◌-◌, ◌<◌, ◌≤◌, ◌⊎◌, inl, inr, max, Bool, true, false, if◌then◌else◌, List, [], ◌∷◌, ◌++◌, length, Option, Some, None, refl, ap, ◌∙◌, sym, subst, append-nil, arith}
 use Rattle.std.specs.List.{All, Contains}
 use Rattle.std.proofs.lemmas.List.Elements.{All-nil, All-cons, All-contains, Contains-append_right}
 use Rattle.py_token.specs.declared.kinds.Kind.{Kind}
@@ -7,21 +7,26 @@ use Rattle.py_token.specs.declared.kinds.Kind.TheVariants as t
 use Rattle.py_grammar.specs.Statements.{Cell, IsCell, spelling}
 use Rattle.py_grammar.specs.States as m
 use Rattle.py_grammar.specs.States.{state_stands}
+use Rattle.py_grammar.specs.Alone.{IsFunction}
+use Rattle.py_grammar.specs.AloneMachine.{step_alone, run_alone}
 use Rattle.py_grammar.specs.Depth.{in_cell, IsTooDeep, AreTooDeep}
+use Rattle.py_grammar.proofs.AloneKept.{Same, ends_alone, alone-kept}
+use Rattle.py_grammar.proofs.AloneRead.{then_alone, alone-append, alone-read, read_is_one}
 use Rattle.py_grammar.proofs.Whole.{read_is, is_read, run-append}
 use Rattle.py_grammar.proofs.Failing.{read_iff_stands}
 use Rattle.py_frames.specs.Under.{either, first, nth, placed}
 use Rattle.py_frames.specs.Forced.{reach, Sooner, AddsAt}
 use Rattle.py_blocks.specs.declared.state.Reader.{Reader}
+use Rattle.py_blocks.specs.declared.state.State.{State}
 use Rattle.py_blocks.specs.declared.state.State.TheVariants as h
 use Rattle.py_blocks.specs.Blocks.{Texts}
 use Rattle.py_blocks.specs.Held.{held_done, held_state}
-use Rattle.py_blocks.specs.Steps.{Names, start, step}
+use Rattle.py_blocks.specs.Steps.{Names, may_come, on_line, renamed, moves, with_names, start, step}
 use Rattle.py_blocks.specs.Follows.{Hears, reader_at, Follows, run, from_start}
 use Rattle.py_blocks.specs.Forced.{forced_now}
-use Rattle.py_blocks.specs.Telling.{deepest, TellsDepth, TellsCells}
+use Rattle.py_blocks.specs.Telling.{deepest, TellsDepth, TellsAlone, ReadsAlone, TellsCells}
 use Rattle.py_blocks.proofs.Cells.{fair, cell-places}
-use Rattle.py_blocks.proofs.Completing.{state-closes, closes-run, closes-add}
+use Rattle.py_blocks.proofs.Completing.{Closes, state-closes, closes-alone, closes-run, closes-add}
 use Rattle.py_blocks.proofs.Following.{run-follows}
 use Rattle.py_blocks.proofs.Sooner.{RunGrows, run-grows}
 
@@ -206,41 +211,63 @@ cell-grows texts most tokens more reader c e is =
     let j : run false texts (most - length tokens) reader more ≡ Some (reader_at (from_start most (length (spelling c))) texts (m.done c) [] g.0) = ap (then_run texts (most - length tokens) more) (sym e) ∙ sym (run-joined texts most start tokens more) ∙ g.1 in
     grows-to (forced_now reader.state) (run false texts (most - length tokens) reader more) _ j (run-grows false texts (most - length tokens) reader more)
 
--- a cell that begins with them and gets so deep no earlier, but for what comes after them
-record Least (texts : Texts) (most : ℕ) (tokens : List Kind) (reader : Reader) : Type 0 where
+-- a cell of this kind that begins with them and gets so deep no earlier, but for what comes after them
+record Least (Is : List Kind → Cell → Type 0) (texts : Texts) (most : ℕ) (tokens : List Kind) (reader : Reader) : Type 0 where
   pub more : List Kind
   pub cell : Cell
-  pub is : IsCell (tokens ++ more) cell
+  pub is : Is (tokens ++ more) cell
   pub adds : AddsAt (most - length tokens) (forced_now reader.state) (places_of most texts cell)
 
 after-place : (most n k : ℕ) → from_start most (n + k) k ≡ most - n
 after-place most n k = omega arith
 
-least : (texts : Texts) (most : ℕ) (tokens : List Kind) (reader : Reader) → Read texts most tokens reader → Least texts most tokens reader
-least texts most tokens reader x =
+least : (Is : List Kind → Cell → Type 0) (texts : Texts) (most : ℕ) (tokens : List Kind) (reader : Reader) (x : Read texts most tokens reader) (more : List Kind) (c : Cell) → Closes x.forms more c → IsCell (tokens ++ more) c → Is (tokens ++ more) c
+    → Least Is texts most tokens reader
+least Is texts most tokens reader x more c closes spelled is =
+    let k = x.held more in
+    let all : length (tokens ++ more) ≡ length (spelling c) = ap length spelled.spelled in
+    let a = closes-add (from_start most (length (tokens ++ more))) (fair most (length (tokens ++ more))) texts closes k.0 x.stands k.2 in
+    let b = subst (λ r. AddsAt (from_start most (length (tokens ++ more)) (length more)) (forced_now r.state) (held_done (from_start most (length (tokens ++ more))) texts c (t.End ∷ [])).under) (sym k.1) a in
+    let d = subst (λ n. AddsAt (from_start most (length (tokens ++ more)) (length more)) (forced_now reader.state) (held_done (from_start most n) texts c (t.End ∷ [])).under) all b in
+    let at : from_start most (length (tokens ++ more)) (length more) ≡ most - length tokens = ap (λ n. from_start most n (length more)) (length-joined tokens more) ∙ after-place most (length tokens) (length more) in
+    record { more = more; cell = c; is = is; adds = subst (λ n. AddsAt n (forced_now reader.state) (places_of most texts c)) at d }
+
+least-cell : (texts : Texts) (most : ℕ) (tokens : List Kind) (reader : Reader) → Read texts most tokens reader → Least IsCell texts most tokens reader
+least-cell texts most tokens reader x =
     let c = state-closes x.forms x.stands in
     let is = read_is (tokens ++ c.more) c.cell (run-append tokens c.more m.start x.forms x.runs ∙ closes-run c.closes) in
-    let k = x.held c.more in
-    let all : length (tokens ++ c.more) ≡ length (spelling c.cell) = ap length is.spelled in
-    let a = closes-add (from_start most (length (tokens ++ c.more))) (fair most (length (tokens ++ c.more))) texts c.closes k.0 x.stands k.2 in
-    let b = subst (λ r. AddsAt (from_start most (length (tokens ++ c.more)) (length c.more)) (forced_now r.state) (held_done (from_start most (length (tokens ++ c.more))) texts c.cell (t.End ∷ [])).under) (sym k.1) a in
-    let d = subst (λ n. AddsAt (from_start most (length (tokens ++ c.more)) (length c.more)) (forced_now reader.state) (held_done (from_start most n) texts c.cell (t.End ∷ [])).under) all b in
-    let at : from_start most (length (tokens ++ c.more)) (length c.more) ≡ most - length tokens = ap (λ n. from_start most n (length c.more)) (length-joined tokens c.more) ∙ after-place most (length tokens) (length c.more) in
-    record { more = c.more; cell = c.cell; is = is; adds = subst (λ n. AddsAt n (forced_now reader.state) (places_of most texts c.cell)) at d }
+    least IsCell texts most tokens reader x c.more c.cell c.closes is is
+
+-- what is read alone may end alone
+none-form : {A : Type 0} {a : m.State} → ◌≡◌ {A = Option m.State} None (Some a) → A
+none-form {A} {a} e = cc
+
+kept-on : (ts : List Kind) (u : m.State) (o : Option m.State) → Same true o → ((v : m.State) → ends_alone v ≡ true → run_alone v ts ≡ Some u → ends_alone u ≡ true) → then_alone ts o ≡ Some u → ends_alone u ≡ true
+kept-on ts u None h f e = none-form e
+kept-on ts u (Some v) h f e = f v h e
+
+run-kept : (ts : List Kind) (s u : m.State) → ends_alone s ≡ true → run_alone s ts ≡ Some u → ends_alone u ≡ true
+run-kept [] s u h e = let same : s ≡ u = cc in subst (λ x. ends_alone x ≡ true) same h
+run-kept (token ∷ ts) s u h e = kept-on ts u (step_alone s token) (alone-kept s token h) (λ v. run-kept ts v u) e
+
+least-function : (texts : Texts) (most : ℕ) (tokens : List Kind) (reader : Reader) (x : Read texts most tokens reader) → run_alone m.start tokens ≡ Some x.forms → Least IsFunction texts most tokens reader
+least-function texts most tokens reader x e =
+    let c = closes-alone (state-closes x.forms x.stands).closes (run-kept tokens m.start x.forms refl e) in
+    let is = read_is_one (tokens ++ c.more) c.cell (alone-append tokens c.more m.start x.forms e ∙ c.alone) in
+    least IsFunction texts most tokens reader x c.more c.cell c.closes is.4 is
 
 same-place : {c : Cell} {a b : ℕ} → a ≡ b → IsTooDeep c a → IsTooDeep c b
 same-place {c} {a} {b} e x = subst (IsTooDeep c) e x
 
-pub tells-depth : TellsDepth
-tells-depth texts most tokens reader within e =
-    let x = is-read texts most tokens reader e in
-    let l = least texts most tokens reader x in
-    let g = (cell-grows texts most tokens l.more reader l.cell e l.is).each 64 in
+tells : (Is : List Kind → Cell → Type 0) → ((ts : List Kind) (c : Cell) → Is ts c → IsCell ts c) → (texts : Texts) (most : ℕ) (tokens : List Kind) (reader : Reader) → length tokens ≤ most → run false texts most start tokens ≡ Some reader → Least Is texts most tokens reader
+    → (most - length tokens < deepest reader → AreTooDeep Is tokens (most - deepest reader)) × (deepest reader ≤ most - length tokens → (place : ℕ) → AreTooDeep Is tokens place → ⊥)
+tells Is cells texts most tokens reader within e l =
+    let g = (cell-grows texts most tokens l.more reader l.cell e (cells (tokens ++ l.more) l.cell l.is)).each 64 in
     let a = l.adds.each 64 in
     let rows = cell-places most texts l.cell in (
       (λ h. record {
         within = omega (arith, h, within);
-        each = λ more c is. deep-in more c is (omega (arith, h));
+        each = λ more c is. deep-in more c (cells (tokens ++ more) c is) (omega (arith, h));
         some = (l.more, l.cell, l.is, same-place (ap (λ n. most - n) (omega (arith, g, a, h))) (too-deep most l.cell (places_of most texts l.cell) rows (omega (arith, g, h))));
       }),
       (λ h place x. let y = x.each l.more l.cell l.is in let i = x.within in let j = y.1 in let n = no-deeper most l.cell (places_of most texts l.cell) y.0 rows y.2 in omega (arith, h, i, j, n, a, within)),
@@ -250,6 +277,60 @@ tells-depth texts most tokens reader within e =
     deep-in more c is h =
         let g = (cell-grows texts most tokens more reader c e is).each 64 in
         (most - reach (places_of most texts c) 64, omega (arith, g), too-deep most c (places_of most texts c) (cell-places most texts c) (omega (arith, g, h)))
+
+pub tells-depth : TellsDepth
+tells-depth texts most tokens reader within e = tells IsCell (λ ts c is. is) texts most tokens reader within e (least-cell texts most tokens reader (is-read texts most tokens reader e))
+
+-- ---- one function alone
+
+line-read : (b : Bool) (o : Option State) (s : State) → (if b then o else None) ≡ Some s → o ≡ Some s
+line-read true o s e = e
+line-read false o s e = none-state e
+  where
+    none-state : {A : Type 0} {a : State} → ◌≡◌ {A = Option State} None (Some a) → A
+    none-state {A} {a} e = cc
+
+moves-read : (texts : Texts) (at left : ℕ) (x : State) (names : Names) (token : Kind) (s : State) → moves true texts at left x names token ≡ Some s → moves false texts at left x names token ≡ Some s
+moves-read texts at left (h.Line os done l) names token s e = line-read (may_come true os l token) (on_line texts at left os done l token) s e
+moves-read texts at left x names token s e = e
+
+step-read : (texts : Texts) (at left : ℕ) (r : Reader) (token : Kind) (q : Reader) → step true texts at left r token ≡ Some q → step false texts at left r token ≡ Some q
+step-read texts at left r token q e = on (moves true texts at left r.state r.names token) refl e
+  where
+    on : (o : Option State) → moves true texts at left r.state r.names token ≡ o → with_names (renamed r.state token r.names) o ≡ Some q → with_names (renamed r.state token r.names) (moves false texts at left r.state r.names token) ≡ Some q
+    on None f e = none-reader e
+    on (Some s) f e = ap (with_names (renamed r.state token r.names)) (moves-read texts at left r.state r.names token s f) ∙ e
+
+run-read : (texts : Texts) (at : ℕ) (r q : Reader) (ts : List Kind) → run true texts at r ts ≡ Some q → run false texts at r ts ≡ Some q
+run-read texts at r q [] e = e
+run-read texts at r q (token ∷ ts) e = on (step true texts at (at - 1) r token) refl (λ n. run-read texts (at - 1) n q ts) e
+  where
+    on : (o : Option Reader) → step true texts at (at - 1) r token ≡ o → ((n : Reader) → run true texts (at - 1) n ts ≡ Some q → run false texts (at - 1) n ts ≡ Some q) → (elim o [ None ↦ None | Some n ↦ run true texts (at - 1) n ts ]) ≡ Some q
+        → then_run texts (at - 1) ts (step false texts at (at - 1) r token) ≡ Some q
+    on None f g e = none-reader e
+    on (Some n) f g e = ap (then_run texts (at - 1) ts) (step-read texts at (at - 1) r token n f) ∙ g n e
+
+pub reads-alone : ReadsAlone
+reads-alone texts most tokens reader e = run-read texts most start reader tokens e
+
+-- the forms that are read alone are those that are read
+read-alone : (texts : Texts) (most : ℕ) (tokens : List Kind) (reader : Reader) (x : Read texts most tokens reader) → run true texts most start tokens ≡ Some reader → run_alone m.start tokens ≡ Some x.forms
+read-alone texts most tokens reader x e = on (run_alone m.start tokens) refl
+  where
+    follows : (o : Option m.State) → run_alone m.start tokens ≡ o → Follows (from_start most (length (tokens ++ []))) texts [] (run true texts most start tokens) o
+    follows o f = subst (Follows (from_start most (length (tokens ++ []))) texts [] (run true texts most start tokens)) f (run-follows true texts most tokens [])
+
+    on : (o : Option m.State) → run_alone m.start tokens ≡ o → run_alone m.start tokens ≡ Some x.forms
+    on None f = none-reader (sym (follows None f) ∙ e)
+    on (Some s) f = f ∙ sym (alone-read tokens m.start s f) ∙ x.runs
+
+pub tells-alone : TellsAlone
+tells-alone texts most tokens reader within e =
+    let r = run-read texts most start reader tokens e in
+    let x = is-read texts most tokens reader r in
+    tells IsFunction (λ ts c is. is.4) texts most tokens reader within r (least-function texts most tokens reader x (read-alone texts most tokens reader x e))
+
+-- ---- a whole cell
 
 pub tells-cells : TellsCells
 tells-cells texts most tokens c reader within is e =

@@ -3,7 +3,7 @@ use Rattle.std.specs.Prelude.{◌≡◌, ℕ, ℤ, true, List, [], ◌∷◌, Op
 use Rattle.py_token.specs.declared.kinds.Kind.{Kind}
 use Rattle.py_token.specs.declared.kinds.Kind.TheVariants as t
 use Rattle.py_tree.specs.declared.statements.Stmt.{Stmt}
-use Rattle.py_grammar.specs.Words.{in_word, assign_sign, open_parenthesis, close_parenthesis, open_bracket, colon}
+use Rattle.py_grammar.specs.Words.{in_word, def_word, assign_sign, open_parenthesis, close_parenthesis, open_bracket, colon}
 use Rattle.py_frames.specs.declared.frames.State as reading
 use Rattle.py_frames.specs.declared.frames.Value.{Value}
 use Rattle.py_frames.specs.declared.seeing.Sight.{Sight}
@@ -48,6 +48,7 @@ pub data Closing : State → Kind → Type 0 where
   statement : (os : List Outer) (done : Done) (l : Last) (n : ℤ) → Closing (h.Line os done l) (t.Number n)
   dedent : (o : Outer) (os : List Outer) (done : Done) (l : Last) → Closing (h.Line (o ∷ os) done l) t.Dedent
   finish : (done : Done) (l : Last) → Closing (h.Line [] done l) t.End
+  function : (done : Done) (l : Last) → Closing (h.Line [] done l) def_word
   goes : (x : Simple) (u : Purpose) (r : reading.State) (token : Kind) → Ending r token → Closing (h.InSimple x u r) token
   item : (x : Simple) (u : Purpose) (r : reading.State) → ((at : ℕ) → ReadingAdds at u (in_purpose u r) (e.step r open_bracket at)) → Closing (h.InSimple x u r) open_bracket
   ends : (x : Simple) (u : Purpose) (r : reading.State) → ((at : ℕ) → Finishes at (in_purpose u r) (finished u r)) → Closing (h.InSimple x u r) t.Newline

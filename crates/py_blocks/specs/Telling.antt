@@ -2,6 +2,7 @@
 use Rattle.std.specs.Prelude.{◌≡◌, ℕ, ◌-◌, ◌<◌, ◌≤◌, Bool, true, false, List, length, Option, Some}
 use Rattle.py_token.specs.declared.kinds.Kind.{Kind}
 use Rattle.py_grammar.specs.Statements.{Cell, IsCell}
+use Rattle.py_grammar.specs.Alone.{IsFunction}
 use Rattle.py_grammar.specs.Depth.{IsTooDeep, AreTooDeep}
 use Rattle.py_frames.specs.Forced.{reach}
 use Rattle.py_blocks.specs.declared.state.Reader.{Reader}
@@ -18,6 +19,15 @@ deepest reader = reach (forced_now reader.state) 64
 abbrev pub TellsDepth : Type 0
 TellsDepth = (texts : Texts) (most : ℕ) (tokens : List Kind) (reader : Reader) → length tokens ≤ most → run false texts most start tokens ≡ Some reader
     → (most - length tokens < deepest reader → AreTooDeep IsCell tokens (most - deepest reader)) × (deepest reader ≤ most - length tokens → (place : ℕ) → AreTooDeep IsCell tokens place → ⊥)
+
+-- the same of the tokens of one function alone
+abbrev pub TellsAlone : Type 0
+TellsAlone = (texts : Texts) (most : ℕ) (tokens : List Kind) (reader : Reader) → length tokens ≤ most → run true texts most start tokens ≡ Some reader
+    → (most - length tokens < deepest reader → AreTooDeep IsFunction tokens (most - deepest reader)) × (deepest reader ≤ most - length tokens → (place : ℕ) → AreTooDeep IsFunction tokens place → ⊥)
+
+-- what is read alone is read as a cell is, and leaves the same
+abbrev pub ReadsAlone : Type 0
+ReadsAlone = (texts : Texts) (most : ℕ) (tokens : List Kind) (reader : Reader) → run true texts most start tokens ≡ Some reader → run false texts most start tokens ≡ Some reader
 
 -- of a whole cell, when it has been read
 abbrev pub TellsCells : Type 0

@@ -15,7 +15,7 @@ ghost use Rattle.py_blocks.specs.Follows.{StepFollows, RunFollows, KeepsTrees, R
 ghost use Rattle.py_blocks.specs.declared.state.State as machine;
 ghost use Rattle.py_blocks.specs.Steps.{Names, moves};
 ghost use Rattle.py_blocks.specs.Forced.{forced_now, Grows};
-ghost use Rattle.py_blocks.specs.Telling.{TellsDepth, TellsCells};
+ghost use Rattle.py_blocks.specs.Telling.{TellsDepth, TellsAlone, ReadsAlone, TellsCells};
 
 /// One more token is read exactly if the forms go on with it. What is held then is what they say.
 pub fn a_token_is_read_as_its_forms_are()
@@ -57,6 +57,16 @@ pub fn what_is_forced_stays_forced()
 /// What is forced of tokens tells whether they are too deep, and where.
 pub fn what_is_forced_tells_what_is_too_deep()
     ensures { TellsDepth }
+{}
+
+/// The same of tokens that are to be one function alone.
+pub fn what_is_forced_tells_what_is_too_deep_alone()
+    ensures { TellsAlone }
+{}
+
+/// Tokens that are read as one function alone are read as a cell too, with the same left.
+pub fn what_is_read_alone_is_read_as_a_cell()
+    ensures { ReadsAlone }
 {}
 
 /// What is held of a cell at its end tells whether it is too deep, and where.
