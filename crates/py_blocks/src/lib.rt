@@ -19,7 +19,7 @@ mod steps;
 
 pub use constructs::outside;
 pub use forcing::{deepest, forced_now};
-pub use source::MOST;
+pub use source::{MOST, last_word};
 pub use state::{
     Around, Begun, Branches, Done, Head, Last, Lead, Outer, Place, Purpose, Reader, Simple, Spot,
     State, Test, Word,

@@ -30,7 +30,7 @@ fn part<T>(all: &[T], from: usize, to: usize) -> &[T]
 }
 
 /// The last of the tokens that is no `Newline`, `Indent`, `Dedent` or `End`, if there is one.
-fn last_word(tokens: &[Token]) -> Option<&Token>
+pub fn last_word(tokens: &[Token]) -> Option<&Token>
     ensures { option_copied result ≡ last_word tokens.now }
 {
     tokens.iter().rev().find(|token| !is_layout(&token.kind))

@@ -12,7 +12,6 @@ use Rattle.py_grammar.specs.Statements.{Cell, Params, Block}
 use Rattle.py_grammar.specs.Trees.{tree_cell}
 use Rattle.py_grammar.specs.Alone.{alone, IsDefinition}
 use Rattle.py_blocks.specs.declared.state.Reader.{Reader}
-use Rattle.py_blocks.specs.declared.state.State.{State}
 use Rattle.py_blocks.specs.Follows.{forms_run, run}
 use Rattle.py_blocks.specs.Source.{most, left_of, source_of}
 use Rattle.py_blocks.specs.Steps.{start}
@@ -39,10 +38,6 @@ StopsAt alone code tokens place = IsRead alone code tokens place × (read_first 
 abbrev pub Scans : Bool → List ℕ → List Token → ℕ → Scan → Type 0
 Scans alone code tokens count (Whole reader) = read_first alone code tokens count ≡ Some reader
 Scans alone code tokens count (Refused place) = (place < count) × StopsAt alone code tokens place
-
--- the state after the first tokens
-abbrev pub HoldsFirst : Bool → List ℕ → List Token → ℕ → State → Type 0
-HoldsFirst alone code tokens count state = (reader : Reader) × (read_first alone code tokens count ≡ Some reader) × (reader.state ≡ state)
 
 -- why the token with this number is refused, or what is too deep before it
 abbrev pub IsRefusal : Bool → List Token → ℕ → SyntaxFault → Type 0

@@ -1,14 +1,14 @@
-ghost use Rattle.std.specs.Prelude.{◌≡◌, length};
+ghost use Rattle.std.specs.Prelude.{◌≡◌, length, Some};
 ghost use Rattle.py_reader.specs.Definitions.{end_of_words};
 ghost use Rattle.py_reader.specs.DefinitionVerdict.{verdict_alone};
 ghost use Rattle.py_reader.specs.Gives.{Answers, MeansDefinition};
-ghost use Rattle.py_reader.specs.Scans.{HoldsFirst, AreFunction, GivesFunction};
+ghost use Rattle.py_reader.specs.Scans.{read_first, AreFunction, GivesFunction};
 
 use crate::fault::{ReadError, SyntaxFault};
 use crate::read::{refusal_at, start_of, statements, tokens_within};
 use crate::scan::{Scan, read_tokens};
 use plain_data::Shared;
-use py_blocks::{State, last_word};
+use py_blocks::{Reader, last_word};
 use py_token::Token;
 use py_tree::{Def, Stmt};
 use std::alloc::Global;
@@ -28,16 +28,16 @@ fn whole_alone(
     alloc: Global,
     code: &str,
     tokens: &[Token],
-    state: State,
+    reader: Reader,
 ) -> Result<Shared<Def>, ReadError>
     requires function { AreFunction code.now tokens.now }
-    requires read { HoldsFirst true code.now tokens.now (length tokens.now) state }
+    requires read { read_first true code.now tokens.now (length tokens.now) ≡ Some reader }
     ensures { GivesFunction code.now tokens.now result }
 {
     if 0 < start_of(tokens, 0) {
         return Err(ReadError::Fault(SyntaxFault::NoParse { at: 0, end: false }));
     }
-    let mut body = statements(true, alloc, code, tokens, state)?;
+    let mut body = statements(true, alloc, code, tokens, reader)?;
     let at = end_of_words(tokens);
     if (at as usize) < code.len() {
         return Err(ReadError::Fault(SyntaxFault::NoParse { at, end: false }));
@@ -58,7 +58,7 @@ fn judge_alone(alloc: Global, source: &str) -> Result<Shared<Def>, ReadError>
     let tokens = tokens_within(alloc, source)?;
     let all = tokens.as_slice();
     match read_tokens(true, alloc, source, all, all.len())? {
-        Scan::Whole(reader) => whole_alone(alloc, source, all, reader.state),
+        Scan::Whole(reader) => whole_alone(alloc, source, all, reader),
         Scan::Refused(place) => {
             let fault = refusal_at(true, alloc, source, all, place)?;
             Err(ReadError::Fault(fault))

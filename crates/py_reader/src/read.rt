@@ -1,7 +1,6 @@
-ghost use Rattle.std.specs.Prelude.{◌≡◌, ◌<◌, length, IfOk};
-ghost use Rattle.py_token.specs.Cuts.{kinds};
+ghost use Rattle.std.specs.Prelude.{◌≡◌, ◌<◌, length, Some, IfOk};
 ghost use Rattle.py_reader.specs.Gives.{Gives, Answers, Means};
-ghost use Rattle.py_reader.specs.Scans.{StopsAt, HoldsFirst, IsRefusal, GivesStatements};
+ghost use Rattle.py_reader.specs.Scans.{read_first, StopsAt, IsRefusal, GivesStatements};
 ghost use Rattle.py_reader.specs.Verdict.{tokens_within, verdict};
 ghost use Rattle.py_reader.specs.Verdicts.{start_of, is_end, refusal};
 ghost use Rattle.py_reader.specs.Sources.{HasSources};
@@ -9,7 +8,7 @@ ghost use Rattle.py_reader.specs.Sources.{HasSources};
 use crate::fault::{ReadError, SyntaxFault, token_error};
 use crate::scan::{Scan, held_before, read_tokens};
 use plain_data::Items;
-use py_blocks::{MOST, State, deepest, outside};
+use py_blocks::{MOST, Reader, State, deepest, outside};
 use py_grammar::Construct;
 use py_token::{Kind, Token, tokens};
 use py_tree::{Stmt, Tree};
@@ -80,8 +79,9 @@ pub fn refusal_at(
         let number = MOST.saturating_sub(deep);
         return Ok(SyntaxFault::TooDeep(start_of(tokens, number)));
     }
+    let Reader { state, .. } = held_before(alone, alloc, code, tokens, place)?;
     let token = &tokens[place].kind;
-    let construct = outside(alloc, held_before(alone, alloc, code, tokens, place)?, token)?;
+    let construct = outside(alloc, state, token)?;
     Ok(refused(start_of(tokens, place), token, construct))
 }
 
@@ -91,20 +91,21 @@ pub fn statements(
     alloc: Global,
     code: &str,
     tokens: &[Token],
-    state: State,
+    reader: Reader,
 ) -> Result<Items<Stmt>, ReadError>
-    requires { HoldsFirst alone code.now tokens.now (length tokens.now) state }
+    requires { read_first alone code.now tokens.now (length tokens.now) ≡ Some reader }
     ensures { GivesStatements alone code.now tokens.now result }
 {
+    let Reader { state, .. } = reader;
     let State::End(done) = state else {
         return Ok(Items::new(alloc));
     };
-    if done.under.len() <= MAX_DEPTH {
-        return Ok(done.statements);
+    let deep = done.under.reach(MAX_DEPTH);
+    if 0 < deep {
+        let at = start_of(tokens, MOST.saturating_sub(deep));
+        return Err(ReadError::Fault(SyntaxFault::TooDeep(at)));
     }
-    let deep = deepest(alloc, State::End(done))?;
-    let at = start_of(tokens, MOST.saturating_sub(deep));
-    Err(ReadError::Fault(SyntaxFault::TooDeep(at)))
+    Ok(done.statements)
 }
 
 /// What the code is read as.
@@ -115,7 +116,7 @@ fn judge(alloc: Global, code: &str) -> Result<Tree, ReadError>
     let all = tokens.as_slice();
     match read_tokens(false, alloc, code, all, all.len())? {
         Scan::Whole(reader) => Ok(Tree {
-            body: statements(false, alloc, code, all, reader.state)?,
+            body: statements(false, alloc, code, all, reader)?,
         }),
         Scan::Refused(place) => {
             let fault = refusal_at(false, alloc, code, all, place)?;

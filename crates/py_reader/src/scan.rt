@@ -1,8 +1,7 @@
-ghost use Rattle.std.specs.Prelude.{◌≤◌, ◌<◌, length, IfOk};
-ghost use Rattle.py_reader.specs.Scans.{Scans, StopsAt, HoldsFirst};
+ghost use Rattle.std.specs.Prelude.{◌≡◌, ◌≤◌, ◌<◌, length, Some, IfOk};
+ghost use Rattle.py_reader.specs.Scans.{read_first, Scans, StopsAt};
 
-use plain_data::Stack;
-use py_blocks::{MOST, Place, Reader, State, start, step};
+use py_blocks::{MOST, Place, Reader, start, step};
 use py_frames::Stop;
 use py_token::Token;
 use std::alloc::{AllocError, Global};
@@ -50,13 +49,13 @@ pub fn held_before(
     code: &str,
     tokens: &[Token],
     place: usize,
-) -> Result<State, AllocError>
+) -> Result<Reader, AllocError>
     requires within { place < length tokens.now }
     requires stops { StopsAt alone code.now tokens.now place }
-    ensures { IfOk result (HoldsFirst alone code.now tokens.now place) }
+    ensures { IfOk result (λ reader. read_first alone code.now tokens.now place ≡ Some reader) }
 {
     match read_tokens(alone, alloc, code, tokens, place)? {
-        Scan::Whole(reader) => Ok(reader.state),
+        Scan::Whole(reader) => Ok(reader),
         Scan::Refused(_) => unreachable!(),
     }
 }
