@@ -1,5 +1,5 @@
 -- Each cell that has begun goes on to one that ends with no more than what is forced of it.
-use Rattle.std.proofs.Common.{◌≡◌, ℕ, zero, suc, ◌≤◌, max, Bool, true, false, IsTrue, ◌&&◌, if◌then◌else◌, nat_le, drop, List, [], ◌∷◌, ◌++◌, length, Option, Some, None, refl, ap, ◌∙◌, sym, subst, arith}
+use Rattle.std.proofs.Common.{◌≡◌, ℕ, zero, suc, ◌≤◌, ◌<◌, max, Bool, true, false, IsTrue, ◌&&◌, if◌then◌else◌, nat_le, drop, List, [], ◌∷◌, ◌++◌, length, Option, Some, None, refl, ap, ◌∙◌, sym, subst, length-append, arith}
 use Rattle.std.specs.Prelude.{pos}
 use Rattle.std.proofs.lemmas.Bool.{false≢true}
 use Rattle.py_token.specs.declared.kinds.Kind.{Kind}
@@ -14,9 +14,12 @@ use Rattle.py_grammar.specs.Readings as r
 use Rattle.py_grammar.specs.Readings.{Picked, picked, upper, no_upper, related, added, scaled, Lower, lower, no_lower, in_index, opened, listed, Reading, wants, has, begun, bare, narrow, undivided, whole, reading_stands}
 use Rattle.py_grammar.specs.Statements as g
 use Rattle.py_grammar.specs.Statements.{Places, places_more, targets, Targets, Simple, word, give, declare, delete, assign, augment, show, Statements, statements_one, simple, Block, indented, inline, choose, otherwise, while_true, for_each, define, if_true, else_if, variables, Names, Cell, params}
-use Rattle.py_grammar.specs.States.{Outer, outer, Spot, own, behind_head, Purpose, showing, giving, deleting, assigning, augmenting, Lead, lead_if, lead_elif, lead_while, lead_for, State, line, in_simple, after_word, in_global, has_global, in_test, in_variables, has_variables, after_else, after_def, after_def_name, in_params, has_params, after_params, after_colon, after_newline, done, primary_alone, target_of, places_of, targets_of, place_of, add_name, close, ended, fits, if_allowed, then_simple, then_test, ends as ends_with, if_made, assigns, first_place, more_places, undivided_targets, spot_heard, is_new_name, params_of, step, run, purpose_stands, state_stands}
+use Rattle.py_grammar.specs.States.{Outer, outer, Spot, own, behind_head, Purpose, showing, giving, deleting, assigning, augmenting, Lead, lead_if, lead_elif, lead_while, lead_for, State, line, in_simple, after_word, in_global, has_global, in_test, in_variables, has_variables, after_else, after_def, after_def_name, in_params, has_params, after_params, after_colon, after_newline, done, primary_alone, target_of, places_of, targets_of, place_of, add_name, close, ended, fits, if_allowed, then_simple, then_test, ends as ends_with, if_made, assigns, first_place, more_places, undivided_targets, spot_heard, is_new_name, params_of, step, start, run, StandsAt, purpose_stands, state_stands}
+use Rattle.py_grammar.specs.AloneMachine.{step_alone, run_alone}
+use Rattle.py_grammar.proofs.AloneRead.{then_alone, alone-append, alone-read}
 use Rattle.py_grammar.proofs.Bare.{bare_is}
 use Rattle.py_grammar.proofs.Completed.{fresh_name, fresh_name-new}
+use Rattle.py_grammar.proofs.Failing.{stands_at}
 use Rattle.py_grammar.proofs.Keeps.{Keeps, step-keeps}
 use Rattle.py_frames.specs.declared.frames.State as reading
 use Rattle.py_frames.specs.declared.frames.State.TheVariants.{Wants, Has, Compared, AfterIs, AfterIsNot, AfterNot, AfterDot, AfterMethod}
@@ -355,6 +358,30 @@ state-closes (done c) h = record { more = []; cell = c; closes = at_end c }
 pub closes-run : {s : State} {ts : List Kind} {c : Cell} → Closes s ts c → run s ts ≡ Some (done c)
 closes-run (at_end c) = refl
 closes-run (onward s u t ts c e k l) = ap (λ o. elim o [ None ↦ None | Some v ↦ run v ts ]) e ∙ closes-run l
+
+-- ---- as one function alone
+
+pub record FunctionCloses (s : State) : Type 0 where
+  pub more : List Kind
+  pub cell : Cell
+  pub closes : Closes s more cell
+  pub alone : run_alone s more ≡ Some (done cell)
+
+no-tokens : (ts : List Kind) → run start ts ≡ Some (line [] None) → length ts ≡ 0
+no-tokens ts e =
+    let stands : StandsAt ts (line [] None) = stands_at ts (line [] None) e in
+    omega (arith, ap length (stands []), length-append ts [])
+
+-- after the first token the end may come where a line begins at the top
+pub function-closes : {s : State} {more : List Kind} {c : Cell} (ts : List Kind) → 0 < length ts → run_alone start ts ≡ Some s → Closes s more c → FunctionCloses s
+function-closes ts n e (at_end c) = record { more = []; cell = c; closes = at_end c; alone = refl }
+function-closes ts n e (onward (line [] None) u t more c a k l) = let z = no-tokens ts (alone-read ts start (line [] None) e) in absurd (omega (arith, n, z))
+function-closes ts n e (onward (line [] (Some ss)) u t more c a k l) =
+    record { more = t.End ∷ []; cell = Some ss; closes = onward (line [] (Some ss)) (done (Some ss)) t.End [] (Some ss) refl (λ place texts rest. finish _ _) (at_end (Some ss)); alone = refl }
+function-closes ts n e (onward s u t more c a k l) =
+    let same : step_alone s t ≡ Some u = a in
+    let r = function-closes (ts ++ t ∷ []) (omega (arith, length-append ts (t ∷ []))) (alone-append ts (t ∷ []) start s e ∙ ap (then_alone []) same) l in
+    record { more = t ∷ r.more; cell = r.cell; closes = onward s u t r.more r.cell a k r.closes; alone = ap (then_alone r.more) same ∙ r.alone }
 
 module _ (place : ℕ → ℕ) (fair : (a b : ℕ) → place (max a b) ≡ max (place a) (place b)) where
   earlier : (n : ℕ) → place n ≤ place (suc n)

@@ -8,6 +8,7 @@ use Rattle.py_grammar.specs.Statements.{Cell, IsCell, spelling}
 use Rattle.py_grammar.specs.States as m
 use Rattle.py_grammar.specs.States.{state_stands}
 use Rattle.py_grammar.specs.Depth.{in_cell, IsTooDeep, AreTooDeep}
+use Rattle.py_grammar.proofs.AloneRead.{alone-append, alone-read, read_is_one, one_is_read}
 use Rattle.py_grammar.proofs.Whole.{read_is, is_read, run-append}
 use Rattle.py_grammar.proofs.Failing.{read_iff_stands}
 use Rattle.py_frames.specs.Under.{either, first, nth, placed}
@@ -17,11 +18,11 @@ use Rattle.py_blocks.specs.declared.state.State.TheVariants as h
 use Rattle.py_blocks.specs.Blocks.{Texts}
 use Rattle.py_blocks.specs.Held.{held_done, held_state}
 use Rattle.py_blocks.specs.Steps.{Names, start, step}
-use Rattle.py_blocks.specs.Follows.{Hears, reader_at, Follows, run, from_start}
+use Rattle.py_blocks.specs.Follows.{Hears, reader_at, forms_run, Follows, run, from_start}
 use Rattle.py_blocks.specs.Forced.{forced_now}
-use Rattle.py_blocks.specs.Telling.{deepest, TellsDepth, TellsCells}
+use Rattle.py_blocks.specs.Telling.{deepest, IsOf, TellsDepth, TellsCells}
 use Rattle.py_blocks.proofs.Cells.{fair, cell-places}
-use Rattle.py_blocks.proofs.Completing.{state-closes, closes-run, closes-add}
+use Rattle.py_blocks.proofs.Completing.{Closes, state-closes, function-closes, closes-run, closes-add}
 use Rattle.py_blocks.proofs.Following.{run-follows}
 use Rattle.py_blocks.proofs.Sooner.{RunGrows, run-grows}
 
@@ -156,21 +157,54 @@ length-joined : (xs ys : List Kind) → length (xs ++ ys) ≡ length xs + length
 length-joined [] ys = omega arith
 length-joined (x ∷ xs) ys = let e = length-joined xs ys in omega arith
 
-abbrev then_run : Texts → ℕ → List Kind → Option Reader → Option Reader
-then_run texts at ts o = elim o [ None ↦ None | Some r ↦ run false texts at r ts ]
+abbrev pub then_run : Bool → Texts → ℕ → List Kind → Option Reader → Option Reader
+then_run alone texts at ts o = elim o [ None ↦ None | Some r ↦ run alone texts at r ts ]
 
-run-joined : (texts : Texts) (at : ℕ) (r : Reader) (xs ys : List Kind) → run false texts at r (xs ++ ys) ≡ then_run texts (at - length xs) ys (run false texts at r xs)
-run-joined texts at r [] ys = ap (λ n. run false texts n r ys) (omega arith)
-run-joined texts at r (x ∷ xs) ys = on (step false texts at (at - 1) r x) (λ q. run-joined texts (at - 1) q xs ys)
+pub run-joined : (alone : Bool) (texts : Texts) (at : ℕ) (r : Reader) (xs ys : List Kind) → run alone texts at r (xs ++ ys) ≡ then_run alone texts (at - length xs) ys (run alone texts at r xs)
+run-joined alone texts at r [] ys = ap (λ n. run alone texts n r ys) (omega arith)
+run-joined alone texts at r (x ∷ xs) ys = on (step alone texts at (at - 1) r x) (λ q. run-joined alone texts (at - 1) q xs ys)
   where
-    on : (o : Option Reader) → ((q : Reader) → run false texts (at - 1) q (xs ++ ys) ≡ then_run texts (at - 1 - length xs) ys (run false texts (at - 1) q xs)) → (elim o [ None ↦ None | Some q ↦ run false texts (at - 1) q (xs ++ ys) ]) ≡ then_run texts (at - suc (length xs)) ys (elim o [ None ↦ None | Some q ↦ run false texts (at - 1) q xs ])
+    on : (o : Option Reader) → ((q : Reader) → run alone texts (at - 1) q (xs ++ ys) ≡ then_run alone texts (at - 1 - length xs) ys (run alone texts (at - 1) q xs)) → (elim o [ None ↦ None | Some q ↦ run alone texts (at - 1) q (xs ++ ys) ]) ≡ then_run alone texts (at - suc (length xs)) ys (elim o [ None ↦ None | Some q ↦ run alone texts (at - 1) q xs ])
     on None f = refl
-    on (Some q) f = f q ∙ ap (λ n. then_run texts n ys (run false texts (at - 1) q xs)) (omega arith)
+    on (Some q) f = f q ∙ ap (λ n. then_run alone texts n ys (run alone texts (at - 1) q xs)) (omega arith)
+
+-- ---- a cell, or a function alone
+
+plainly : (alone : Bool) (ts : List Kind) (s : m.State) → forms_run alone m.start ts ≡ Some s → m.run m.start ts ≡ Some s
+plainly false ts s e = e
+plainly true ts s e = alone-read ts m.start s e
+
+pub forms-joined : (alone : Bool) (xs ys : List Kind) (s u : m.State) → forms_run alone s xs ≡ Some u → forms_run alone s (xs ++ ys) ≡ forms_run alone u ys
+forms-joined false xs ys s u e = run-append xs ys s u e
+forms-joined true xs ys s u e = alone-append xs ys s u e
+
+is-of : (alone : Bool) (ts : List Kind) (c : Cell) → forms_run alone m.start ts ≡ Some (m.done c) → IsOf alone ts c
+is-of false ts c e = read_is ts c e
+is-of true ts c e = read_is_one ts c e
+
+of-is : (alone : Bool) (ts : List Kind) (c : Cell) → IsOf alone ts c → forms_run alone m.start ts ≡ Some (m.done c)
+of-is false ts c is = is_read ts c is
+of-is true ts c is = one_is_read ts c is
+
+spelled : (alone : Bool) (ts : List Kind) (c : Cell) → IsOf alone ts c → ts ≡ spelling c
+spelled false ts c is = is.spelled
+spelled true ts c is = is.4.spelled
+
+-- tokens by which what is open ends
+record Ends (alone : Bool) (s : m.State) : Type 0 where
+  pub more : List Kind
+  pub cell : Cell
+  pub closes : Closes s more cell
+  pub runs : forms_run alone s more ≡ Some (m.done cell)
+
+ends : (alone : Bool) (tokens : List Kind) (s : m.State) → 0 < length tokens → forms_run alone m.start tokens ≡ Some s → state_stands s → Ends alone s
+ends false tokens s n e h = let c = state-closes s h in record { more = c.more; cell = c.cell; closes = c.closes; runs = closes-run c.closes }
+ends true tokens s n e h = let c = function-closes tokens n e (state-closes s h).closes in record { more = c.more; cell = c.cell; closes = c.closes; runs = c.alone }
 
 -- the forms that have been read, whatever comes
-record Read (texts : Texts) (most : ℕ) (tokens : List Kind) (reader : Reader) : Type 0 where
+record Read (alone : Bool) (texts : Texts) (most : ℕ) (tokens : List Kind) (reader : Reader) : Type 0 where
   pub forms : m.State
-  pub runs : m.run m.start tokens ≡ Some forms
+  pub runs : forms_run alone m.start tokens ≡ Some forms
   pub stands : state_stands forms
   pub held : (more : List Kind) → (names : Names) × (reader ≡ reader_at (from_start most (length (tokens ++ more))) texts forms more names) × Hears forms names
 
@@ -180,15 +214,15 @@ reader-same {a} {b} e = cc
 none-reader : {A : Type 0} {a : Reader} → ◌≡◌ {A = Option Reader} None (Some a) → A
 none-reader {A} {a} e = cc
 
-is-read : (texts : Texts) (most : ℕ) (tokens : List Kind) (reader : Reader) → run false texts most start tokens ≡ Some reader → Read texts most tokens reader
-is-read texts most tokens reader e = on (m.run m.start tokens) refl
+is-read : (alone : Bool) (texts : Texts) (most : ℕ) (tokens : List Kind) (reader : Reader) → run alone texts most start tokens ≡ Some reader → Read alone texts most tokens reader
+is-read alone texts most tokens reader e = on (forms_run alone m.start tokens) refl
   where
-    follows : (more : List Kind) (o : Option m.State) → m.run m.start tokens ≡ o → Follows (from_start most (length (tokens ++ more))) texts more (run false texts most start tokens) o
-    follows more o f = subst (Follows (from_start most (length (tokens ++ more))) texts more (run false texts most start tokens)) f (run-follows false texts most tokens more)
+    follows : (more : List Kind) (o : Option m.State) → forms_run alone m.start tokens ≡ o → Follows (from_start most (length (tokens ++ more))) texts more (run alone texts most start tokens) o
+    follows more o f = subst (Follows (from_start most (length (tokens ++ more))) texts more (run alone texts most start tokens)) f (run-follows alone texts most tokens more)
 
-    on : (o : Option m.State) → m.run m.start tokens ≡ o → Read texts most tokens reader
+    on : (o : Option m.State) → forms_run alone m.start tokens ≡ o → Read alone texts most tokens reader
     on None f = none-reader (sym (follows [] None f) ∙ e)
-    on (Some s) f = record { forms = s; runs = f; stands = ((read_iff_stands tokens s).0 f).0; held = λ more. let g = follows more (Some s) f in (g.0, reader-same (sym e ∙ g.1), g.2) }
+    on (Some s) f = record { forms = s; runs = f; stands = ((read_iff_stands tokens s).0 (plainly alone tokens s f)).0; held = λ more. let g = follows more (Some s) f in (g.0, reader-same (sym e ∙ g.1), g.2) }
 
 -- the places of a cell that has been read
 abbrev places_of : ℕ → Texts → Cell → List ℕ
@@ -198,30 +232,31 @@ grows-to : (p : List ℕ) (o : Option Reader) (q : Reader) → o ≡ Some q → 
 grows-to p o q e g = subst (RunGrows p) e g
 
 -- each cell that begins with them gets as deep no later
-cell-grows : (texts : Texts) (most : ℕ) (tokens more : List Kind) (reader : Reader) (c : Cell) → run false texts most start tokens ≡ Some reader → IsCell (tokens ++ more) c → Sooner (forced_now reader.state) (places_of most texts c)
-cell-grows texts most tokens more reader c e is =
-    let all : length ((tokens ++ more) ++ []) ≡ length (spelling c) = ap length (append-nil (tokens ++ more)) ∙ ap length is.spelled in
-    let f = subst (λ n. Follows (from_start most n) texts [] (run false texts most start (tokens ++ more)) (m.run m.start (tokens ++ more))) all (run-follows false texts most (tokens ++ more) []) in
-    let g = subst (Follows (from_start most (length (spelling c))) texts [] (run false texts most start (tokens ++ more))) (is_read (tokens ++ more) c is) f in
-    let j : run false texts (most - length tokens) reader more ≡ Some (reader_at (from_start most (length (spelling c))) texts (m.done c) [] g.0) = ap (then_run texts (most - length tokens) more) (sym e) ∙ sym (run-joined texts most start tokens more) ∙ g.1 in
-    grows-to (forced_now reader.state) (run false texts (most - length tokens) reader more) _ j (run-grows false texts (most - length tokens) reader more)
+cell-grows : (alone : Bool) (texts : Texts) (most : ℕ) (tokens more : List Kind) (reader : Reader) (c : Cell) → run alone texts most start tokens ≡ Some reader → IsOf alone (tokens ++ more) c
+    → Sooner (forced_now reader.state) (places_of most texts c)
+cell-grows alone texts most tokens more reader c e is =
+    let all : length ((tokens ++ more) ++ []) ≡ length (spelling c) = ap length (append-nil (tokens ++ more)) ∙ ap length (spelled alone (tokens ++ more) c is) in
+    let f = subst (λ n. Follows (from_start most n) texts [] (run alone texts most start (tokens ++ more)) (forms_run alone m.start (tokens ++ more))) all (run-follows alone texts most (tokens ++ more) []) in
+    let g = subst (Follows (from_start most (length (spelling c))) texts [] (run alone texts most start (tokens ++ more))) (of-is alone (tokens ++ more) c is) f in
+    let j : run alone texts (most - length tokens) reader more ≡ Some (reader_at (from_start most (length (spelling c))) texts (m.done c) [] g.0) = ap (then_run alone texts (most - length tokens) more) (sym e) ∙ sym (run-joined alone texts most start tokens more) ∙ g.1 in
+    grows-to (forced_now reader.state) (run alone texts (most - length tokens) reader more) _ j (run-grows alone texts (most - length tokens) reader more)
 
 -- a cell that begins with them and gets so deep no earlier, but for what comes after them
-record Least (texts : Texts) (most : ℕ) (tokens : List Kind) (reader : Reader) : Type 0 where
+record Least (alone : Bool) (texts : Texts) (most : ℕ) (tokens : List Kind) (reader : Reader) : Type 0 where
   pub more : List Kind
   pub cell : Cell
-  pub is : IsCell (tokens ++ more) cell
+  pub is : IsOf alone (tokens ++ more) cell
   pub adds : AddsAt (most - length tokens) (forced_now reader.state) (places_of most texts cell)
 
 after-place : (most n k : ℕ) → from_start most (n + k) k ≡ most - n
 after-place most n k = omega arith
 
-least : (texts : Texts) (most : ℕ) (tokens : List Kind) (reader : Reader) → Read texts most tokens reader → Least texts most tokens reader
-least texts most tokens reader x =
-    let c = state-closes x.forms x.stands in
-    let is = read_is (tokens ++ c.more) c.cell (run-append tokens c.more m.start x.forms x.runs ∙ closes-run c.closes) in
+least : (alone : Bool) (texts : Texts) (most : ℕ) (tokens : List Kind) (reader : Reader) → 0 < length tokens → Read alone texts most tokens reader → Least alone texts most tokens reader
+least alone texts most tokens reader n x =
+    let c = ends alone tokens x.forms n x.runs x.stands in
+    let is = is-of alone (tokens ++ c.more) c.cell (forms-joined alone tokens c.more m.start x.forms x.runs ∙ c.runs) in
     let k = x.held c.more in
-    let all : length (tokens ++ c.more) ≡ length (spelling c.cell) = ap length is.spelled in
+    let all : length (tokens ++ c.more) ≡ length (spelling c.cell) = ap length (spelled alone (tokens ++ c.more) c.cell is) in
     let a = closes-add (from_start most (length (tokens ++ c.more))) (fair most (length (tokens ++ c.more))) texts c.closes k.0 x.stands k.2 in
     let b = subst (λ r. AddsAt (from_start most (length (tokens ++ c.more)) (length c.more)) (forced_now r.state) (held_done (from_start most (length (tokens ++ c.more))) texts c.cell (t.End ∷ [])).under) (sym k.1) a in
     let d = subst (λ n. AddsAt (from_start most (length (tokens ++ c.more)) (length c.more)) (forced_now reader.state) (held_done (from_start most n) texts c.cell (t.End ∷ [])).under) all b in
@@ -231,11 +266,16 @@ least texts most tokens reader x =
 same-place : {c : Cell} {a b : ℕ} → a ≡ b → IsTooDeep c a → IsTooDeep c b
 same-place {c} {a} {b} e x = subst (IsTooDeep c) e x
 
+-- nothing is forced before the first token
+at-start : (most : ℕ) (reader : Reader) → Some start ≡ Some reader → most < deepest reader → ⊥
+at-start most reader e h = let same = reader-same e in let k = subst (λ r. most < deepest r) (sym same) h in absurd (omega (arith, k))
+
 pub tells-depth : TellsDepth
-tells-depth texts most tokens reader within e =
-    let x = is-read texts most tokens reader e in
-    let l = least texts most tokens reader x in
-    let g = (cell-grows texts most tokens l.more reader l.cell e l.is).each 64 in
+tells-depth alone texts most [] reader within e = ((λ h. absurd (at-start most reader e (omega (arith, h)))), (λ h place x. let i = x.within in omega (arith, i)))
+tells-depth alone texts most (k ∷ ks) reader within e =
+    let tokens : List Kind = k ∷ ks in
+    let l = least alone texts most tokens reader (omega arith) (is-read alone texts most tokens reader e) in
+    let g = (cell-grows alone texts most tokens l.more reader l.cell e l.is).each 64 in
     let a = l.adds.each 64 in
     let rows = cell-places most texts l.cell in (
       (λ h. record {
@@ -246,9 +286,9 @@ tells-depth texts most tokens reader within e =
       (λ h place x. let y = x.each l.more l.cell l.is in let i = x.within in let j = y.1 in let n = no-deeper most l.cell (places_of most texts l.cell) y.0 rows y.2 in omega (arith, h, i, j, n, a, within)),
     )
   where
-    deep-in : (more : List Kind) (c : Cell) → IsCell (tokens ++ more) c → 0 < deepest reader → (at : ℕ) × (at ≤ most - deepest reader) × IsTooDeep c at
+    deep-in : (more : List Kind) (c : Cell) → IsOf alone ((k ∷ ks) ++ more) c → 0 < deepest reader → (at : ℕ) × (at ≤ most - deepest reader) × IsTooDeep c at
     deep-in more c is h =
-        let g = (cell-grows texts most tokens more reader c e is).each 64 in
+        let g = (cell-grows alone texts most (k ∷ ks) more reader c e is).each 64 in
         (most - reach (places_of most texts c) 64, omega (arith, g), too-deep most c (places_of most texts c) (cell-places most texts c) (omega (arith, g, h)))
 
 pub tells-cells : TellsCells
