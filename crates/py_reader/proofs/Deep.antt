@@ -1,0 +1,123 @@
+-- Where tokens are too deep: there is one such place, however the places are counted.
+use Rattle.std.proofs.Common.{◌≡◌, ℕ, suc, ◌-◌, ◌<◌, ◌≤◌, Bool, true, false, nat_lt, if◌then◌else◌, List, [], ◌++◌, length, take, drop, Some, refl, ap, ◌∙◌, sym, subst, append-nil, take-append-drop, arith}
+use Rattle.std.proofs.lemmas.Bool.Decides.{nat_tests}
+use Rattle.std.proofs.lemmas.List.{length-take}
+use Rattle.std.proofs.lemmas.List.Elements.{All-contains}
+use Rattle.py_token.specs.declared.kinds.Kind.{Kind}
+use Rattle.py_token.specs.declared.kinds.Token.{Token}
+use Rattle.py_token.specs.Cuts.{kinds}
+use Rattle.py_grammar.specs.Statements.{Cell, IsCell, spelling}
+use Rattle.py_grammar.specs.States as m
+use Rattle.py_grammar.specs.States.{done}
+use Rattle.py_grammar.specs.Depth.{in_cell, IsTooDeep, AreTooDeep}
+use Rattle.py_grammar.proofs.Whole.{is_read}
+use Rattle.py_frames.specs.Forced.{reach}
+use Rattle.py_blocks.specs.declared.state.Reader.{Reader}
+use Rattle.py_blocks.specs.Blocks.{Texts}
+use Rattle.py_blocks.specs.Follows.{forms_run, run, from_start, reader_at}
+use Rattle.py_blocks.specs.Forced.{forced_now}
+use Rattle.py_blocks.specs.Held.{held_state}
+use Rattle.py_blocks.specs.Source.{most}
+use Rattle.py_blocks.specs.Steps.{start}
+use Rattle.py_blocks.specs.Telling.{deepest, IsOf}
+use Rattle.py_blocks.proofs.TooDeep.{tells-depth, tells-cells}
+use Rattle.py_reader.specs.Verdict.{deepest_of}
+use Rattle.py_reader.proofs.Scanned.{kinds-length, reads}
+
+-- ---- there is one place
+
+no-later : (c : Cell) (a b : ℕ) → IsTooDeep c a → IsTooDeep c b → a ≤ b
+no-later c a b x y =
+    let l = All-contains (λ o. o ≤ x.left) (in_cell c y.depth) y.left (x.first y.depth y.deep) y.begins in
+    let i = x.is_place in
+    let j = y.is_place in
+    omega (arith, l, i, j)
+
+one-place : (c : Cell) (a b : ℕ) → IsTooDeep c a → IsTooDeep c b → a ≡ b
+one-place c a b x y = let p = no-later c a b x y in let q = no-later c b a y x in omega (arith, p, q)
+
+none-later : (Is : List Kind → Cell → Type 0) (tokens : List Kind) (a b : ℕ) → AreTooDeep Is tokens a → AreTooDeep Is tokens b → b ≤ a
+none-later Is tokens a b x y =
+    let s = y.some in
+    let e = x.each s.0 s.1 s.2 in
+    let l = e.1 in
+    let same = one-place s.1 e.0 b e.2 s.3 in
+    omega (arith, l, same)
+
+one-open : (Is : List Kind → Cell → Type 0) (tokens : List Kind) (a b : ℕ) → AreTooDeep Is tokens a → AreTooDeep Is tokens b → a ≡ b
+one-open Is tokens a b x y = let p = none-later Is tokens a b x y in let q = none-later Is tokens b a y x in omega (arith, p, q)
+
+-- ---- what the verdict takes for it
+
+front-length : (tokens : List Token) (place : ℕ) → place ≤ length tokens → length (take place (kinds tokens)) ≡ place
+front-length tokens place l = let n = length-take place (kinds tokens) in let k = kinds-length tokens in omega (arith, n, k, l)
+
+-- the tokens before a place, and those from it on
+parts : (tokens : List Token) (place : ℕ) → length (take place (kinds tokens) ++ drop place (kinds tokens)) ≡ length tokens
+parts tokens place = ap length (take-append-drop place (kinds tokens)) ∙ kinds-length tokens
+
+-- it tells whether the tokens before a place are too deep, and where
+pub record Tells (alone : Bool) (tokens : List Token) (place at : ℕ) : Type 0 where
+  pub deep : suc (length tokens) - place < at → AreTooDeep (IsOf alone) (take place (kinds tokens)) (suc (length tokens) - at)
+  pub shallow : at ≤ suc (length tokens) - place → (other : ℕ) → AreTooDeep (IsOf alone) (take place (kinds tokens)) other → ⊥
+
+pub tells : (alone : Bool) (tokens : List Token) (place : ℕ) (s : m.State) → place ≤ length tokens → forms_run alone m.start (take place (kinds tokens)) ≡ Some s → Tells alone tokens place (deepest_of tokens s (drop place (kinds tokens)))
+tells alone tokens place s l e =
+    let front : List Kind = take place (kinds tokens) in
+    let rest : List Kind = drop place (kinds tokens) in
+    let r = reads alone (λ from to. []) (suc (length tokens)) front rest s e in
+    let n = front-length tokens place l in
+    let t = tells-depth alone (λ from to. []) (suc (length tokens)) front _ (omega (arith, n, l)) r.1 in
+    let same : deepest (reader_at (from_start (suc (length tokens)) (length (front ++ rest))) (λ from to. []) s rest r.0) ≡ deepest_of tokens s rest = ap (λ k. reach (forced_now (held_state (from_start (suc (length tokens)) k) (λ from to. []) s rest)) 64) (parts tokens place) in
+    record {
+      deep = λ h. subst (λ at. AreTooDeep (IsOf alone) front (suc (length tokens) - at)) same (t.0 (omega (arith, n, same, h)));
+      shallow = λ h. t.1 (omega (arith, n, same, h));
+    }
+
+-- two countings agree, if each tells whether there is a place, and where
+agree : (P : ℕ → Type 0) → ((x y : ℕ) → P x → P y → x ≡ y) → (i j a b x y : ℕ) → (i < a → P x) → (a ≤ i → (o : ℕ) → P o → ⊥) → (j < b → P y) → (b ≤ j → (o : ℕ) → P o → ⊥) → (i < a → (j < b) × (x ≡ y)) × (a ≤ i → b ≤ j)
+agree P one i j a b x y p u q w = ((λ h. on (nat_lt j b) refl (p h)), (λ h. off (nat_lt j b) refl h))
+  where
+    on : (c : Bool) → nat_lt j b ≡ c → P x → (j < b) × (x ≡ y)
+    on true e z = let l : j < b = grind (arith, nat_tests) in (l, one x y z (q l))
+    on false e z = let l : b ≤ j = grind (arith, nat_tests) in absurd (w l x z)
+
+    off : (c : Bool) → nat_lt j b ≡ c → a ≤ i → b ≤ j
+    off true e h = let l : j < b = grind (arith, nat_tests) in absurd (u h y (q l))
+    off false e h = grind (arith, nat_tests)
+
+-- what the program finds, in its own counting, agrees
+pub agrees : (alone : Bool) (texts : Texts) (tokens : List Token) (place : ℕ) (reader : Reader) (s : m.State) → place ≤ length tokens → length tokens ≤ most → run alone texts most start (take place (kinds tokens)) ≡ Some reader
+    → forms_run alone m.start (take place (kinds tokens)) ≡ Some s
+    → (most - place < deepest reader → (suc (length tokens) - place < deepest_of tokens s (drop place (kinds tokens))) × (most - deepest reader ≡ suc (length tokens) - deepest_of tokens s (drop place (kinds tokens))))
+    × (deepest reader ≤ most - place → deepest_of tokens s (drop place (kinds tokens)) ≤ suc (length tokens) - place)
+agrees alone texts tokens place reader s l long r e =
+    let front : List Kind = take place (kinds tokens) in
+    let n = front-length tokens place l in
+    let t = tells-depth alone texts most front reader (omega (arith, n, l, long)) r in
+    let v = tells alone tokens place s l e in
+    agree (AreTooDeep (IsOf alone) front) (one-open (IsOf alone) front) (most - place) (suc (length tokens) - place) (deepest reader) (deepest_of tokens s (drop place (kinds tokens))) _ _
+    (λ h. t.0 (omega (arith, n, h))) (λ h. t.1 (omega (arith, n, h))) v.deep v.shallow
+
+-- ---- a whole cell
+
+abbrev CellTells : Cell → ℕ → ℕ → Type 0
+CellTells c top at = (0 < at → IsTooDeep c (top - at)) × (at ≡ 0 → (other : ℕ) → IsTooDeep c other → ⊥)
+
+-- what is held at the end of a cell, whatever names are
+at-end : (texts : Texts) (top : ℕ) (tokens : List Token) (c : Cell) → length tokens < top → IsCell (kinds tokens) c → CellTells c top (reach (forced_now (held_state (from_start top (length tokens)) texts (done c) [])) 64)
+at-end texts top tokens c l is =
+    let k = kinds-length tokens in
+    let all : length (kinds tokens ++ []) ≡ length tokens = ap length (append-nil (kinds tokens)) ∙ k in
+    let r = reads false texts top (kinds tokens) [] (done c) (is_read (kinds tokens) c is) in
+    subst (λ n. CellTells c top (reach (forced_now (held_state (from_start top n) texts (done c) [])) 64)) all (tells-cells texts top (kinds tokens) c _ (omega (arith, k, l)) is r.1)
+
+pub cell-tells : (tokens : List Token) (c : Cell) → IsCell (kinds tokens) c → CellTells c (suc (length tokens)) (deepest_of tokens (done c) [])
+cell-tells tokens c is = at-end (λ from to. []) (suc (length tokens)) tokens c (omega arith) is
+
+pub cell-agrees : (texts : Texts) (tokens : List Token) (c : Cell) (found : ℕ) → length tokens < most → IsCell (kinds tokens) c → found ≡ reach (forced_now (held_state (from_start most (length tokens)) texts (done c) [])) 64
+    → (0 < found → (0 < deepest_of tokens (done c) []) × (most - found ≡ suc (length tokens) - deepest_of tokens (done c) [])) × (found ≤ 0 → deepest_of tokens (done c) [] ≤ 0)
+cell-agrees texts tokens c found l is same =
+    let t = subst (CellTells c most) (sym same) (at-end texts most tokens c l is) in
+    let v = cell-tells tokens c is in
+    agree (IsTooDeep c) (one-place c) 0 0 found (deepest_of tokens (done c) []) _ _ t.0 (λ h. t.1 (omega (arith, h))) v.0 (λ h. v.1 (omega (arith, h)))
