@@ -66,7 +66,7 @@ pub record IsFirst (xs : List ℕ) (l : ℕ) : Type 0 where
   pub is_in : Contains xs l
   pub greatest : All (λ o. o ≤ l) xs
 
-first-none : (xs : List ℕ) → first xs ≡ None → xs ≡ []
+pub first-none : (xs : List ℕ) → first xs ≡ None → xs ≡ []
 first-none [] e = refl
 first-none (x ∷ xs) e = on (first xs) e
   where

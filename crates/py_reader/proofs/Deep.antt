@@ -1,9 +1,10 @@
 -- Where tokens are too deep: there is one such place, however the places are counted.
-use Rattle.std.proofs.Common.{◌≡◌, ℕ, suc, ◌-◌, ◌<◌, ◌≤◌, Bool, true, false, nat_lt, if◌then◌else◌, List, [], ◌++◌, length, take, drop, Some, refl, ap, ◌∙◌, sym, subst, append-nil, take-append-drop, arith}
+use Rattle.std.proofs.Common.{◌≡◌, ℕ, zero, suc, ◌-◌, ◌<◌, ◌≤◌, Bool, true, false, nat_lt, if◌then◌else◌, List, [], ◌∷◌, ◌++◌, length, take, drop, Option, Some, None, refl, ap, ◌∙◌, sym, subst, append-nil, take-append-drop, arith}
 use Rattle.std.proofs.lemmas.Bool.Decides.{nat_tests}
 use Rattle.std.proofs.lemmas.List.{length-take}
 use Rattle.std.proofs.lemmas.List.Elements.{All-contains}
 use Rattle.py_token.specs.declared.kinds.Kind.{Kind}
+use Rattle.py_token.specs.declared.kinds.Kind.TheVariants as t
 use Rattle.py_token.specs.declared.kinds.Token.{Token}
 use Rattle.py_token.specs.Cuts.{kinds}
 use Rattle.py_grammar.specs.Statements.{Cell, IsCell, spelling}
@@ -12,15 +13,17 @@ use Rattle.py_grammar.specs.States.{done}
 use Rattle.py_grammar.specs.Depth.{in_cell, IsTooDeep, AreTooDeep}
 use Rattle.py_grammar.proofs.Whole.{is_read}
 use Rattle.py_frames.specs.Forced.{reach}
+use Rattle.py_frames.specs.Under.{first, nth, placed}
 use Rattle.py_blocks.specs.declared.state.Reader.{Reader}
 use Rattle.py_blocks.specs.Blocks.{Texts}
 use Rattle.py_blocks.specs.Follows.{forms_run, run, from_start, reader_at}
 use Rattle.py_blocks.specs.Forced.{forced_now}
-use Rattle.py_blocks.specs.Held.{held_state}
+use Rattle.py_blocks.specs.Held.{held_done, held_state}
 use Rattle.py_blocks.specs.Source.{most}
 use Rattle.py_blocks.specs.Steps.{start}
 use Rattle.py_blocks.specs.Telling.{deepest, IsOf}
-use Rattle.py_blocks.proofs.TooDeep.{tells-depth, tells-cells}
+use Rattle.py_blocks.proofs.Cells.{cell-places}
+use Rattle.py_blocks.proofs.TooDeep.{first-none, tells-depth, tells-cells}
 use Rattle.py_reader.specs.Verdict.{deepest_of}
 use Rattle.py_reader.proofs.Scanned.{kinds-length, reads}
 
@@ -121,3 +124,45 @@ cell-agrees texts tokens c found l is same =
     let t = subst (CellTells c most) (sym same) (at-end texts most tokens c l is) in
     let v = cell-tells tokens c is in
     agree (IsTooDeep c) (one-place c) 0 0 found (deepest_of tokens (done c) []) _ _ t.0 (λ h. t.1 (omega (arith, h))) v.0 (λ h. v.1 (omega (arith, h)))
+
+-- ---- a cell that isn't too deep
+
+pub is-shallow : (tokens : List Token) (c : Cell) → IsCell (kinds tokens) c → ((at : ℕ) → IsTooDeep c at → ⊥) → deepest_of tokens (done c) [] ≤ 0
+is-shallow tokens c is shallow = on (nat_lt 0 (deepest_of tokens (done c) [])) refl
+  where
+    on : (b : Bool) → nat_lt 0 (deepest_of tokens (done c) []) ≡ b → deepest_of tokens (done c) [] ≤ 0
+    on true e = let l : 0 < deepest_of tokens (done c) [] = grind (arith, nat_tests) in absurd (shallow _ ((cell-tells tokens c is).0 l))
+    on false e = grind (arith, nat_tests)
+
+pub placed-at : (f : ℕ → ℕ) (o : Option ℕ) (x : ℕ) → placed f o ≡ Some x → (a : ℕ) × (f a ≡ x)
+placed-at f None x e = cc
+placed-at f (Some a) x e = (a, cc)
+
+-- no place is 0
+pub positive : (top n a x : ℕ) → n < top → from_start top n a ≡ x → 0 < x
+positive top n a x l e = omega (arith, e, l)
+
+pub short : (p : List ℕ) (n : ℕ) → ((d x : ℕ) → nth d p ≡ Some x → 0 < x) → reach p n ≤ 0 → length p ≤ n
+short [] n f h = omega arith
+short (x ∷ p) 0 f h = let z = f 0 x refl in absurd (omega (arith, z, h))
+short (x ∷ p) (suc n) f h = let z = short p n (λ d y. f (suc d) y) h in omega (arith, z)
+
+none-past : (p : List ℕ) (d : ℕ) → length p ≤ d → nth d p ≡ None
+none-past [] d h = refl
+none-past (x ∷ p) zero h = absurd (omega (arith, h))
+none-past (x ∷ p) (suc d) h = none-past p d (omega (arith, h))
+
+not-placed : (f : ℕ → ℕ) (o : Option ℕ) → placed f o ≡ None → o ≡ None
+not-placed f None e = refl
+not-placed f (Some a) e = cc
+
+-- none of its parts is at depth 65 or deeper
+pub flat : (tokens : List Token) (c : Cell) → IsCell (kinds tokens) c → ((at : ℕ) → IsTooDeep c at → ⊥) → (d : ℕ) → 64 ≤ d → in_cell c d ≡ []
+flat tokens c is shallow d l =
+    let top : ℕ = suc (length tokens) in
+    let all : length tokens ≡ length (spelling c) = sym (kinds-length tokens) ∙ ap length is.spelled in
+    let rows = cell-places top (λ from to. []) c in
+    let low : reach (held_done (from_start top (length (spelling c))) (λ from to. []) c (t.End ∷ [])).under 64 ≤ 0 = subst (λ n. reach (held_done (from_start top n) (λ from to. []) c (t.End ∷ [])).under 64 ≤ 0) all (is-shallow tokens c is shallow) in
+    let few = short (held_done (from_start top (length (spelling c))) (λ from to. []) c (t.End ∷ [])).under 64
+    (λ e x f. let q = placed-at (from_start top (length (spelling c))) (first (in_cell c e)) x (rows e ∙ f) in positive top (length (spelling c)) q.0 x (omega (arith, all)) q.1) low in
+    first-none (in_cell c d) (not-placed (from_start top (length (spelling c))) (first (in_cell c d)) (rows d ∙ none-past _ d (omega (arith, few, l))))

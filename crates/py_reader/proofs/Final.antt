@@ -23,7 +23,7 @@ use Rattle.py_grammar.specs.Alone.{alone}
 use Rattle.py_grammar.proofs.AloneRead.{alone-read, read_is_one, one_is_read}
 use Rattle.py_grammar.proofs.Whole.{read_is, is_read}
 use Rattle.py_frames.specs.Forced.{reach}
-use Rattle.py_frames.specs.Under.{first, nth, placed}
+use Rattle.py_frames.specs.Under.{first}
 use Rattle.py_blocks.specs.declared.state.Done.{Done}
 use Rattle.py_blocks.specs.declared.state.Reader.{Reader}
 use Rattle.py_blocks.specs.declared.state.State as held_of
@@ -46,7 +46,7 @@ use Rattle.py_reader.specs.Scans.{read_first, StopsAt, IsRefusal, GivesStatement
 use Rattle.py_reader.specs.Verdicts.{start_of, refusal}
 use Rattle.py_reader.specs.Verdict.{with_tokens, tokens_within, deepest_of, deep_fault, nested, unless_deep, stopped, stop_fault, of_end, of_tokens, run_from, of_cell, verdict}
 use Rattle.py_reader.specs.DefinitionVerdict.{of_alone, verdict_alone}
-use Rattle.py_reader.proofs.Deep.{agrees, cell-agrees}
+use Rattle.py_reader.proofs.Deep.{agrees, cell-agrees, placed-at, positive, short}
 use Rattle.py_reader.proofs.Ended.{all_done}
 use Rattle.py_reader.proofs.Judged.{reads_all, stops_at, within_long, within_short}
 use Rattle.py_reader.proofs.Scanned.{kinds-length, Holds, holds, forms-refuse}
@@ -153,19 +153,6 @@ plain false ts s e = e
 plain true ts s e = alone-read ts m.start s e
 
 -- ---- its statements
-
-placed-at : (f : ℕ → ℕ) (o : Option ℕ) (x : ℕ) → placed f o ≡ Some x → (a : ℕ) × (f a ≡ x)
-placed-at f None x e = cc
-placed-at f (Some a) x e = (a, cc)
-
--- no place is 0
-positive : (top n a x : ℕ) → n < top → from_start top n a ≡ x → 0 < x
-positive top n a x l e = omega (arith, e, l)
-
-short : (p : List ℕ) (n : ℕ) → ((d x : ℕ) → nth d p ≡ Some x → 0 < x) → reach p n ≤ 0 → length p ≤ n
-short [] n f h = omega arith
-short (x ∷ p) 0 f h = let z = f 0 x refl in absurd (omega (arith, z, h))
-short (x ∷ p) (suc n) f h = let z = short p n (λ d y. f (suc d) y) h in omega (arith, z)
 
 same-done : {a b : Done} → h.End a ≡ h.End b → a ≡ b
 same-done {a} {b} e = cc
