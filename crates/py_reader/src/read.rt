@@ -6,7 +6,7 @@ ghost use Rattle.py_reader.specs.Verdicts.{start_of, is_end, refusal};
 ghost use Rattle.py_reader.specs.Sources.{HasSources};
 
 use crate::fault::{ReadError, SyntaxFault, token_error};
-use crate::scan::{Scan, held_before, read_tokens};
+use crate::scan::{Scan, held_before, kind_at, read_tokens};
 use plain_data::Items;
 use py_blocks::{MOST, Reader, State, deepest, outside};
 use py_grammar::Construct;
@@ -80,7 +80,7 @@ pub fn refusal_at(
         return Ok(SyntaxFault::TooDeep(start_of(tokens, number)));
     }
     let Reader { state, .. } = held_before(alone, alloc, code, tokens, place)?;
-    let token = &tokens[place].kind;
+    let token = kind_at(tokens, place);
     let construct = outside(alloc, state, token)?;
     Ok(refused(start_of(tokens, place), token, construct))
 }

@@ -1,9 +1,10 @@
-ghost use Rattle.std.specs.Prelude.{◌≡◌, ◌≤◌, ◌<◌, length, Some, IfOk};
+ghost use Rattle.std.specs.Prelude.{◌≡◌, ◌≤◌, ◌<◌, length, slice_get, Some, IfOk};
+ghost use Rattle.py_token.specs.Cuts.{kinds};
 ghost use Rattle.py_reader.specs.Scans.{read_first, Scans, StopsAt};
 
 use py_blocks::{MOST, Place, Reader, start, step};
 use py_frames::Stop;
-use py_token::Token;
+use py_token::{Kind, Token};
 use std::alloc::{AllocError, Global};
 
 /// What was read of some tokens.
@@ -13,6 +14,14 @@ pub enum Scan {
     Whole(Reader),
     /// Those before the one with this number, which is refused.
     Refused(usize),
+}
+
+/// What the token with that number is.
+pub fn kind_at(tokens: &[Token], index: usize) -> &Kind
+    requires { index < length tokens.now }
+    ensures { slice_get (kinds tokens.now) index ≡ Some result.now }
+{
+    &tokens[index].kind
 }
 
 /// Reads the first `count` tokens of a code, as a cell or as one function alone.
@@ -31,7 +40,7 @@ pub fn read_tokens(
     while index < count {
         let at = MOST - index;
         let place = Place { at, left: at - 1 };
-        let token = &tokens[index].kind;
+        let token = kind_at(tokens, index);
         match step(alone, alloc, code, tokens, reader, token, place) {
             Ok(next) => reader = next,
             Err(Stop::Refused) => return Ok(Scan::Refused(index)),
