@@ -375,13 +375,13 @@ no-tokens ts e =
 -- after the first token the end may come where a line begins at the top
 pub function-closes : {s : State} {more : List Kind} {c : Cell} (ts : List Kind) → 0 < length ts → run_alone start ts ≡ Some s → Closes s more c → FunctionCloses s
 function-closes ts n e (at_end c) = record { more = []; cell = c; closes = at_end c; alone = refl }
-function-closes ts n e (onward (line [] None) u t more c a k l) = let z = no-tokens ts (alone-read ts start (line [] None) e) in absurd (omega (arith, n, z))
-function-closes ts n e (onward (line [] (Some ss)) u t more c a k l) =
+function-closes ts n e (onward (line [] None) u token more c a k l) = let z = no-tokens ts (alone-read ts start (line [] None) e) in absurd (omega (arith, n, z))
+function-closes ts n e (onward (line [] (Some ss)) u token more c a k l) =
     record { more = t.End ∷ []; cell = Some ss; closes = onward (line [] (Some ss)) (done (Some ss)) t.End [] (Some ss) refl (λ place texts rest. finish _ _) (at_end (Some ss)); alone = refl }
-function-closes ts n e (onward s u t more c a k l) =
-    let same : step_alone s t ≡ Some u = a in
-    let r = function-closes (ts ++ t ∷ []) (omega (arith, length-append ts (t ∷ []))) (alone-append ts (t ∷ []) start s e ∙ ap (then_alone []) same) l in
-    record { more = t ∷ r.more; cell = r.cell; closes = onward s u t r.more r.cell a k r.closes; alone = ap (then_alone r.more) same ∙ r.alone }
+function-closes ts n e (onward s u token more c a k l) =
+    let same : step_alone s token ≡ Some u = a in
+    let r = function-closes (ts ++ token ∷ []) (omega (arith, length-append ts (token ∷ []))) (alone-append ts (token ∷ []) start s e ∙ ap (then_alone []) same) l in
+    record { more = token ∷ r.more; cell = r.cell; closes = onward s u token r.more r.cell a k r.closes; alone = ap (then_alone r.more) same ∙ r.alone }
 
 module _ (place : ℕ → ℕ) (fair : (a b : ℕ) → place (max a b) ≡ max (place a) (place b)) where
   earlier : (n : ℕ) → place n ≤ place (suc n)
