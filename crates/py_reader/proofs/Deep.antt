@@ -144,7 +144,7 @@ positive top n a x l e = omega (arith, e, l)
 
 pub short : (p : List ℕ) (n : ℕ) → ((d x : ℕ) → nth d p ≡ Some x → 0 < x) → reach p n ≤ 0 → length p ≤ n
 short [] n f h = omega arith
-short (x ∷ p) 0 f h = let z = f 0 x refl in absurd (omega (arith, z, h))
+short (x ∷ p) zero f h = let z = f zero x refl in absurd (omega (arith, z, h))
 short (x ∷ p) (suc n) f h = let z = short p n (λ d y. f (suc d) y) h in omega (arith, z)
 
 none-past : (p : List ℕ) (d : ℕ) → length p ≤ d → nth d p ≡ None

@@ -8,9 +8,9 @@ use Rattle.py_token.specs.Cuts.{kinds}
 use Rattle.py_token.specs.Laws.{EndsWell}
 use Rattle.py_token.specs.Lines.{tokens_of}
 use Rattle.py_token.proofs.Ends.{ends_well}
-use Rattle.py_grammar.specs.Readings.{Reading, wants, has, has_none, has_not_none, after_is, after_is_not, after_not, after_dot, after_method, read}
-use Rattle.py_grammar.specs.Statements.{Cell}
-use Rattle.py_grammar.specs.States.{State, line, in_simple, in_test, done, start, then_simple, then_test, step, run}
+use Rattle.py_grammar.specs.Readings.{Reading, wants, has, has_none, has_not_none, after_is, after_is_not, after_not, after_dot, after_method, read, whole}
+use Rattle.py_grammar.specs.Statements.{Cell, Statements, Head}
+use Rattle.py_grammar.specs.States.{Outer, State, line, in_simple, in_test, after_colon, done, start, head_of, then_simple, then_test, tested, step, run}
 use Rattle.py_grammar.proofs.Whole.{then_run}
 use Rattle.py_grammar.proofs.AloneRead.{alone-read}
 use Rattle.py_blocks.specs.Follows.{forms_run}
@@ -33,10 +33,15 @@ IsDone u = (c : Cell) × (u ≡ done c)
 none-done : {u : State} {o : Option State} → o ≡ None → o ≡ Some u → IsDone u
 none-done {u} {o} n e = cc
 
+tested-end : (os : List Outer) (before : Option Statements) (h : Option Head) → tested os before h t.End ≡ None
+tested-end os before None = refl
+tested-end os before (Some h) = refl
+
 ended : (s u : State) → step s t.End ≡ Some u → IsDone u
 ended (line [] before) u e = (before, cc)
 ended (in_simple os at v r) u e = none-done (ap (then_simple os at v) (read-end r)) e
-ended (in_test os before l r) u e = none-done (ap (then_test os before l r t.End) (read-end r)) e
+ended (in_test os before l r) u e = none-done (ap (then_test os before l r t.End) (read-end r) ∙ tested-end os before (head_of l (whole r))) e
+ended (after_colon os o) u e = none-done refl e
 ended _ u e = cc
 
 last_on : (ts : List Kind) (v : State) (o : Option State) → ((w : State) → run w (ts ++ t.End ∷ []) ≡ Some v → IsDone v) → then_run (ts ++ t.End ∷ []) o ≡ Some v → IsDone v

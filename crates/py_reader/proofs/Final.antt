@@ -53,9 +53,6 @@ use Rattle.py_reader.proofs.Scanned.{kinds-length, Holds, holds, forms-refuse}
 
 -- ---- its length and its tokens
 
-pub answers_tokens : (code : List ℕ) (o : Result (List Token) SyntaxFault) → length code ≤ 262144 → with_tokens (tokens_of code) ≡ o → tokens_within code ≡ o
-answers_tokens code o l e = within_short code l ∙ e
-
 pub good_tokens : (code : List ℕ) (tokens : List Token) → length code ≤ 262144 → tokens_of code ≡ Ok tokens → tokens_within code ≡ Ok tokens
 good_tokens code tokens l e = within_short code l ∙ ap with_tokens e
 

@@ -9,6 +9,9 @@ use Rattle.py_token.specs.Cuts.{kinds}
 use Rattle.py_grammar.specs.States as m
 use Rattle.py_grammar.proofs.Whole as cell
 use Rattle.py_grammar.proofs.AloneRead as function
+use Rattle.py_frames.specs.declared.stop.Stop.{Stop}
+use Rattle.py_frames.specs.declared.stop.Stop.TheVariants as stop_of
+use Rattle.py_frames.specs.Gives as gives
 use Rattle.py_blocks.specs.declared.state.Reader.{Reader}
 use Rattle.py_blocks.specs.Blocks.{Texts}
 use Rattle.py_blocks.specs.Follows.{forms_step, forms_run, run, from_start, reader_at, Hears, Follows}
@@ -16,7 +19,7 @@ use Rattle.py_blocks.specs.Source.{most, left_of}
 use Rattle.py_blocks.specs.Steps.{Names, step, start}
 use Rattle.py_blocks.proofs.Following.{run-follows}
 use Rattle.py_reader.specs.declared.scan.Scan.{Scan}
-use Rattle.py_reader.specs.declared.scan.Scan.TheVariants.{Refused}
+use Rattle.py_reader.specs.declared.scan.Scan.TheVariants.{Whole, Refused}
 use Rattle.py_reader.specs.Scans.{read_first, Scans, StopsAt}
 
 -- ---- tokens and what they are
@@ -88,6 +91,22 @@ one_more alone code tokens index token reader r is =
 pub stops : (alone : Bool) (code : List ℕ) (tokens : List Token) (index : ℕ) (token : Kind) (reader : Reader) → read_first alone code tokens index ≡ Some reader → slice_get (kinds tokens) index ≡ Some token
     → step alone (left_of code tokens) (most - index) (most - index - 1) reader token ≡ None → StopsAt alone code tokens index
 stops alone code tokens index token reader r is e = ((reader, r), one_more alone code tokens index token reader r is ∙ e)
+
+-- as the program finds it
+pub none_is_read : (alone : Bool) (code : List ℕ) (tokens : List Token) (reader : Reader) → reader ≡ start → read_first alone code tokens 0 ≡ Some reader
+none_is_read alone code tokens reader e = ap Some (sym e)
+
+pub all_read : (alone : Bool) (code : List ℕ) (tokens : List Token) (index count : ℕ) (reader : Reader) → index ≡ count → read_first alone code tokens index ≡ Some reader → read_first alone code tokens count ≡ Some reader
+all_read alone code tokens index count reader e r = subst (λ n. read_first alone code tokens n ≡ Some reader) e r
+
+pub refused_is : {A : Type 0} (stop : Stop) (expected : Option A) → stop ≡ stop_of.Refused → gives.Refuses stop expected → expected ≡ None
+refused_is stop expected e h = subst (λ s. gives.Refuses s expected) e h
+
+pub whole_scan : (alone : Bool) (code : List ℕ) (tokens : List Token) (count : ℕ) (scan : Scan) (reader : Reader) → Scans alone code tokens count scan → scan ≡ Whole reader → read_first alone code tokens count ≡ Some reader
+whole_scan alone code tokens count scan reader h e = subst (Scans alone code tokens count) e h
+
+pub refused_scan : (alone : Bool) (code : List ℕ) (tokens : List Token) (count place : ℕ) (scan : Scan) → Scans alone code tokens count scan → scan ≡ Refused place → (place < count) × StopsAt alone code tokens place
+refused_scan alone code tokens count place scan h e = subst (Scans alone code tokens count) e h
 
 -- ---- two readings of the same tokens
 
