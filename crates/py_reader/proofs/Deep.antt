@@ -1,6 +1,6 @@
 -- Where tokens are too deep: there is one such place, however the places are counted.
 use Rattle.std.proofs.Common.{◌≡◌, ℕ, zero, suc, ◌-◌, ◌<◌, ◌≤◌, Bool, true, false, nat_lt, if◌then◌else◌, List, [], ◌∷◌, ◌++◌, length, take, drop, Option, Some, None, refl, ap, ◌∙◌, sym, subst, append-nil, take-append-drop, arith}
-use Rattle.std.proofs.lemmas.Bool.Decides.{nat_tests}
+use Rattle.std.proofs.lemmas.Bool.{ltb-true, ltb-false}
 use Rattle.std.proofs.lemmas.List.{length-take}
 use Rattle.std.proofs.lemmas.List.Elements.{All-contains}
 use Rattle.py_token.specs.declared.kinds.Kind.{Kind}
@@ -59,6 +59,19 @@ front-length tokens place l = let n = length-take place (kinds tokens) in let k 
 parts : (tokens : List Token) (place : ℕ) → length (take place (kinds tokens) ++ drop place (kinds tokens)) ≡ length tokens
 parts tokens place = ap length (take-append-drop place (kinds tokens)) ∙ kinds-length tokens
 
+-- a place among the tokens before one, in two words
+passed : (top n place d at : ℕ) → n ≡ place → d ≡ at → top - place < at → top - n < d
+passed top n place d at e f h = omega (arith, e, f, h)
+
+kept : (top n place d at : ℕ) → n ≡ place → d ≡ at → at ≤ top - place → d ≤ top - n
+kept top n place d at e f h = omega (arith, e, f, h)
+
+within : (top n place : ℕ) → n ≡ place → place ≤ top → n ≤ suc top
+within top n place e l = omega (arith, e, l)
+
+fits : (all n place top : ℕ) → n ≡ place → place ≤ all → all ≤ top → n ≤ top
+fits all n place top e l k = omega (arith, e, l, k)
+
 -- it tells whether the tokens before a place are too deep, and where
 pub record Tells (alone : Bool) (tokens : List Token) (place at : ℕ) : Type 0 where
   pub deep : suc (length tokens) - place < at → AreTooDeep (IsOf alone) (take place (kinds tokens)) (suc (length tokens) - at)
@@ -70,11 +83,11 @@ tells alone tokens place s l e =
     let rest : List Kind = drop place (kinds tokens) in
     let r = reads alone (λ from to. []) (suc (length tokens)) front rest s e in
     let n = front-length tokens place l in
-    let t = tells-depth alone (λ from to. []) (suc (length tokens)) front _ (omega (arith, n, l)) r.1 in
+    let t = tells-depth alone (λ from to. []) (suc (length tokens)) front _ (within (length tokens) (length front) place n l) r.1 in
     let same : deepest (reader_at (from_start (suc (length tokens)) (length (front ++ rest))) (λ from to. []) s rest r.0) ≡ deepest_of tokens s rest = ap (λ k. reach (forced_now (held_state (from_start (suc (length tokens)) k) (λ from to. []) s rest)) 64) (parts tokens place) in
     record {
-      deep = λ h. subst (λ at. AreTooDeep (IsOf alone) front (suc (length tokens) - at)) same (t.0 (omega (arith, n, same, h)));
-      shallow = λ h. t.1 (omega (arith, n, same, h));
+      deep = λ h. subst (λ at. AreTooDeep (IsOf alone) front (suc (length tokens) - at)) same (t.0 (passed (suc (length tokens)) (length front) place _ _ n same h));
+      shallow = λ h. t.1 (kept (suc (length tokens)) (length front) place _ _ n same h);
     }
 
 -- two countings agree, if each tells whether there is a place, and where
@@ -82,12 +95,12 @@ agree : (P : ℕ → Type 0) → ((x y : ℕ) → P x → P y → x ≡ y) → (
 agree P one i j a b x y p u q w = ((λ h. on (nat_lt j b) refl (p h)), (λ h. off (nat_lt j b) refl h))
   where
     on : (c : Bool) → nat_lt j b ≡ c → P x → (j < b) × (x ≡ y)
-    on true e z = let l : j < b = grind (arith, nat_tests) in (l, one x y z (q l))
-    on false e z = let l : b ≤ j = grind (arith, nat_tests) in absurd (w l x z)
+    on true e z = (ltb-true j b e, one x y z (q (ltb-true j b e)))
+    on false e z = absurd (w (ltb-false j b e) x z)
 
     off : (c : Bool) → nat_lt j b ≡ c → a ≤ i → b ≤ j
-    off true e h = let l : j < b = grind (arith, nat_tests) in absurd (u h y (q l))
-    off false e h = grind (arith, nat_tests)
+    off true e h = absurd (u h y (q (ltb-true j b e)))
+    off false e h = ltb-false j b e
 
 -- what the program finds, in its own counting, agrees
 pub agrees : (alone : Bool) (texts : Texts) (tokens : List Token) (place : ℕ) (reader : Reader) (s : m.State) → place ≤ length tokens → length tokens ≤ most → run alone texts most start (take place (kinds tokens)) ≡ Some reader
@@ -97,10 +110,10 @@ pub agrees : (alone : Bool) (texts : Texts) (tokens : List Token) (place : ℕ) 
 agrees alone texts tokens place reader s l long r e =
     let front : List Kind = take place (kinds tokens) in
     let n = front-length tokens place l in
-    let t = tells-depth alone texts most front reader (omega (arith, n, l, long)) r in
+    let t = tells-depth alone texts most front reader (fits (length tokens) (length front) place most n l long) r in
     let v = tells alone tokens place s l e in
     agree (AreTooDeep (IsOf alone) front) (one-open (IsOf alone) front) (most - place) (suc (length tokens) - place) (deepest reader) (deepest_of tokens s (drop place (kinds tokens))) _ _
-    (λ h. t.0 (omega (arith, n, h))) (λ h. t.1 (omega (arith, n, h))) v.deep v.shallow
+    (λ h. t.0 (passed most (length front) place (deepest reader) (deepest reader) n refl h)) (λ h. t.1 (kept most (length front) place (deepest reader) (deepest reader) n refl h)) v.deep v.shallow
 
 -- ---- a whole cell
 
@@ -131,8 +144,8 @@ pub is-shallow : (tokens : List Token) (c : Cell) → IsCell (kinds tokens) c �
 is-shallow tokens c is shallow = on (nat_lt 0 (deepest_of tokens (done c) [])) refl
   where
     on : (b : Bool) → nat_lt 0 (deepest_of tokens (done c) []) ≡ b → deepest_of tokens (done c) [] ≤ 0
-    on true e = let l : 0 < deepest_of tokens (done c) [] = grind (arith, nat_tests) in absurd (shallow _ ((cell-tells tokens c is).0 l))
-    on false e = grind (arith, nat_tests)
+    on true e = absurd (shallow _ ((cell-tells tokens c is).0 (ltb-true 0 (deepest_of tokens (done c) []) e)))
+    on false e = ltb-false 0 (deepest_of tokens (done c) []) e
 
 pub placed-at : (f : ℕ → ℕ) (o : Option ℕ) (x : ℕ) → placed f o ≡ Some x → (a : ℕ) × (f a ≡ x)
 placed-at f None x e = cc

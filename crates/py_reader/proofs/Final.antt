@@ -1,6 +1,6 @@
 -- What the program finds of the tokens of a code is the verdict on it.
 use Rattle.std.proofs.Common.{◌≡◌, ℕ, suc, ◌-◌, ◌<◌, ◌≤◌, Bool, true, false, nat_lt, if◌then◌else◌, List, [], ◌∷◌, ◌++◌, length, take, drop, slice_get, Option, Some, None, Result, Ok, Err, refl, ap, ◌∙◌, sym, subst, append-nil, arith}
-use Rattle.std.proofs.lemmas.Bool.Decides.{nat_tests}
+use Rattle.std.proofs.lemmas.Bool.{lt-ltb, le-ltb}
 use Rattle.std.proofs.lemmas.List.{take_all}
 use Rattle.py_token.specs.declared.kinds.Kind.{Kind}
 use Rattle.py_token.specs.declared.kinds.Token.{Token}
@@ -67,23 +67,17 @@ early_refuses alone whole (Fault fault) o r = ap (of_tokens alone whole) r
 
 -- ---- what comes before the rest
 
-lt-true : (a b : ℕ) → a < b → nat_lt a b ≡ true
-lt-true a b l = grind (arith, nat_tests)
-
-lt-false : (a b : ℕ) → b ≤ a → nat_lt a b ≡ false
-lt-false a b l = grind (arith, nat_tests)
-
 pub nested-deep : {A : Type 0} (tokens : List Token) (deep : ℕ) (judged : Result A SyntaxFault) → 0 < deep → nested tokens deep judged ≡ Err (deep_fault tokens deep)
-nested-deep tokens deep judged l = ap (λ b. if b then Err (deep_fault tokens deep) else judged) (lt-true 0 deep l)
+nested-deep tokens deep judged l = ap (λ b. if b then Err (deep_fault tokens deep) else judged) (lt-ltb 0 deep l)
 
 pub nested-shallow : {A : Type 0} (tokens : List Token) (deep : ℕ) (judged : Result A SyntaxFault) → deep ≤ 0 → nested tokens deep judged ≡ judged
-nested-shallow tokens deep judged l = ap (λ b. if b then Err (deep_fault tokens deep) else judged) (lt-false 0 deep l)
+nested-shallow tokens deep judged l = ap (λ b. if b then Err (deep_fault tokens deep) else judged) (le-ltb 0 deep l)
 
 unless-deep : (tokens : List Token) (place deep : ℕ) (fault : SyntaxFault) → suc (length tokens) - place < deep → unless_deep tokens place deep fault ≡ deep_fault tokens deep
-unless-deep tokens place deep fault l = ap (λ b. if b then deep_fault tokens deep else fault) (lt-true (suc (length tokens) - place) deep l)
+unless-deep tokens place deep fault l = ap (λ b. if b then deep_fault tokens deep else fault) (lt-ltb (suc (length tokens) - place) deep l)
 
 unless-shallow : (tokens : List Token) (place deep : ℕ) (fault : SyntaxFault) → deep ≤ suc (length tokens) - place → unless_deep tokens place deep fault ≡ fault
-unless-shallow tokens place deep fault l = ap (λ b. if b then deep_fault tokens deep else fault) (lt-false (suc (length tokens) - place) deep l)
+unless-shallow tokens place deep fault l = ap (λ b. if b then deep_fault tokens deep else fault) (le-ltb (suc (length tokens) - place) deep l)
 
 -- ---- a token that is refused
 

@@ -1,6 +1,6 @@
 -- What reading the tokens of a code tells of how it is judged, as a cell or as a function alone.
 use Rattle.std.proofs.Common.{◌≡◌, ℕ, zero, suc, ◌+◌, ◌-◌, ◌<◌, ◌≤◌, Bool, true, false, nat_lt, if◌then◌else◌, List, [], ◌∷◌, length, take, drop, slice_get, Option, Some, None, Result, Ok, Err, refl, ap, ◌∙◌, sym, subst, arith}
-use Rattle.std.proofs.lemmas.Bool.Decides.{nat_tests}
+use Rattle.std.proofs.lemmas.Bool.{ltb-true, ltb-false, lt-ltb, le-ltb}
 use Rattle.py_token.specs.declared.kinds.Kind.{Kind}
 use Rattle.py_token.specs.declared.kinds.Token.{Token}
 use Rattle.py_token.specs.declared.faults.TokenFault.{TokenFault}
@@ -68,10 +68,10 @@ unfolding tokens_within
 length_judged code b e = ap (λ x. if x then Err TooLong else with_tokens (tokens_of code)) e
 
 pub within_long : (code : List ℕ) → 262144 < length code → tokens_within code ≡ Err TooLong
-within_long code l = length_judged code true (grind (arith, nat_tests))
+within_long code l = length_judged code true (lt-ltb 262144 (length code) l)
 
 pub within_short : (code : List ℕ) → length code ≤ 262144 → tokens_within code ≡ with_tokens (tokens_of code)
-within_short code l = length_judged code false (grind (arith, nat_tests))
+within_short code l = length_judged code false (le-ltb 262144 (length code) l)
 
 -- which of them it is
 pub data Early (code : List ℕ) : Result (List Token) SyntaxFault → Type 0 where
@@ -87,8 +87,8 @@ early code = on (nat_lt 262144 (length code)) refl
     of_tokens_so l (Err fault) e = bad fault l e
 
     on : (b : Bool) → nat_lt 262144 (length code) ≡ b → Early code (tokens_within code)
-    on true q = let l : 262144 < length code = grind (arith, nat_tests) in subst (Early code) (sym (within_long code l)) (long l)
-    on false q = let l : length code ≤ 262144 = grind (arith, nat_tests) in subst (Early code) (sym (within_short code l)) (of_tokens_so l (tokens_of code) refl)
+    on true q = let l = ltb-true 262144 (length code) q in subst (Early code) (sym (within_long code l)) (long l)
+    on false q = let l = ltb-false 262144 (length code) q in subst (Early code) (sym (within_short code l)) (of_tokens_so l (tokens_of code) refl)
 
 -- ---- what is said of each end is said of the verdict
 

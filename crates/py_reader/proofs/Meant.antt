@@ -1,6 +1,6 @@
 -- The verdict says what it says in the words of the grammar.
 use Rattle.std.proofs.Common.{◌≡◌, ℕ, suc, ◌-◌, ◌<◌, ◌≤◌, Bool, true, false, nat_lt, if◌then◌else◌, List, [], length, take, drop, slice_get, Some, None, Result, Ok, Err, refl, ap, ◌∙◌, sym, subst, arith}
-use Rattle.std.proofs.lemmas.Bool.Decides.{nat_tests}
+use Rattle.std.proofs.lemmas.Bool.{ltb-true, ltb-false}
 use Rattle.std.proofs.lemmas.Option.{slice_get_within}
 use Rattle.py_token.specs.declared.kinds.Kind.{Kind}
 use Rattle.py_token.specs.declared.kinds.Token.{Token}
@@ -30,14 +30,17 @@ use Rattle.py_reader.proofs.Scanned.{kinds-length}
 
 -- ---- nesting
 
+pub no-more : (n : ℕ) → n ≤ 0 → n ≡ 0
+no-more n l = omega (arith, l)
+
 -- of a whole cell
 pub nested-means : {A : Type 0} (P : Result A SyntaxFault → Type 0) (tokens : List Token) (c : Cell) (judged : Result A SyntaxFault) → IsCell (kinds tokens) c → ((place : ℕ) → IsTooDeep c place → P (Err (TooDeep (start_of tokens place))))
     → (((other : ℕ) → IsTooDeep c other → ⊥) → P judged) → P (nested tokens (deepest_of tokens (done c) []) judged)
 nested-means {A} P tokens c judged is deep shallow = on (nat_lt 0 (deepest_of tokens (done c) [])) refl
   where
     on : (b : Bool) → nat_lt 0 (deepest_of tokens (done c) []) ≡ b → P (if b then Err (deep_fault tokens (deepest_of tokens (done c) [])) else judged)
-    on true q = let l : 0 < deepest_of tokens (done c) [] = grind (arith, nat_tests) in deep (suc (length tokens) - deepest_of tokens (done c) []) ((cell-tells tokens c is).0 l)
-    on false q = let l : deepest_of tokens (done c) [] ≡ 0 = grind (arith, nat_tests) in shallow ((cell-tells tokens c is).1 l)
+    on true q = deep (suc (length tokens) - deepest_of tokens (done c) []) ((cell-tells tokens c is).0 (ltb-true 0 (deepest_of tokens (done c) []) q))
+    on false q = shallow ((cell-tells tokens c is).1 (no-more (deepest_of tokens (done c) []) (ltb-false 0 (deepest_of tokens (done c) []) q)))
 
 -- before a failing token
 pub stop-means : (P : SyntaxFault → Type 0) (alone : Bool) (tokens : List Token) (place : ℕ) (s : m.State) (t : Kind) → forms_run alone m.start (take place (kinds tokens)) ≡ Some s → slice_get (kinds tokens) place ≡ Some t
@@ -50,8 +53,8 @@ stop-means P alone tokens place s t r g deep shallow = on (nat_lt (suc (length t
 
     on : (b : Bool) → nat_lt (suc (length tokens) - place) (deepest_of tokens s (drop place (kinds tokens))) ≡ b
         → P (if b then deep_fault tokens (deepest_of tokens s (drop place (kinds tokens))) else refusal (start_of tokens place) t (outside s t))
-    on true q = let l : suc (length tokens) - place < deepest_of tokens s (drop place (kinds tokens)) = grind (arith, nat_tests) in deep (suc (length tokens) - deepest_of tokens s (drop place (kinds tokens))) ((tells alone tokens place s within r).deep l)
-    on false q = let l : deepest_of tokens s (drop place (kinds tokens)) ≤ suc (length tokens) - place = grind (arith, nat_tests) in shallow ((tells alone tokens place s within r).shallow l)
+    on true q = deep (suc (length tokens) - deepest_of tokens s (drop place (kinds tokens))) ((tells alone tokens place s within r).deep (ltb-true (suc (length tokens) - place) (deepest_of tokens s (drop place (kinds tokens))) q))
+    on false q = shallow ((tells alone tokens place s within r).shallow (ltb-false (suc (length tokens) - place) (deepest_of tokens s (drop place (kinds tokens))) q))
 
 -- ---- the failing token
 

@@ -1,6 +1,6 @@
 -- The verdict on a text that is to be one function alone says what it says in the words of the grammar.
 use Rattle.std.proofs.Common.{◌≡◌, ℕ, ◌≤◌, Bool, true, false, nat_lt, if◌then◌else◌, List, [], length, take, slice_get, Some, None, Result, Ok, Err, refl, ap, ◌∙◌, sym, subst, arith}
-use Rattle.std.proofs.lemmas.Bool.Decides.{nat_tests}
+use Rattle.std.proofs.lemmas.Bool.{ltb-true, ltb-false}
 use Rattle.py_token.specs.declared.kinds.Kind.{Kind}
 use Rattle.py_token.specs.declared.kinds.Token.{Token}
 use Rattle.py_token.specs.Cuts.{kinds}
@@ -27,7 +27,7 @@ use Rattle.py_reader.specs.DefinitionVerdict.{unless_more, of_function, of_alone
 use Rattle.py_reader.specs.Gives as gives
 use Rattle.py_reader.proofs.Ended.{all_done}
 use Rattle.py_reader.proofs.Judged.{means-with}
-use Rattle.py_reader.proofs.Meant.{nested-means, stop-means}
+use Rattle.py_reader.proofs.Meant.{no-more, nested-means, stop-means}
 use Rattle.py_reader.proofs.Spanned.{words_within}
 
 abbrev fails_of : (tokens : List Kind) (place : ℕ) (s : m.State) (t : Kind) → run_alone m.start (take place tokens) ≡ Some s → slice_get tokens place ≡ Some t → step_alone s t ≡ None → FailsAlone tokens place (outside s t)
@@ -37,20 +37,23 @@ fails_of tokens place s t e g b =
 
 -- ---- a function
 
+meet : (a b : ℕ) → a ≤ b → b ≤ a → a ≡ b
+meet a b h k = omega (arith, h, k)
+
 module _ (code : List ℕ) (tokens : List Token) (called : List ℕ) (takes : Params) (block : Block) (l : length code ≤ 262144) (e : tokens_of code ≡ Ok tokens) (is : IsDefinition (kinds tokens) called takes block) where
   abbrev the_function : Def
   the_function = definition code called takes block
 
   more_means : start_of tokens 0 ≡ 0 → ((at : ℕ) → IsTooDeep (alone called takes block) at → ⊥) → (b : Bool) → nat_lt (end_of_words tokens) (length code) ≡ b
       → DefinitionVerdict code (if b then Err (NoParse (end_of_words tokens) false) else Ok the_function)
-  more_means first shallow true q = goes_on l e is first shallow (grind (arith, nat_tests))
-  more_means first shallow false q = whole l e is first shallow (let within = words_within code tokens (covers code tokens e) in grind (arith, nat_tests))
+  more_means first shallow true q = goes_on l e is first shallow (ltb-true (end_of_words tokens) (length code) q)
+  more_means first shallow false q = whole l e is first shallow (meet (end_of_words tokens) (length code) (words_within code tokens (covers code tokens e)) (ltb-false (end_of_words tokens) (length code) q))
 
   later_means : (b : Bool) → nat_lt 0 (start_of tokens 0) ≡ b
       → DefinitionVerdict code (if b then Err (NoParse 0 false) else nested tokens (deepest_of tokens (done (alone called takes block)) []) (unless_more code tokens (Ok the_function)))
-  later_means true q = stands_later l e is (grind (arith, nat_tests))
+  later_means true q = stands_later l e is (ltb-true 0 (start_of tokens 0) q)
   later_means false q =
-      let first : start_of tokens 0 ≡ 0 = grind (arith, nat_tests) in
+      let first = no-more (start_of tokens 0) (ltb-false 0 (start_of tokens 0) q) in
       nested-means (DefinitionVerdict code) tokens (alone called takes block) _ is (λ place deep. whole_too_deep l e is first deep) (λ shallow. more_means first shallow (nat_lt (end_of_words tokens) (length code)) refl)
 
   function_means : DefinitionVerdict code (of_function code tokens (deepest_of tokens (done (alone called takes block)) []) the_function)

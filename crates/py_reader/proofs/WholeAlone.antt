@@ -1,6 +1,6 @@
 -- What the tokens of one function are judged as, by what is before them, their nesting and what is after them.
-use Rattle.std.proofs.Common.{◌≡◌, ℕ, ◌<◌, ◌≤◌, Bool, true, false, nat_lt, if◌then◌else◌, List, [], ◌∷◌, ◌++◌, length, Some, None, Result, Ok, Err, IsUtf8, refl, ap, ◌∙◌, sym, arith}
-use Rattle.std.proofs.lemmas.Bool.Decides.{nat_tests}
+use Rattle.std.proofs.Common.{◌≡◌, ℕ, ◌<◌, ◌≤◌, Bool, true, false, nat_lt, if◌then◌else◌, List, [], ◌∷◌, ◌++◌, length, Some, None, Result, Ok, Err, IsUtf8, refl, ap, ◌∙◌, sym, subst, arith}
+use Rattle.std.proofs.lemmas.Bool.{lt-ltb, le-ltb}
 use Rattle.py_token.specs.declared.kinds.Token.{Token}
 use Rattle.py_tree.specs.declared.statements.Def.{Def, roll-Def}
 use Rattle.py_tree.specs.declared.statements.Stmt.{Stmt, out-Stmt}
@@ -34,16 +34,16 @@ more_on : (code : List ℕ) (tokens : List Token) (judged : JudgedDefinition) (b
 more_on code tokens judged b e = ap (λ x. if x then Err (NoParse (end_of_words tokens) false) else judged) e
 
 lt-true : (m n k : ℕ) → m ≡ n → m < k → nat_lt n k ≡ true
-lt-true m n k e l = grind (arith, nat_tests)
+lt-true m n k e l = lt-ltb n k (subst (λ x. x < k) e l)
 
 lt-false : (m n k : ℕ) → m ≡ n → k ≤ m → nat_lt n k ≡ false
-lt-false m n k e l = grind (arith, nat_tests)
+lt-false m n k e l = le-ltb n k (subst (λ x. k ≤ x) e l)
 
 pos-true : (m n : ℕ) → m ≡ n → 0 < m → nat_lt 0 n ≡ true
-pos-true m n e l = grind (arith, nat_tests)
+pos-true m n e l = lt-ltb 0 n (subst (λ x. 0 < x) e l)
 
 pos-false : (m n : ℕ) → m ≡ n → m ≤ 0 → nat_lt 0 n ≡ false
-pos-false m n e l = grind (arith, nat_tests)
+pos-false m n e l = le-ltb 0 n (subst (λ x. x ≤ 0) e l)
 
 pub is_later : (code : List ℕ) (tokens : List Token) (start : ℕ) → start ≡ start_of tokens 0 → 0 < start → GivesFunction code tokens (Err (Fault (NoParse 0 false)))
 is_later code tokens start is l f = later_on tokens _ true (pos-true start (start_of tokens 0) is l)
