@@ -14,3 +14,4 @@ pub mod Outermost
 pub mod Wholes
 pub mod Around
 pub mod Reached
+pub mod Nested

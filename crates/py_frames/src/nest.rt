@@ -55,6 +55,7 @@ impl<T> Nest<T> {
     }
 
     /// The outermost.
+    #[tactic(auto, using(crate::proofs::Nested::first_outermost))]
     pub fn outermost(&self) -> Option<&T>
         ensures { option_copied result ≡ outermost self.now }
     {
