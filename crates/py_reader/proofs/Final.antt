@@ -1,10 +1,11 @@
 -- What the program finds of the tokens of a code is the verdict on it.
-use Rattle.std.proofs.Common.{◌≡◌, ℕ, suc, ◌-◌, ◌<◌, ◌≤◌, Bool, true, false, nat_lt, if◌then◌else◌, List, [], ◌∷◌, ◌++◌, length, take, drop, slice_get, Option, Some, None, Result, Ok, Err, refl, ap, ◌∙◌, sym, subst, append-nil, arith}
+use Rattle.std.proofs.Common.{◌≡◌, ℕ, zero, suc, ◌-◌, ◌<◌, ◌≤◌, Bool, true, false, nat_lt, if◌then◌else◌, List, [], ◌∷◌, ◌++◌, length, take, drop, slice_get, Option, Some, None, Result, Ok, Err, refl, ap, ◌∙◌, sym, subst, append-nil, arith}
 use Rattle.std.proofs.lemmas.Bool.{lt-ltb, le-ltb}
 use Rattle.std.proofs.lemmas.List.{take_all}
 use Rattle.py_token.specs.declared.kinds.Kind.{Kind}
 use Rattle.py_token.specs.declared.kinds.Token.{Token}
 use Rattle.py_token.specs.declared.faults.TokenError.{TokenError}
+use Rattle.py_token.specs.declared.faults.TokenFault.{TokenFault}
 use Rattle.py_token.specs.declared.faults.TokenError.TheVariants as token
 use Rattle.py_token.specs.Cuts.{kinds}
 use Rattle.py_token.specs.Gives as token_gives
@@ -65,6 +66,24 @@ pub early_refuses : {A : Type 0} (alone : Bool) (whole : List Token → m.State 
 early_refuses alone whole OutOfMemory o r = tt
 early_refuses alone whole (Fault fault) o r = ap (of_tokens alone whole) r
 
+pub early_cell : (code : List ℕ) (error : ReadError) → Refuses error (tokens_within code) → Refuses error (verdict code)
+unfolding verdict
+early_cell code error r = early_refuses false (of_cell code) error (tokens_within code) r
+
+pub early_alone : (code : List ℕ) (error : ReadError) → Refuses error (tokens_within code) → Refuses error (verdict_alone code)
+unfolding verdict_alone
+early_alone code error r = early_refuses true (of_alone code) error (tokens_within code) r
+
+-- and tokens that are within are those of the code
+pub are_tokens : (code : List ℕ) (tokens : List Token) → tokens_within code ≡ Ok tokens → tokens_of code ≡ Ok tokens
+unfolding tokens_within
+are_tokens code tokens e = on (nat_lt 262144 (length code)) (tokens_of code) e
+  where
+    on : (b : Bool) (o : Result (List Token) TokenFault) → (if b then Err TooLong else with_tokens o) ≡ Ok tokens → o ≡ Ok tokens
+    on true o e = cc
+    on false (Ok found) e = let same : found ≡ tokens = cc in ap Ok same
+    on false (Err fault) e = cc
+
 -- ---- what comes before the rest
 
 pub nested-deep : {A : Type 0} (tokens : List Token) (deep : ℕ) (judged : Result A SyntaxFault) → 0 < deep → nested tokens deep judged ≡ Err (deep_fault tokens deep)
@@ -113,14 +132,28 @@ refusal_shallow alone code tokens place reader other found at token construct fa
     ∙ ap (λ k. refusal (start_of tokens place) k (forms.outside s k)) same ∙ ap (refusal (start_of tokens place) token) (sym (begins alone code tokens place other s token o e) ∙ sym begun)
     ∙ ap (λ n. refusal n token construct) (sym a) ∙ sym f
 
+token_at : (tokens : List Token) (place : ℕ) → place < length tokens → (token : Kind) × (slice_get (kinds tokens) place ≡ Some token)
+token_at [] place l = absurd (omega (arith, l))
+token_at (t ∷ ts) zero l = (t.kind, refl)
+token_at (t ∷ ts) (suc k) l = token_at ts k (omega (arith, l))
+
 -- that fault is the verdict
-pub gives_refused : {A : Type 0} (alone : Bool) (whole : List Token → m.State → Result A SyntaxFault) (code : List ℕ) (tokens : List Token) (place : ℕ) (token : Kind) (fault : SyntaxFault) → tokens_within code ≡ Ok tokens
-    → StopsAt alone code tokens place → slice_get (kinds tokens) place ≡ Some token → IsRefusal alone tokens place fault → of_tokens alone whole (tokens_within code) ≡ Err fault
-gives_refused alone whole code tokens place token fault e s is f =
-    let x = holds alone (left_of code tokens) most (take place (kinds tokens)) s.0.0 s.0.1 in
+gives_refused : {A : Type 0} (alone : Bool) (whole : List Token → m.State → Result A SyntaxFault) (code : List ℕ) (tokens : List Token) (place : ℕ) (fault : SyntaxFault) → tokens_within code ≡ Ok tokens
+    → (place < length tokens) × StopsAt alone code tokens place → IsRefusal alone tokens place fault → of_tokens alone whole (tokens_within code) ≡ Err fault
+gives_refused alone whole code tokens place fault e s f =
+    let here = token_at tokens place s.0 in
+    let x = holds alone (left_of code tokens) most (take place (kinds tokens)) s.1.0.0 s.1.0.1 in
     ap (of_tokens alone whole) e
-    ∙ ap (of_end whole tokens) (stops_at alone (kinds tokens) 0 place m.start x.forms token x.runs is (forms-refuse alone code tokens place token x.forms s x.runs is) ∙ ap (λ n. stopped n x.forms token) (omega arith))
-    ∙ ap Err (f x.forms token x.runs is)
+    ∙ ap (of_end whole tokens) (stops_at alone (kinds tokens) 0 place m.start x.forms here.0 x.runs here.1 (forms-refuse alone code tokens place here.0 x.forms s.1 x.runs here.1) ∙ ap (λ n. stopped n x.forms here.0) (omega arith))
+    ∙ ap Err (f x.forms here.0 x.runs here.1)
+
+pub refused_cell : (code : List ℕ) (tokens : List Token) (place : ℕ) (fault : SyntaxFault) → tokens_within code ≡ Ok tokens → (place < length tokens) × StopsAt false code tokens place → IsRefusal false tokens place fault → verdict code ≡ Err fault
+unfolding verdict
+refused_cell code tokens place fault e s f = gives_refused false (of_cell code) code tokens place fault e s f
+
+pub refused_alone : (code : List ℕ) (tokens : List Token) (place : ℕ) (fault : SyntaxFault) → tokens_within code ≡ Ok tokens → (place < length tokens) × StopsAt true code tokens place → IsRefusal true tokens place fault → verdict_alone code ≡ Err fault
+unfolding verdict_alone
+refused_alone code tokens place fault e s f = gives_refused true (of_alone code) code tokens place fault e s f
 
 -- ---- all tokens
 
@@ -199,17 +232,18 @@ cell_of alone code tokens reader e r =
     let d = all_done alone code tokens x.forms e x.runs in
     (d.0, x.runs ∙ ap Some d.1)
 
-pub gives_whole : (code : List ℕ) (tokens : List Token) (reader : Reader) (result : Result (List Stmt) ReadError) → tokens_within code ≡ Ok tokens → tokens_of code ≡ Ok tokens → read_first false code tokens (length tokens) ≡ Some reader
+pub gives_whole : (code : List ℕ) (tokens : List Token) (reader : Reader) (result : Result (List Stmt) ReadError) → tokens_within code ≡ Ok tokens → read_first false code tokens (length tokens) ≡ Some reader
     → GivesStatements false code tokens result → Answers result (verdict code)
 unfolding verdict
-gives_whole code tokens reader result e of r g =
-    let c = cell_of false code tokens reader of r in
+gives_whole code tokens reader result e r g =
+    let c = cell_of false code tokens reader (are_tokens code tokens e) r in
     subst (Answers result) (sym (whole_cell code tokens c.0 e c.1)) (g c.0 c.1)
 
 -- ---- a function alone
 
-pub are_function : (code : List ℕ) (tokens : List Token) (reader : Reader) → tokens_of code ≡ Ok tokens → read_first true code tokens (length tokens) ≡ Some reader → AreFunction code tokens
-are_function code tokens reader of r =
+pub are_function : (code : List ℕ) (tokens : List Token) (reader : Reader) → tokens_within code ≡ Ok tokens → read_first true code tokens (length tokens) ≡ Some reader → AreFunction code tokens
+are_function code tokens reader e r =
+    let of = are_tokens code tokens e in
     let c = cell_of true code tokens reader of r in
     let one = read_is_one (kinds tokens) c.0 c.1 in
     record { of_text = of; called = one.0; takes = one.1; block = one.2; is_definition = subst (IsCell (kinds tokens)) one.3 one.4 }

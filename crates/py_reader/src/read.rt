@@ -74,8 +74,10 @@ pub fn refusal_at(
     requires stops { StopsAt alone code.now tokens.now place }
     ensures { IfOk result (IsRefusal alone tokens.now place) }
 {
-    let deep = deepest(alloc, held_before(alone, alloc, code, tokens, place)?)?;
-    if MOST - place < deep {
+    let held = held_before(alone, alloc, code, tokens, place)?;
+    let deep = deepest(alloc, held)?;
+    let least = MOST - place;
+    if least < deep {
         let number = MOST.saturating_sub(deep);
         return Ok(SyntaxFault::TooDeep(start_of(tokens, number)));
     }
@@ -102,7 +104,8 @@ pub fn statements(
     };
     let deep = done.under.reach(MAX_DEPTH);
     if 0 < deep {
-        let at = start_of(tokens, MOST.saturating_sub(deep));
+        let number = MOST.saturating_sub(deep);
+        let at = start_of(tokens, number);
         return Err(ReadError::Fault(SyntaxFault::TooDeep(at)));
     }
     Ok(done.statements)
@@ -115,9 +118,10 @@ fn judge(alloc: Global, code: &str) -> Result<Tree, ReadError>
     let tokens = tokens_within(alloc, code)?;
     let all = tokens.as_slice();
     match read_tokens(false, alloc, code, all, all.len())? {
-        Scan::Whole(reader) => Ok(Tree {
-            body: statements(false, alloc, code, all, reader)?,
-        }),
+        Scan::Whole(reader) => {
+            let body = statements(false, alloc, code, all, reader)?;
+            Ok(Tree { body })
+        }
         Scan::Refused(place) => {
             let fault = refusal_at(false, alloc, code, all, place)?;
             Err(ReadError::Fault(fault))
