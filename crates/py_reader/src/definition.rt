@@ -1,4 +1,4 @@
-ghost use Rattle.std.specs.Prelude.{◌≡◌, length, Some};
+ghost use Rattle.std.specs.Prelude.{◌≡◌, true, length, Some};
 ghost use Rattle.py_reader.specs.Definitions.{end_of_words};
 ghost use Rattle.py_reader.specs.DefinitionVerdict.{verdict_alone};
 ghost use Rattle.py_reader.specs.Gives.{Answers, MeansDefinition};
