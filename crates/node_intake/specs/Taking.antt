@@ -48,3 +48,9 @@ EndsOrGoesOn (Some end) left rest = EndsSo end left rest
 abbrev pub IsPlaceOf : Held → Option ℕ → Type 0
 IsPlaceOf held None = held.bytes ≡ []
 IsPlaceOf held (Some place) = (held.bytes ≢ []) × (place ≡ held.place)
+
+-- the frames with these bodies were cut off at the front
+pub record IsCutOff (old : Held) (bodies : List (List ℕ)) (new : Held) : Type 0 where
+  pub are_bodies : AllByRecursion IsBody bodies
+  pub parts : old.bytes ≡ stream bodies new.bytes
+  pub place : new.place ≡ place_after old.place (length (flat_map frame bodies))

@@ -1,0 +1,144 @@
+//! The frames of journals, made by several threads.
+
+ghost use Rattle.std.specs.Prelude.{◌≡◌, ◌+◌, ◌<◌, ◌≤◌, length, IfOk, IfSome};
+ghost use Rattle.std.specs.List.{flat_map, sum_by};
+ghost use Rattle.std.specs.Thread.{IsSync};
+ghost use Rattle.reply_frames.specs.Replies.{entry_length};
+ghost use Rattle.node_run.specs.Frames.{journal_frames, parts_together};
+
+use plain_data::Items;
+use reply_frames::{frame_count, frames_of};
+use session_core::{Ask, Entry, Reply};
+use std::alloc::{AllocError, Global};
+use std::thread::{Threads, join};
+
+/// The frames of fewer entries than these are made by one thread: to make a thread costs about as much as to tell five.
+const FEW: usize = 48;
+
+/// How often many entries are halved: each half of a half goes to a thread of its own.
+pub const HALVINGS: u32 = 2;
+
+/// About how many bytes the frames of the entries have that are told at once.
+const MOST_BYTES: usize = 8_388_608;
+
+/// About how many bytes the frames of an entry have besides its longest texts.
+const ROUND: usize = 2_048;
+
+/// About how many bytes the frames of an entry have.
+fn bytes_of(entry: &Entry) -> usize {
+    match entry {
+        Entry::Ran {
+            request,
+            reply: Reply::Executed { printed, shown, .. },
+            ..
+        } => {
+            let code = match &request.ask {
+                Ask::Execute { code, .. } => code.len(),
+                _ => 0,
+            };
+            let text = match shown {
+                Some(text) => text.len(),
+                None => 0,
+            };
+            code.saturating_add(printed.len()).saturating_add(text).saturating_add(ROUND)
+        }
+        _ => ROUND,
+    }
+}
+
+/// How many of the first entries are told at once.
+pub fn batch_len(entries: &[Entry]) -> usize
+    requires { 0 < length entries.now }
+    ensures { (0 < result) × (result ≤ length entries.now) }
+{
+    let mut bytes = 0usize;
+    for (at, entry) in entries.iter().enumerate() {
+        bytes = bytes.saturating_add(bytes_of(entry));
+        if MOST_BYTES <= bytes {
+            return at + 1;
+        }
+    }
+    entries.len()
+}
+
+/// The running number after the frames of these entries, if they are counted at once.
+pub fn number_after(running: u64, entries: &[Entry]) -> Option<u64>
+    ensures { IfSome result (λ next. next ≡ running + sum_by entry_length entries.now) }
+{
+    let mut next = running;
+    for entry in entries {
+        let count = frame_count(entry)?;
+        next = next.checked_add(count)?;
+    }
+    Some(next)
+}
+
+/// The frames of these entries of a kernel's journal, with running numbers from this one on.
+fn render_in_turn(
+    alloc: Global,
+    kernel: u128,
+    running: u64,
+    entries: &[Entry],
+) -> Result<Items<u8>, AllocError>
+    ensures { IfOk result (λ bytes. bytes ≡ journal_frames kernel running entries.now) }
+{
+    let mut bytes = Items::new(alloc);
+    let mut running = running;
+    for entry in entries {
+        let (frames, next) = frames_of(alloc, kernel, entry, running)?;
+        bytes.extend_from_slice(frames.as_slice())?;
+        running = next;
+    }
+    Ok(bytes)
+}
+
+/// One part.
+fn one_part(
+    alloc: Global,
+    kernel: u128,
+    running: u64,
+    entries: &[Entry],
+) -> Result<Vec<Items<u8>>, AllocError>
+    ensures { IfOk result (λ parts. parts_together parts.items ≡ journal_frames kernel running entries.now) }
+{
+    let bytes = render_in_turn(alloc, kernel, running, entries)?;
+    let mut parts = Vec::new(alloc);
+    parts.push(bytes)?;
+    Ok(parts)
+}
+
+/// The frames of these entries of a kernel's journal, with running numbers from this one on, in parts. If there are many, each half
+/// is made by a thread of its own, so often halved again.
+pub fn render<R: Threads + Sync>(
+    rt: &R,
+    alloc: Global,
+    kernel: u128,
+    running: u64,
+    entries: &[Entry],
+    halvings: u32,
+) -> Result<Vec<Items<u8>>, AllocError>
+    ensures { IfOk result (λ parts. parts_together parts.items ≡ journal_frames kernel running entries.now) }
+{
+    if halvings == 0 || entries.len() < FEW {
+        return one_part(alloc, kernel, running, entries);
+    }
+    let (front, back) = entries.split_at(entries.len() / 2);
+    let Some(middle) = number_after(running, front) else {
+        return one_part(alloc, kernel, running, entries);
+    };
+    let (first, second) = join(
+        rt,
+        || -> Result<Vec<Items<u8>>, AllocError>
+            requires { IsSync R.row × (0 < halvings) }
+            ensures { IfOk result (λ parts. parts_together parts.items ≡ journal_frames kernel running front.entry.now) }
+        { render(rt, alloc, kernel, running, front, halvings - 1) },
+        || -> Result<Vec<Items<u8>>, AllocError>
+            requires { IsSync R.row × (0 < halvings) }
+            ensures { IfOk result (λ parts. parts_together parts.items ≡ journal_frames kernel middle back.entry.now) }
+        { render(rt, alloc, kernel, middle, back, halvings - 1) },
+    );
+    let mut parts = first?;
+    let mut rest = second?;
+    parts.append(&mut rest)?;
+    Ok(parts)
+}
