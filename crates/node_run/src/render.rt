@@ -62,10 +62,10 @@ pub fn batch_len(entries: &[Entry]) -> usize
 }
 
 /// The running number after the frames of these entries, if they are counted at once.
-pub fn number_after(running: u64, entries: &[Entry]) -> Option<u64>
-    ensures { IfSome result (λ next. next ≡ running + sum_by entry_length entries.now) }
+pub fn number_after(first: u64, entries: &[Entry]) -> Option<u64>
+    ensures { IfSome result (λ next. next ≡ first + sum_by entry_length entries.now) }
 {
-    let mut next = running;
+    let mut next = first;
     for entry in entries {
         let count = frame_count(entry)?;
         next = next.checked_add(count)?;
@@ -77,13 +77,13 @@ pub fn number_after(running: u64, entries: &[Entry]) -> Option<u64>
 fn render_in_turn(
     alloc: Global,
     kernel: u128,
-    running: u64,
+    first: u64,
     entries: &[Entry],
 ) -> Result<Items<u8>, AllocError>
-    ensures { IfOk result (λ bytes. bytes ≡ journal_frames kernel running entries.now) }
+    ensures { IfOk result (λ bytes. bytes ≡ journal_frames kernel first entries.now) }
 {
     let mut bytes = Items::new(alloc);
-    let mut running = running;
+    let mut running = first;
     for entry in entries {
         let (frames, next) = frames_of(alloc, kernel, entry, running)?;
         bytes.extend_from_slice(frames.as_slice())?;
@@ -96,12 +96,12 @@ fn render_in_turn(
 fn one_part(
     alloc: Global,
     kernel: u128,
-    running: u64,
+    first: u64,
     entries: &[Entry],
 ) -> Result<Vec<Items<u8>>, AllocError>
-    ensures { IfOk result (λ parts. parts_together parts.items ≡ journal_frames kernel running entries.now) }
+    ensures { IfOk result (λ parts. parts_together parts.items ≡ journal_frames kernel first entries.now) }
 {
-    let bytes = render_in_turn(alloc, kernel, running, entries)?;
+    let bytes = render_in_turn(alloc, kernel, first, entries)?;
     let mut parts = Vec::new(alloc);
     parts.push(bytes)?;
     Ok(parts)
@@ -113,32 +113,32 @@ pub fn render<R: Threads + Sync>(
     rt: &R,
     alloc: Global,
     kernel: u128,
-    running: u64,
+    first: u64,
     entries: &[Entry],
     halvings: u32,
 ) -> Result<Vec<Items<u8>>, AllocError>
-    ensures { IfOk result (λ parts. parts_together parts.items ≡ journal_frames kernel running entries.now) }
+    ensures { IfOk result (λ parts. parts_together parts.items ≡ journal_frames kernel first entries.now) }
 {
     if halvings == 0 || entries.len() < FEW {
-        return one_part(alloc, kernel, running, entries);
+        return one_part(alloc, kernel, first, entries);
     }
     let (front, back) = entries.split_at(entries.len() / 2);
-    let Some(middle) = number_after(running, front) else {
-        return one_part(alloc, kernel, running, entries);
+    let Some(middle) = number_after(first, front) else {
+        return one_part(alloc, kernel, first, entries);
     };
-    let (first, second) = join(
+    let (made, more) = join(
         rt,
         || -> Result<Vec<Items<u8>>, AllocError>
             requires { IsSync R.row × (0 < halvings) }
-            ensures { IfOk result (λ parts. parts_together parts.items ≡ journal_frames kernel running front.entry.now) }
-        { render(rt, alloc, kernel, running, front, halvings - 1) },
+            ensures { IfOk result (λ parts. parts_together parts.items ≡ journal_frames kernel first front.entry.now) }
+        { render(rt, alloc, kernel, first, front, halvings - 1) },
         || -> Result<Vec<Items<u8>>, AllocError>
             requires { IsSync R.row × (0 < halvings) }
             ensures { IfOk result (λ parts. parts_together parts.items ≡ journal_frames kernel middle back.entry.now) }
         { render(rt, alloc, kernel, middle, back, halvings - 1) },
     );
-    let mut parts = first?;
-    let mut rest = second?;
+    let mut parts = made?;
+    let mut rest = more?;
     parts.append(&mut rest)?;
     Ok(parts)
 }

@@ -1,15 +1,14 @@
-use Rattle.std.proofs.Common.{subst}
+use Rattle.std.proofs.Common.{List, ◌∙◌, ap, subst}
+use Rattle.std.specs.Prelude.{map}
 use Rattle.jupyter_messages.specs.Reading.{message_in}
-use Rattle.node_intake.specs.Intake.{with_message}
+use Rattle.node_intake.specs.Intake.{with_messages}
 use Rattle.node_intake.specs.Standing.{StandsFor}
-use Rattle.node_intake.proofs.Standing.{kept_on}
-use Rattle.node_intake.proofs.Taking.{one_more}
+use Rattle.node_intake.proofs.Taking.{many_more}
 use Rattle.node_intake.proofs.frames.take_frames.Goals as goal
 
-pub loop-body-preserved : goal.loop-body-preserved
-loop-body-preserved g c = (
-  λ bytes t.
-      one_more c.args.hosts bytes c.in-Frame.body c.loop-body.framer c.next.new.self (StandsFor g.D.Desk.holds c.loop-body.node) (StandsFor g.D.Desk.holds c.take_body.new.self) c.in-Frame.ensures.0 c.in-Frame.ensures.1 c.in-Frame.ensures.2
-      (λ node stands. subst (λ bs. StandsFor g.D.Desk.holds c.take_body.new.self (with_message c.args.hosts node (message_in bs))) c.as_slice.ensures (c.in_ok-take_body-in-Frame.ensures.node node stands)) (c.loop-body.invariant.0 bytes t),
-  kept_on g.D.Desk.keeps c.args.node.now c.loop-body.node c.take_body.new.self g.D.Desk.keeps_on c.loop-body.invariant.1 c.in_ok-take_body-in-Frame.ensures.kept,
-)
+pub returns-clause-took : goal.returns-clause-took
+returns-clause-took g c = λ bytes t.
+    let read = c.in_ok-all.ensures ∙ ap (map message_in) c.as_slice.ensures in
+    many_more c.args.hosts bytes c.in_ok-bodies.value.0.items c.args.framer.now c.cut_off.new.framer (StandsFor g.D.Desk.holds c.args.node.now) (StandsFor g.D.Desk.holds c.take_all.new.self)
+    c.in_ok-bodies.ensures.cut
+    (λ node stands. subst (λ ms. StandsFor g.D.Desk.holds c.take_all.new.self (with_messages c.args.hosts node ms)) read (c.in_ok-take_all.ensures.node node stands)) t
