@@ -1,6 +1,6 @@
 //! Frames that came together, read by several threads.
 
-ghost use Rattle.std.specs.Prelude.{◌≡◌, map, IfOk};
+ghost use Rattle.std.specs.Prelude.{◌≡◌, ◌<◌, map, IfOk};
 ghost use Rattle.std.specs.Thread.{IsSync};
 ghost use Rattle.jupyter_messages.specs.Reading.{message_in};
 
@@ -53,17 +53,15 @@ pub fn read_bodies<R: Threads + Sync>(
         return read_in_turn(alloc, bodies);
     }
     let (front, back) = bodies.split_at(bodies.len() / 2);
-    let (first, second) = join(
-        rt,
-        || -> Result<Vec<Read>, AllocError>
-            requires { IsSync R.row × (0 < halvings) }
-            ensures { IfOk result (λ all. all.items ≡ map message_in front.entry.now) }
-        { read_bodies(rt, alloc, front, halvings - 1) },
-        || -> Result<Vec<Read>, AllocError>
-            requires { IsSync R.row × (0 < halvings) }
-            ensures { IfOk result (λ all. all.items ≡ map message_in back.entry.now) }
-        { read_bodies(rt, alloc, back, halvings - 1) },
-    );
+    let lower = || -> Result<Vec<Read>, AllocError>
+        requires { IsSync R.row × (0 < halvings) }
+        ensures { IfOk result (λ all. all.items ≡ map message_in front.entry.now) }
+    { read_bodies(rt, alloc, front, halvings - 1) };
+    let upper = || -> Result<Vec<Read>, AllocError>
+        requires { IsSync R.row × (0 < halvings) }
+        ensures { IfOk result (λ all. all.items ≡ map message_in back.entry.now) }
+    { read_bodies(rt, alloc, back, halvings - 1) };
+    let (first, second) = join(rt, lower, upper);
     let mut all = first?;
     let mut rest = second?;
     all.append(&mut rest)?;

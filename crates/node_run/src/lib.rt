@@ -13,6 +13,7 @@ mod desk;
 mod end;
 mod feeding;
 mod finishing;
+mod letting_go;
 mod open_session;
 mod render;
 mod run;

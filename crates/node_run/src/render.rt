@@ -85,9 +85,9 @@ fn render_in_turn(
     let mut bytes = Items::new(alloc);
     let mut running = first;
     for entry in entries {
-        let (frames, next) = frames_of(alloc, kernel, entry, running)?;
-        bytes.extend_from_slice(frames.as_slice())?;
-        running = next;
+        let told = frames_of(alloc, kernel, entry, running)?;
+        bytes.extend_from_slice(told.0.as_slice())?;
+        running = told.1;
     }
     Ok(bytes)
 }
@@ -126,17 +126,15 @@ pub fn render<R: Threads + Sync>(
     let Some(middle) = number_after(first, front) else {
         return one_part(alloc, kernel, first, entries);
     };
-    let (made, more) = join(
-        rt,
-        || -> Result<Vec<Items<u8>>, AllocError>
-            requires { IsSync R.row × (0 < halvings) }
-            ensures { IfOk result (λ parts. parts_together parts.items ≡ journal_frames kernel first front.entry.now) }
-        { render(rt, alloc, kernel, first, front, halvings - 1) },
-        || -> Result<Vec<Items<u8>>, AllocError>
-            requires { IsSync R.row × (0 < halvings) }
-            ensures { IfOk result (λ parts. parts_together parts.items ≡ journal_frames kernel middle back.entry.now) }
-        { render(rt, alloc, kernel, middle, back, halvings - 1) },
-    );
+    let lower = || -> Result<Vec<Items<u8>>, AllocError>
+        requires { IsSync R.row × (0 < halvings) }
+        ensures { IfOk result (λ parts. parts_together parts.items ≡ journal_frames kernel first front.entry.now) }
+    { render(rt, alloc, kernel, first, front, halvings - 1) };
+    let upper = || -> Result<Vec<Items<u8>>, AllocError>
+        requires { IsSync R.row × (0 < halvings) }
+        ensures { IfOk result (λ parts. parts_together parts.items ≡ journal_frames kernel middle back.entry.now) }
+    { render(rt, alloc, kernel, middle, back, halvings - 1) };
+    let (made, more) = join(rt, lower, upper);
     let mut parts = made?;
     let mut rest = more?;
     parts.append(&mut rest)?;

@@ -1,5 +1,5 @@
 -- What answers each entry of a journal. (Jupyter messaging 5.3; `docs/PROTOCOL.md` lists the messages.)
-use Rattle.std.specs.Prelude.{min, ◌≡◌, ℕ, Bool, true, false, List, [], ◌∷◌, ◌++◌, codes, decimal, length, map, take, drop, zero, suc, Option, Some, None}
+use Rattle.std.specs.Prelude.{◌≡◌, ℕ, Bool, true, false, List, [], ◌∷◌, ◌++◌, codes, decimal, length, map, take, drop, zero, suc, Option, Some, None}
 use Rattle.std.specs.List.{repeat}
 use Rattle.serde_json.specs.Data.{Data, string, boolean, array, no_items, item}
 use Rattle.serde_json.specs.View.{items_of}
@@ -157,10 +157,6 @@ listed listing.Flow chunk = on_iopub (codes "migrate_flow") (json ((codes "arcs"
 -- a list without items says nothing
 unfoldable pub lists : Listing → List Data → List Said
 lists which items = map (listed which) (chunks (length items) 4096 items)
-
--- how many messages tell a list with so many items, if it isn't cut
-abbrev pub list_count : ℕ → ℕ
-list_count items = min 1 items
 
 -- ---- the reply to a move
 
