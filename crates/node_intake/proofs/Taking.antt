@@ -17,6 +17,10 @@ use Rattle.node_intake.specs.Taking.{HasTaken, EndsSo, TookSoFar, IsPlaceOf, IsC
 
 -- ---- frames
 
+pub none_left : {X : Type 0} (xs : List X) → length xs ≡ 0 → xs ≡ []
+none_left [] is = refl
+none_left (x ∷ xs) is = absurd (omega (arith, is))
+
 -- to take in these frames after those is to take in what is read of them
 frames_read : (hosts : ℕ) (node : Node) (bodies : List (List ℕ)) → with_frames hosts node bodies ≡ with_messages hosts node (map message_in bodies)
 frames_read hosts node [] = refl

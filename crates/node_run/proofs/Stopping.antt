@@ -113,26 +113,6 @@ stops_in_entries old mid new kernel first entries at running e gathered within i
       adds = gathered_is old mid new (journal_frames kernel first entries) (journal_frames kernel first before) gathered (journal_frames kernel running (drop at entries)) w split adds;
     }
 
--- the same at an entry of some of them, when those before these were written
-pub stops_in_batch : (old mid new : Option (List ℕ)) (kernel : ℕ) (entries : List Entry) (at count running : ℕ) → running ≡ 1 + sum_by entry_length (take at entries)
-    → WritesSoFar old mid (journal_frames kernel 1 entries) (journal_frames kernel running (drop at entries))
-    → AddsEntriesFrom mid new kernel running (take count (drop at entries)) → AddsEntriesBefore old new kernel entries
-stops_in_batch old mid new kernel entries at count running runs w s =
-    let done : List Entry = take at entries in
-    let rest : List Entry = drop count (drop at entries) in
-    let split = ap (journal_frames kernel 1) (sym (take-append-drop at entries)) ∙ entries_append kernel 1 done (drop at entries)
-    ∙ ap (λ (k : ℕ). journal_frames kernel 1 done ++ journal_frames kernel k (drop at entries)) (sym runs) in
-    let adds : Adds old mid (journal_frames kernel 1 done) = written_is old mid (journal_frames kernel 1 entries) (journal_frames kernel 1 done) (journal_frames kernel running (drop at entries)) w split in
-    let both = ap (λ (k : ℕ). journal_frames kernel 1 done ++ journal_frames kernel k s.before) runs ∙ sym (entries_append kernel 1 done s.before) in
-    record {
-      before = done ++ s.before;
-      failed = s.failed;
-      later = s.later ++ rest;
-      parts = sym (take-append-drop at entries) ∙ ap (λ es. done ++ es) (sym (take-append-drop count (drop at entries)) ∙ ap (λ es. es ++ rest) s.parts ∙ append_assoc s.before (s.failed ∷ s.later) rest)
-          ∙ sym (append_assoc done s.before (s.failed ∷ (s.later ++ rest)));
-      adds = subst (Adds old new) both (Adds-both old mid new (journal_frames kernel 1 done) (journal_frames kernel running s.before) adds s.adds);
-    }
-
 pub stops_in_runs : (old mid new : Option (List ℕ)) (runs : List ServedSession) (at : ℕ) (r : ServedSession) → at < length runs → r ≡ get_or runs at r
     → WritesSoFar old mid (run_frames runs) (run_frames (drop at runs)) → AddsEntriesBefore mid new r.0 (journal_of r) → AddsRunsBefore old new runs
 stops_in_runs old mid new runs at r within is w then =

@@ -9,6 +9,7 @@
 //! whether a worker does anything.
 #![tactic(auto)]
 
+mod counting;
 mod desk;
 mod end;
 mod feeding;

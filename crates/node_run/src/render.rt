@@ -6,8 +6,9 @@ ghost use Rattle.std.specs.Thread.{IsSync};
 ghost use Rattle.reply_frames.specs.Replies.{entry_length};
 ghost use Rattle.node_run.specs.Frames.{journal_frames, parts_together};
 
+use crate::counting::frame_count;
 use plain_data::Items;
-use reply_frames::{frame_count, frames_of};
+use reply_frames::frames_of;
 use session_core::{Ask, Entry, Reply};
 use std::alloc::{AllocError, Global};
 use std::thread::{Threads, join};

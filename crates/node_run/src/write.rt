@@ -261,15 +261,14 @@ fn write_journal<K: Sink, R: Threads + Sync>(
     ensures memory { result ≡ Err WriteFault.OutOfMemory → AddsEntriesBefore (K.written sink.old) (K.written sink.new) kernel entries.now }
     ensures faults_stay { K.faults sink.old ≤ K.faults sink.new }
 {
-    let mut at = 0;
+    let mut rest = entries;
     let mut running = 1;
-    while at < entries.len() {
-        let rest = &entries[at..];
-        let count = batch_len(rest);
-        match write_batch(rt, alloc, sink, kernel, running, &rest[..count]) {
+    while !rest.is_empty() {
+        let (batch, more) = rest.split_at(batch_len(rest));
+        match write_batch(rt, alloc, sink, kernel, running, batch) {
             Ok(next) => {
                 running = next;
-                at += count;
+                rest = more;
             }
             Err(fault) => return Err(fault),
         }

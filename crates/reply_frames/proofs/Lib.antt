@@ -3,4 +3,3 @@ pub mod Saying
 pub mod Floats
 pub mod Chunking
 pub mod Telling
-pub mod Counting

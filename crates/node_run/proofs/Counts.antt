@@ -1,5 +1,6 @@
 -- How many messages tell an entry.
-use Rattle.std.proofs.Common.{◌≡◌, ℕ, suc, ◌+◌, ◌<◌, ◌≤◌, List, [], ◌∷◌, ◌++◌, length, take, drop, refl, ap, sym, ◌∙◌, arith, append-nil, codes}
+use Prim.Native.Nat.{zero, suc}
+use Rattle.std.proofs.Common.{◌≡◌, ℕ, ◌+◌, ◌<◌, ◌≤◌, List, [], ◌∷◌, ◌++◌, length, take, drop, refl, ap, sym, ◌∙◌, arith, append-nil, codes}
 use Rattle.std.specs.Prelude.{map, false, Option}
 use Rattle.std.proofs.lemmas.List.{length-append, length-map, append_cancel_left, take-append-drop, drop_all}
 use Rattle.plain_data.specs.Cuts.{pieces, prefix_within, cut_within}
@@ -14,6 +15,12 @@ use Rattle.reply_frames.specs.declared.lists.Listing.TheVariants as listing
 use Rattle.reply_frames.specs.Messages.{Said, streams, stream, idle}
 use Rattle.reply_frames.specs.Replies as spec
 use Rattle.reply_frames.specs.Replies.{chunks, listed, lists, between}
+
+pub some_there : (n : ℕ) → false ≡ (n == 0) → 0 < n
+some_there n e = grind (arith, nat_tests)
+
+pub none_there : (n : ℕ) → true ≡ (n == 0) → n ≡ 0
+none_there n e = grind (arith, nat_tests)
 
 -- ---- printed text
 
@@ -82,8 +89,7 @@ pub adopted_counted : (request : Request) (from to objects : ℕ) (c : Certified
     → ((which : Listing) (ds : List Data) → length ds ≡ s → length (lists which ds) ≡ p)
     → ((which : Listing) (ds : List Data) → length ds ≡ length c.arcs → length (lists which ds) ≡ f)
     → n ≡ (p + f) + 3 → n ≡ length (between (spec.adopted_said request from to c objects))
-unfolding spec.adopted_said
-unfolding spec.steps
+unfolding spec.adopted_said spec.steps
 adopted_counted request from to objects c s p f n is_s are_p are_f is_n =
     let reply = spec.move_reply request (spec.moved_content from to c objects) in
     let steps = spec.steps c.plan in

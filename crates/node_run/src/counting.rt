@@ -44,7 +44,7 @@ fn count_list(items: usize) -> Option<u64>
 }
 
 /// How many messages tell how a cell ended.
-#[tactic(auto, unfolding(crate::specs::Replies::outcome))]
+#[tactic(auto, unfolding(reply_frames::specs::Replies::outcome))]
 fn count_outcome(shown: &Option<Text>, failure: &Option<Failure>) -> u64
     ensures is { (count : ℕ) → result ≡ length (spec.outcome count shown.now failure.now) }
     ensures small { result ≤ 1 }
@@ -68,7 +68,7 @@ fn count_cell(printed: &Text, shown: &Option<Text>, failure: &Option<Failure>) -
 }
 
 /// How many frames tell what a session answered.
-#[tactic(auto, unfolding(crate::specs::Replies::ran_said, crate::specs::Replies::cell_said))]
+#[tactic(auto, unfolding(reply_frames::specs::Replies::ran_said, reply_frames::specs::Replies::cell_said), using(crate::proofs::Counts::between_counted))]
 fn count_ran(reply: &Reply) -> Option<u64>
     ensures { IfSome result (λ n. (request : Request) → n ≡ length (spec.between (spec.ran_said request reply.now))) }
 {
@@ -101,7 +101,7 @@ fn count_adopted(certified: &Certified) -> Option<u64>
 }
 
 /// How many frames tell an entry. None if it has a text or a list that several of them tell, which aren't counted here.
-#[tactic(auto, unfolding(crate::specs::Replies::answer_of, crate::specs::Replies::failed_said))]
+#[tactic(auto, unfolding(reply_frames::specs::Replies::answer_of, reply_frames::specs::Replies::failed_said))]
 pub fn frame_count(entry: &Entry) -> Option<u64>
     ensures { IfSome result (λ count. count ≡ spec.entry_length entry.now) }
 {

@@ -1,0 +1,68 @@
+-- The entries of a journal, told in batches.
+use Rattle.std.proofs.Common.{◌≡◌, ℕ, ◌+◌, List, [], ◌∷◌, ◌++◌, append_assoc, append-nil, Option, refl, ap, sym, ◌∙◌, subst, arith}
+use Rattle.std.specs.List.{sum_by}
+use Rattle.std.proofs.lemmas.List.Sums.{sum_by-append}
+use Rattle.nb_outside.specs.Streams.{Adds}
+use Rattle.session_core.specs.declared.entry.Entry.{Entry}
+use Rattle.reply_frames.specs.Replies.{entry_length}
+use Rattle.node_run.specs.Frames.{journal_frames, AddsFront, AddsEntriesFrom, AddsEntriesBefore}
+use Rattle.node_run.proofs.Streaming.{Adds-none, Adds-both, front_first, front_second}
+use Rattle.node_run.proofs.Framing.{entry_end}
+use Rattle.node_run.proofs.Stopping.{entries_append}
+
+-- the first entries are told, and this is the number of the next frame
+pub record Told (old now : Option (List ℕ)) (kernel running : ℕ) (entries rest : List Entry) : Type 0 where
+  pub done : List Entry
+  pub parts : entries ≡ done ++ rest
+  pub number : running ≡ 1 + sum_by entry_length done
+  pub adds : Adds old now (journal_frames kernel 1 done)
+
+pub none_told : (old : Option (List ℕ)) (kernel : ℕ) (entries : List Entry) → Told old old kernel 1 entries entries
+none_told old kernel entries = record {
+  done = [];
+  parts = refl;
+  number = refl;
+  adds = subst (Adds old old) (sym (entry_end kernel 1)) (Adds-none old);
+}
+
+-- the frames of the entries told, and those of some more
+both_frames : (kernel running : ℕ) (done batch : List Entry) → running ≡ 1 + sum_by entry_length done → journal_frames kernel 1 (done ++ batch) ≡ journal_frames kernel 1 done ++ journal_frames kernel running batch
+both_frames kernel running done batch number = entries_append kernel 1 done batch ∙ ap (λ (k : ℕ). journal_frames kernel 1 done ++ journal_frames kernel k batch) (sym number)
+
+pub more_told : (old mid new : Option (List ℕ)) (kernel running next : ℕ) (entries rest batch more : List Entry) → Told old mid kernel running entries rest → rest ≡ batch ++ more
+    → next ≡ running + sum_by entry_length batch → Adds mid new (journal_frames kernel running batch) → Told old new kernel next entries more
+more_told old mid new kernel running next entries rest batch more t is after adds =
+    let sums = sum_by-append entry_length t.done batch in
+    record {
+      done = t.done ++ batch;
+      parts = t.parts ∙ ap (λ es. t.done ++ es) is ∙ sym (append_assoc t.done batch more);
+      number = omega (arith, t.number, after, sums);
+      adds = subst (Adds old new) (sym (both_frames kernel running t.done batch t.number)) (Adds-both old mid new (journal_frames kernel 1 t.done) (journal_frames kernel running batch) t.adds adds);
+    }
+
+pub all_told : (old now : Option (List ℕ)) (kernel running : ℕ) (entries rest : List Entry) → Told old now kernel running entries rest → rest ≡ [] → Adds old now (journal_frames kernel 1 entries)
+all_told old now kernel running entries rest t none =
+    let all : t.done ≡ entries = sym (t.parts ∙ ap (λ es. t.done ++ es) none ∙ append-nil t.done) in
+    subst (λ es. Adds old now (journal_frames kernel 1 es)) all t.adds
+
+-- of a batch only the first bytes are written
+pub front_told : (old mid new : Option (List ℕ)) (kernel running : ℕ) (entries rest batch more : List Entry) → Told old mid kernel running entries rest → rest ≡ batch ++ more
+    → AddsFront mid new (journal_frames kernel running batch) → AddsFront old new (journal_frames kernel 1 entries)
+front_told old mid new kernel running entries rest batch more t is front =
+    let first = front_second old mid new (journal_frames kernel 1 t.done) (journal_frames kernel running batch) t.adds front in
+    let next : ℕ = 1 + sum_by entry_length (t.done ++ batch) in
+    let all = front_first old new (journal_frames kernel 1 t.done ++ journal_frames kernel running batch) (journal_frames kernel next more) first in
+    let parts = t.parts ∙ ap (λ es. t.done ++ es) is ∙ sym (append_assoc t.done batch more) in
+    subst (AddsFront old new) (sym (ap (journal_frames kernel 1) parts ∙ both_frames kernel next (t.done ++ batch) more refl
+    ∙ ap (λ bytes. bytes ++ journal_frames kernel next more) (both_frames kernel running t.done batch t.number))) all
+
+-- memory runs out at an entry of a batch
+pub before_told : (old mid new : Option (List ℕ)) (kernel running : ℕ) (entries rest batch more : List Entry) → Told old mid kernel running entries rest → rest ≡ batch ++ more
+    → AddsEntriesFrom mid new kernel running batch → AddsEntriesBefore old new kernel entries
+before_told old mid new kernel running entries rest batch more t is s = record {
+  before = t.done ++ s.before;
+  failed = s.failed;
+  later = s.later ++ more;
+  parts = t.parts ∙ ap (λ es. t.done ++ es) (is ∙ ap (λ es. es ++ more) s.parts ∙ append_assoc s.before (s.failed ∷ s.later) more) ∙ sym (append_assoc t.done s.before (s.failed ∷ (s.later ++ more)));
+  adds = subst (Adds old new) (sym (both_frames kernel running t.done s.before t.number)) (Adds-both old mid new (journal_frames kernel 1 t.done) (journal_frames kernel running s.before) t.adds s.adds);
+}
