@@ -2,10 +2,11 @@
 use Rattle.std.proofs.Common.{◌≡◌, ℕ, ◌+◌, List, [], ◌∷◌, ◌++◌, append_assoc, append-nil, Option, refl, ap, sym, ◌∙◌, subst, arith}
 use Rattle.std.specs.List.{sum_by}
 use Rattle.std.proofs.lemmas.List.Sums.{sum_by-append}
+use Rattle.std.proofs.lemmas.Grind.{flat_map-append}
 use Rattle.nb_outside.specs.Streams.{Adds}
 use Rattle.session_core.specs.declared.entry.Entry.{Entry}
 use Rattle.reply_frames.specs.Replies.{entry_length}
-use Rattle.node_run.specs.Frames.{journal_frames, AddsFront, AddsEntriesFrom, AddsEntriesBefore}
+use Rattle.node_run.specs.Frames.{journal_frames, parts_together, AddsFront, AddsEntriesFrom, AddsEntriesBefore}
 use Rattle.node_run.proofs.Streaming.{Adds-none, Adds-both, front_first, front_second}
 use Rattle.node_run.proofs.Framing.{entry_end}
 use Rattle.node_run.proofs.Stopping.{entries_append}
@@ -66,3 +67,22 @@ before_told old mid new kernel running entries rest batch more t is s = record {
   parts = t.parts ∙ ap (λ es. t.done ++ es) (is ∙ ap (λ es. es ++ more) s.parts ∙ append_assoc s.before (s.failed ∷ s.later) more) ∙ sym (append_assoc t.done s.before (s.failed ∷ (s.later ++ more)));
   adds = subst (Adds old new) (sym (both_frames kernel running t.done s.before t.number)) (Adds-both old mid new (journal_frames kernel 1 t.done) (journal_frames kernel running s.before) t.adds s.adds);
 }
+
+-- ---- frames that are made one after the other
+
+pub rendered_none : (all bytes : List ℕ) → bytes ≡ [] → all ≡ bytes ++ all
+rendered_none all bytes none = ap (λ z. z ++ all) (sym none)
+
+pub rendered_on : (all bytes now rest piece more : List ℕ) → all ≡ bytes ++ rest → rest ≡ piece ++ more → now ≡ bytes ++ piece → all ≡ now ++ more
+rendered_on all bytes now rest piece more is next then = is ∙ ap (λ z. bytes ++ z) next ∙ sym (append_assoc bytes piece more) ∙ ap (λ z. z ++ more) (sym then)
+
+pub rendered_all : (all bytes rest : List ℕ) → all ≡ bytes ++ rest → rest ≡ [] → bytes ≡ all
+rendered_all all bytes rest is none = sym (is ∙ ap (λ z. bytes ++ z) none ∙ append-nil bytes)
+
+-- the frames of both parts, in parts
+pub parts_both : (kernel first middle : ℕ) (entries front back : List Entry) (made more all : List (List ℕ)) → entries ≡ front ++ back → middle ≡ first + sum_by entry_length front
+    → parts_together made ≡ journal_frames kernel first front → parts_together more ≡ journal_frames kernel middle back → all ≡ made ++ more
+    → parts_together all ≡ journal_frames kernel first entries
+parts_both kernel first middle entries front back made more all halves number is_made is_more is_all =
+    ap parts_together is_all ∙ flat_map-append (λ part. part) made more ∙ ap (λ z. z ++ parts_together more) is_made ∙ ap (λ z. journal_frames kernel first front ++ z) is_more
+    ∙ ap (λ (n : ℕ). journal_frames kernel first front ++ journal_frames kernel n back) number ∙ sym (entries_append kernel first front back) ∙ ap (journal_frames kernel first) (sym halves)

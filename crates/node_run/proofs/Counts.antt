@@ -1,7 +1,8 @@
 -- How many messages tell an entry.
 use Prim.Native.Nat.{zero, suc}
 use Rattle.std.proofs.Common.{◌≡◌, ℕ, ◌+◌, ◌<◌, ◌≤◌, List, [], ◌∷◌, ◌++◌, length, take, drop, refl, ap, sym, ◌∙◌, arith, append-nil, codes}
-use Rattle.std.specs.Prelude.{map, false, Option}
+use Rattle.std.specs.Prelude.{map, true, false, Option, ◌==◌}
+use Rattle.std.proofs.lemmas.Bool.Decides.{nat_tests}
 use Rattle.std.proofs.lemmas.List.{length-append, length-map, append_cancel_left, take-append-drop, drop_all}
 use Rattle.plain_data.specs.Cuts.{pieces, prefix_within, cut_within}
 use Rattle.plain_data.proofs.Near.{cut_whole}

@@ -14,7 +14,6 @@ mod desk;
 mod end;
 mod feeding;
 mod finishing;
-mod letting_go;
 mod open_session;
 mod render;
 mod run;

@@ -13,7 +13,6 @@ ghost use Rattle.node_run.specs.Streams.{HasRun, StreamsTold, IsStatus};
 use crate::end::RunEnd;
 use crate::feeding::{FedIn, feed_workers};
 use crate::finishing::{discard, finish_all};
-use crate::letting_go::{HALVINGS, let_go};
 use crate::write::{WriteFault, write_all_frames};
 use command_words::status;
 use host_workers::{Gate, Hosts};
@@ -251,11 +250,7 @@ where
             ran.errors.as_slice(),
             ran.runs.as_slice(),
         ) {
-            Ok(()) => {
-                let status = status_of(ran.end);
-                let_go(rt, ran.runs, HALVINGS);
-                status
-            }
+            Ok(()) => status_of(ran.end),
             Err(WriteFault::Sink) => status::SINK_FAULT,
             Err(WriteFault::OutOfMemory) => status::OUT_OF_MEMORY,
         },
