@@ -68,6 +68,46 @@ before_told old mid new kernel running entries rest batch more t is s = record {
   adds = subst (Adds old new) (sym (both_frames kernel running t.done s.before t.number)) (Adds-both old mid new (journal_frames kernel 1 t.done) (journal_frames kernel running s.before) t.adds s.adds);
 }
 
+-- parts that were made and not yet written are the frames of the next entries, and this is the number of the frame after them
+pub record Waits (old now : Option (List ℕ)) (kernel running : ℕ) (entries rest : List Entry) (parts : List (List ℕ)) : Type 0 where
+  pub batch : List Entry
+  pub first : ℕ
+  pub told : Told old now kernel first entries (batch ++ rest)
+  pub frames : parts_together parts ≡ journal_frames kernel first batch
+  pub number : running ≡ first + sum_by entry_length batch
+
+-- none waits
+pub none_waits : (old now : Option (List ℕ)) (kernel running : ℕ) (entries rest : List Entry) (parts : List (List ℕ)) → parts ≡ [] → Told old now kernel running entries rest → Waits old now kernel running entries rest parts
+none_waits old now kernel running entries rest parts none t = record {
+  batch = [];
+  first = running;
+  told = t;
+  frames = ap parts_together none ∙ sym (entry_end kernel running);
+  number = omega arith;
+}
+
+-- those that waited are written
+pub waited_told : (old mid new : Option (List ℕ)) (kernel running : ℕ) (entries rest : List Entry) (parts : List (List ℕ)) → Waits old mid kernel running entries rest parts → Adds mid new (parts_together parts)
+    → Told old new kernel running entries rest
+waited_told old mid new kernel running entries rest parts w adds =
+    more_told old mid new kernel w.first running entries (w.batch ++ rest) w.batch rest w.told refl w.number (subst (Adds mid new) w.frames adds)
+
+pub waited_front : (old mid new : Option (List ℕ)) (kernel running : ℕ) (entries rest : List Entry) (parts : List (List ℕ)) → Waits old mid kernel running entries rest parts → AddsFront mid new (parts_together parts)
+    → AddsFront old new (journal_frames kernel 1 entries)
+waited_front old mid new kernel running entries rest parts w front =
+    front_told old mid new kernel w.first entries (w.batch ++ rest) w.batch rest w.told refl (subst (AddsFront mid new) w.frames front)
+
+-- and the next wait
+pub next_waits : (old now : Option (List ℕ)) (kernel running next : ℕ) (entries rest batch more : List Entry) (parts : List (List ℕ)) → Told old now kernel running entries rest → rest ≡ batch ++ more
+    → parts_together parts ≡ journal_frames kernel running batch → next ≡ running + sum_by entry_length batch → Waits old now kernel next entries more parts
+next_waits old now kernel running next entries rest batch more parts t is frames number = record {
+  batch = batch;
+  first = running;
+  told = subst (Told old now kernel running entries) is t;
+  frames = frames;
+  number = number;
+}
+
 -- ---- frames that are made one after the other
 
 pub rendered_none : (all bytes : List ℕ) → bytes ≡ [] → all ≡ bytes ++ all

@@ -14,13 +14,13 @@ use std::alloc::{AllocError, Global};
 use std::thread::{Threads, join};
 
 /// The frames of fewer entries than these are made by one thread: to make a thread costs about as much as to tell five.
-const FEW: usize = 48;
+pub const FEW: usize = 48;
 
 /// How often many entries are halved: each half of a half goes to a thread of its own.
-pub const HALVINGS: u32 = 2;
+const HALVINGS: u32 = 2;
 
 /// About how many bytes the frames of the entries have that are told at once.
-const MOST_BYTES: usize = 8_388_608;
+const MOST_BYTES: usize = 2_097_152;
 
 /// About how many bytes the frames of an entry have besides its longest texts.
 const ROUND: usize = 2_048;
@@ -63,7 +63,7 @@ pub fn batch_len(entries: &[Entry]) -> usize
 }
 
 /// The running number after the frames of these entries, if they are counted at once.
-pub fn number_after(first: u64, entries: &[Entry]) -> Option<u64>
+fn number_after(first: u64, entries: &[Entry]) -> Option<u64>
     ensures { IfSome result (λ next. next ≡ first + sum_by entry_length entries.now) }
 {
     let mut next = first;
@@ -110,7 +110,7 @@ fn one_part(
 
 /// The frames of these entries of a kernel's journal, with running numbers from this one on, in parts. If there are many, each half
 /// is made by a thread of its own, so often halved again.
-pub fn render<R: Threads + Sync>(
+fn render<R: Threads + Sync>(
     rt: &R,
     alloc: Global,
     kernel: u128,
@@ -140,4 +140,30 @@ pub fn render<R: Threads + Sync>(
     let mut rest = more?;
     parts.append(&mut rest)?;
     Ok(parts)
+}
+
+/// The frames of a batch of entries, in parts.
+#[derive(Drop)]
+pub struct Made {
+    pub parts: Vec<Items<u8>>,
+    /// The running number after theirs.
+    pub next: u64,
+}
+
+/// The frames of these entries of a kernel's journal, with running numbers from this one on, made by threads. None if they aren't counted,
+/// or memory doesn't suffice for all at once.
+pub fn make_batch<R: Threads + Sync>(
+    rt: &R,
+    alloc: Global,
+    kernel: u128,
+    first: u64,
+    entries: &[Entry],
+) -> Option<Made>
+    ensures { IfSome result (λ made. (parts_together made.parts.items ≡ journal_frames kernel first entries.now) × (made.next ≡ first + sum_by entry_length entries.now)) }
+{
+    let next = number_after(first, entries)?;
+    match render(rt, alloc, kernel, first, entries, HALVINGS) {
+        Ok(parts) => Some(Made { parts, next }),
+        Err(_) => None,
+    }
 }

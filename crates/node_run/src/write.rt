@@ -1,14 +1,15 @@
 //! The frames of errors and journals, written one after the other.
 
-ghost use Rattle.std.specs.Prelude.{◌≡◌, ◌≢◌, ◌+◌, ◌≤◌, ◌++◌, [], Err, IfOk, OnOk, OnErr};
+ghost use Rattle.std.specs.Prelude.{◌≡◌, ◌≢◌, ◌+◌, ◌≤◌, ◌++◌, [], Err, IfOk, IfSome, OnOk, OnErr};
 ghost use Rattle.std.specs.List.{sum_by};
+ghost use Rattle.std.specs.Thread.{IsSync};
 ghost use Rattle.nb_outside.specs.Counts.{HasRisen};
 ghost use Rattle.nb_outside.specs.Streams.{Adds};
 ghost use Rattle.reply_frames.specs.Nodes.{frame_of};
 ghost use Rattle.reply_frames.specs.Replies.{entry_frames, entry_length};
 ghost use Rattle.node_run.specs.Frames.{AddsFront, AddsErrorsBefore, AddsEntriesFrom, AddsEntriesBefore, parts_together, AddsRunsBefore, AddsServedBefore, WritesSoFar, error_frames, journal_frames, run_frames};
 
-use crate::render::{HALVINGS, batch_len, number_after, render};
+use crate::render::{FEW, Made, batch_len, make_batch};
 use crate::streams::write_all;
 use nb_outside::Sink;
 use plain_data::Items;
@@ -17,7 +18,7 @@ use session_core::{Alone, Engine, Entry};
 use std::alloc::Global;
 use std::error::Error;
 use std::fmt;
-use std::thread::Threads;
+use std::thread::{Threads, join_mut};
 
 /// Why writing ended early.
 #[derive(Clone, Copy, Debug, PartialEq, Eq)]
@@ -218,33 +219,83 @@ fn send_parts<K: Sink>(sink: &mut K, parts: &[Items<u8>]) -> Result<(), WriteFau
     Ok(())
 }
 
-/// Writes the frames of these entries of a kernel's journal, with running numbers from this one on, and gives the next number. Threads
-/// make them, if they are counted and memory suffices for all at once; else one entry's come after the other's.
-fn write_batch<K: Sink, R: Threads + Sync>(
+/// Writes parts that were made, while threads make the frames of these entries of a kernel's journal, with running numbers from this one
+/// on. Gives them with the next number. None if they aren't counted, or memory doesn't suffice for all at once.
+fn write_beside<K: Sink, R: Threads + Sync>(
+    rt: &R,
+    alloc: Global,
+    sink: &mut K,
+    parts: &[Items<u8>],
+    kernel: u128,
+    first: u64,
+    entries: &[Entry],
+) -> (Result<(), WriteFault>, Option<Made>)
+    ensures ok { OnOk result.0 (Adds (K.written sink.old) (K.written sink.new) (parts_together parts.now)) }
+    ensures err { OnErr result.0 (AddsFront (K.written sink.old) (K.written sink.new) (parts_together parts.now)) }
+    ensures fault { result.0 ≡ Err WriteFault.Sink → HasRisen (K.faults sink.old) (K.faults sink.new) }
+    ensures memory { result.0 ≢ Err WriteFault.OutOfMemory }
+    ensures faults_stay { K.faults sink.old ≤ K.faults sink.new }
+    ensures made { IfSome result.1 (λ made. (parts_together made.parts.items ≡ journal_frames kernel first entries.now) × (made.next ≡ first + sum_by entry_length entries.now)) }
+{
+    let (made, sent) = join_mut(
+        rt,
+        &mut || -> Option<Made>
+            requires { IsSync R.row }
+            ensures { IfSome result (λ made. (parts_together made.parts.items ≡ journal_frames kernel first entries.entry.now) × (made.next ≡ first + sum_by entry_length entries.entry.now)) }
+        { make_batch(rt, alloc, kernel, first, entries) },
+        &mut || -> Result<(), WriteFault>
+            ensures ok { OnOk result (Adds (K.written sink.entry.now) (K.written sink.exit.now) (parts_together parts.entry.now)) }
+            ensures err { OnErr result (AddsFront (K.written sink.entry.now) (K.written sink.exit.now) (parts_together parts.entry.now)) }
+            ensures fault { result ≡ Err WriteFault.Sink → HasRisen (K.faults sink.entry.now) (K.faults sink.exit.now) }
+            ensures memory { result ≢ Err WriteFault.OutOfMemory }
+            ensures faults_stay { K.faults sink.entry.now ≤ K.faults sink.exit.now }
+        { send_parts(sink, parts) },
+    );
+    (sent, made)
+}
+
+/// Writes the frames of a kernel's journal, numbered from 1: those of a batch of entries while threads make those of the next.
+fn write_batches<K: Sink, R: Threads + Sync>(
     rt: &R,
     alloc: Global,
     sink: &mut K,
     kernel: u128,
-    first: u64,
     entries: &[Entry],
-) -> Result<u64, WriteFault>
-    ensures next { IfOk result (λ next. next ≡ first + sum_by entry_length entries.now) }
-    ensures ok { OnOk result (Adds (K.written sink.old) (K.written sink.new) (journal_frames kernel first entries.now)) }
-    ensures err { OnErr result (AddsFront (K.written sink.old) (K.written sink.new) (journal_frames kernel first entries.now)) }
+) -> Result<(), WriteFault>
+    ensures ok { OnOk result (Adds (K.written sink.old) (K.written sink.new) (journal_frames kernel 1 entries.now)) }
+    ensures err { OnErr result (AddsFront (K.written sink.old) (K.written sink.new) (journal_frames kernel 1 entries.now)) }
     ensures fault { result ≡ Err WriteFault.Sink → HasRisen (K.faults sink.old) (K.faults sink.new) }
-    ensures memory { result ≡ Err WriteFault.OutOfMemory → AddsEntriesFrom (K.written sink.old) (K.written sink.new) kernel first entries.now }
+    ensures memory { result ≡ Err WriteFault.OutOfMemory → AddsEntriesBefore (K.written sink.old) (K.written sink.new) kernel entries.now }
     ensures faults_stay { K.faults sink.old ≤ K.faults sink.new }
 {
-    let Some(next) = number_after(first, entries) else {
-        return write_in_turn(alloc, sink, kernel, first, entries);
-    };
-    let Ok(parts) = render(rt, alloc, kernel, first, entries, HALVINGS) else {
-        return write_in_turn(alloc, sink, kernel, first, entries);
-    };
-    match send_parts(sink, parts.as_slice()) {
-        Ok(()) => Ok(next),
-        Err(fault) => Err(fault),
+    let mut parts = Vec::new(alloc);
+    let mut running = 1;
+    let mut rest = entries;
+    while !rest.is_empty() {
+        let (batch, more) = rest.split_at(batch_len(rest));
+        let (sent, made) = write_beside(
+            rt, alloc, sink, parts.as_slice(), kernel, running, batch,
+        );
+        match sent {
+            Ok(()) => {}
+            Err(fault) => return Err(fault),
+        }
+        match made {
+            Some(made) => {
+                parts = made.parts;
+                running = made.next;
+            }
+            None => {
+                parts = Vec::new(alloc);
+                match write_in_turn(alloc, sink, kernel, running, batch) {
+                    Ok(next) => running = next,
+                    Err(fault) => return Err(fault),
+                }
+            }
+        }
+        rest = more;
     }
+    send_parts(sink, parts.as_slice())
 }
 
 /// Writes the frames of a kernel's journal, numbered from 1.
@@ -261,19 +312,13 @@ fn write_journal<K: Sink, R: Threads + Sync>(
     ensures memory { result ≡ Err WriteFault.OutOfMemory → AddsEntriesBefore (K.written sink.old) (K.written sink.new) kernel entries.now }
     ensures faults_stay { K.faults sink.old ≤ K.faults sink.new }
 {
-    let mut rest = entries;
-    let mut running = 1;
-    while !rest.is_empty() {
-        let (batch, more) = rest.split_at(batch_len(rest));
-        match write_batch(rt, alloc, sink, kernel, running, batch) {
-            Ok(next) => {
-                running = next;
-                rest = more;
-            }
-            Err(fault) => return Err(fault),
-        }
+    if FEW <= entries.len() {
+        return write_batches(rt, alloc, sink, kernel, entries);
     }
-    Ok(())
+    match write_in_turn(alloc, sink, kernel, 1, entries) {
+        Ok(_) => Ok(()),
+        Err(fault) => Err(fault),
+    }
 }
 
 /// Writes the frames of each session's journal, numbered from 1.
