@@ -41,6 +41,7 @@ fn read_in_turn(alloc: Global, bodies: &[Items<u8>]) -> Result<Vec<Read>, AllocE
 }
 
 /// Reads bodies. If there are many, each half is read by a thread of its own, so often halved again.
+#[cycle(halves)]
 pub fn read_bodies<R: Threads + Sync>(
     rt: &R,
     alloc: Global,

@@ -1,8 +1,9 @@
 -- The entries of a journal, told in batches.
-use Rattle.std.proofs.Common.{◌≡◌, ℕ, ◌+◌, List, [], ◌∷◌, ◌++◌, append_assoc, append-nil, Option, refl, ap, sym, ◌∙◌, subst, arith}
+use Rattle.std.proofs.Common.{◌≡◌, ℕ, ◌+◌, List, [], ◌∷◌, ◌++◌, append_assoc, append-nil, take, drop, Option, refl, ap, sym, ◌∙◌, subst, arith}
 use Rattle.std.specs.List.{sum_by}
 use Rattle.std.proofs.lemmas.List.Sums.{sum_by-append}
 use Rattle.std.proofs.lemmas.Grind.{flat_map-append}
+use Rattle.std.proofs.lemmas.List.{take-append-drop}
 use Rattle.nb_outside.specs.Streams.{Adds}
 use Rattle.session_core.specs.declared.entry.Entry.{Entry}
 use Rattle.reply_frames.specs.Replies.{entry_length}
@@ -10,6 +11,10 @@ use Rattle.node_run.specs.Frames.{journal_frames, parts_together, AddsFront, Add
 use Rattle.node_run.proofs.Streaming.{Adds-none, Adds-both, front_first, front_second}
 use Rattle.node_run.proofs.Framing.{entry_end}
 use Rattle.node_run.proofs.Stopping.{entries_append}
+
+-- a list, cut in two
+pub halves : (k : ℕ) (rest batch more : List Entry) → batch ≡ take k rest → more ≡ drop k rest → rest ≡ batch ++ more
+halves k rest batch more front back = sym (ap (λ es. es ++ more) front ∙ ap (λ es. take k rest ++ es) back ∙ take-append-drop k rest)
 
 -- the first entries are told, and this is the number of the next frame
 pub record Told (old now : Option (List ℕ)) (kernel running : ℕ) (entries rest : List Entry) : Type 0 where

@@ -110,6 +110,7 @@ fn one_part(
 
 /// The frames of these entries of a kernel's journal, with running numbers from this one on, in parts. If there are many, each half
 /// is made by a thread of its own, so often halved again.
+#[cycle(halves)]
 fn render<R: Threads + Sync>(
     rt: &R,
     alloc: Global,

@@ -288,7 +288,7 @@ fn write_batches<K: Sink, R: Threads + Sync>(
             None => {
                 parts = Vec::new(alloc);
                 match write_in_turn(alloc, sink, kernel, running, batch) {
-                    Ok(next) => running = next,
+                    Ok(after) => running = after,
                     Err(fault) => return Err(fault),
                 }
             }

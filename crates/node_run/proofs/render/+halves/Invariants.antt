@@ -1,6 +1,6 @@
 use Prim.Native.Nat.{◌*◌}
 use Rattle.std.proofs.Common.{◌-◌}
-use Rattle.node_run.proofs.render.+render.Given as goal
+use Rattle.node_run.proofs.render.+halves.Given as goal
 
 abbrev pub decreases-render : goal.decreases-render
 decreases-render g l = 2 * l.halvings

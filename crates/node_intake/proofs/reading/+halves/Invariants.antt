@@ -1,6 +1,6 @@
 use Prim.Native.Nat.{◌*◌}
 use Rattle.std.proofs.Common.{◌-◌}
-use Rattle.node_intake.proofs.reading.+read_bodies.Given as goal
+use Rattle.node_intake.proofs.reading.+halves.Given as goal
 
 abbrev pub decreases-read_bodies : goal.decreases-read_bodies
 decreases-read_bodies g l = 2 * l.halvings
