@@ -131,3 +131,7 @@ pub parts_both : (kernel first middle : ℕ) (entries front back : List Entry) (
 parts_both kernel first middle entries front back made more all halves number is_made is_more is_all =
     ap parts_together is_all ∙ flat_map-append (λ part. part) made more ∙ ap (λ z. z ++ parts_together more) is_made ∙ ap (λ z. journal_frames kernel first front ++ z) is_more
     ∙ ap (λ (n : ℕ). journal_frames kernel first front ++ journal_frames kernel n back) number ∙ sym (entries_append kernel first front back) ∙ ap (journal_frames kernel first) (sym halves)
+
+-- one part alone
+pub one_together : (bytes : List ℕ) (none parts : List (List ℕ)) → none ≡ [] → parts ≡ none ++ bytes ∷ [] → parts_together parts ≡ bytes
+one_together bytes none parts empty is = ap parts_together (is ∙ ap (λ ps. ps ++ bytes ∷ []) empty) ∙ append-nil bytes

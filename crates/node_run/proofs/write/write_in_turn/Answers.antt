@@ -29,8 +29,15 @@ loop-entry-preserved g c = (
       omega (arith, c.in-Ok.ensures.next, c.loop-entry.invariant.2, more, one)),
 )
 
+-- (`let rest` and the lemmas are those of main's `write_journal`)
 pub returns-in-Ok-flush-clause-ok : goal.returns-in-Ok-flush-clause-ok
-returns-in-Ok-flush-clause-ok g c = c.hole
+returns-in-Ok-flush-clause-ok g c =
+    let rest = journal_frames c.args.kernel c.loop-entry.running (drop c.loop-entry.entry-index c.args.entries.now) in
+    all_written (g.K.Sink.written c.args.sink.now) (g.K.Sink.written c.flush.new.sink) (journal_frames c.args.kernel c.args.first c.args.entries.now) rest
+    (piece_written (g.K.Sink.written c.args.sink.now) (g.K.Sink.written c.loop-entry.sink) (g.K.Sink.written c.flush.new.sink) _ (c.loop-entry.gathered ++ rest) c.loop-entry.gathered rest c.loop-entry.invariant.0 refl c.in-Ok-flush.ensures.ok)
+    (entry_past c.args.kernel c.loop-entry.running c.loop-entry.entry-index c.args.entries.now c.loop-entry-test.false)
 
 pub returns-in-Err-flush-clause-err : goal.returns-in-Err-flush-clause-err
-returns-in-Err-flush-clause-err g c = c.hole
+returns-in-Err-flush-clause-err g c =
+    let rest = journal_frames c.args.kernel c.loop-entry.running (drop c.loop-entry.entry-index c.args.entries.now) in
+    front_written (g.K.Sink.written c.args.sink.now) (g.K.Sink.written c.loop-entry.sink) (g.K.Sink.written c.flush.new.sink) (journal_frames c.args.kernel c.args.first c.args.entries.now) (c.loop-entry.gathered ++ rest) c.loop-entry.gathered rest c.loop-entry.invariant.0 refl c.in-Err-flush.ensures.err
