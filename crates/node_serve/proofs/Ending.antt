@@ -2,7 +2,6 @@
 use Rattle.std.proofs.Common.{◌≡◌, ℕ, ◌≤◌, Bool, true, false, List, [], ◌∷◌, ◌++◌, length, map, take, Option, Result, Ok, Err, Some, None, inl, inr, refl, sym, ap, ◌∙◌, subst, append-nil}
 use Rattle.std.specs.Prelude.{OnOk, MatchResult, is_ok}
 use Rattle.std.specs.List.{AllByRecursion}
-use Rattle.nb_outside.specs.Counts.{HasRisen}
 use Rattle.nb_links.specs.Lines.{Line}
 use Rattle.jupyter_frames.specs.Framing.{IsBody, stream}
 use Rattle.session_core.specs.Meanings.{Meaning}
@@ -23,8 +22,8 @@ use Rattle.node_run.specs.Journals.{Answers, ServedSession, journal_of, journals
 use Rattle.node_run.specs.Streams.{IsNodeOf, HasRun}
 use Rattle.node_run.proofs.Ending.{has_run, node_ended}
 use Rattle.node_serve.specs.declared.report.LinkEnd.{LinkEnd}
-use Rattle.node_serve.specs.declared.report.LinkEnd.TheVariants.{Ended, BadFrame, LinkFault}
-use Rattle.node_serve.specs.Units.{error_units, entry_units, session_units, units_of, read_units, run_units, AllOf, FrontOf}
+use Rattle.node_serve.specs.declared.report.LinkEnd.TheVariants.{LinkFault}
+use Rattle.node_serve.specs.Units.{error_units, entry_units, session_units, units_of, read_units, run_units, FrontOf}
 use Rattle.node_serve.specs.Sent.{Wire, left_of, WentOn, Sends, IsSending, HasSentFront, SendsOn}
 use Rattle.node_serve.specs.Service.{IsEnd, IsFed, IsLeft}
 use Rattle.node_serve.specs.Links.{HasSent, HasServed, AreJournalsSoFar, IsNodeSoFar, HasServedSoFar, link_end_of, IsReported, IsStopped}

@@ -1,5 +1,5 @@
 -- What has begun to be sent can be sent whole.
-use Rattle.std.proofs.Common.{◌≡◌, ◌⊎◌, inl, inr, List, [], ◌∷◌, ◌++◌, refl, sym, ap, ◌∙◌, subst, append_assoc, append-nil}
+use Rattle.std.proofs.Common.{◌≡◌, inl, inr, List, [], ◌∷◌, ◌++◌, refl, sym, subst, append_assoc, append-nil}
 use Rattle.node_serve.specs.Interleaving.{Interleaves, IsPutTo, AreFronts}
 use Rattle.node_serve.proofs.Interleaving.{goes_on}
 

@@ -1,10 +1,10 @@
 -- A link goes on being served.
-use Rattle.std.proofs.Common.{◌≡◌, ℕ, ◌≤◌, Bool, true, false, List, [], ◌∷◌, ◌++◌, length, map, take, Option, Some, None, Result, Ok, Err, inl, inr, refl, sym, ap, ◌∙◌, subst, append_assoc, append-nil, length-append, arith}
-use Rattle.std.specs.Prelude.{IfOk, MatchResult, is_ok}
+use Rattle.std.proofs.Common.{◌≡◌, ℕ, ◌≤◌, Bool, true, false, List, [], ◌∷◌, ◌++◌, length, map, take, Option, Some, None, Result, Ok, Err, inr, refl, sym, ap, ◌∙◌, subst, append_assoc, append-nil, length-append, arith}
+use Rattle.std.specs.Prelude.{MatchResult, is_ok}
 use Rattle.std.specs.List.{flat_map}
 use Rattle.nb_outside.specs.Streams.{IsAtEnd}
 use Rattle.nb_links.specs.Lines.{Line, Gives, IsDone}
-use Rattle.jupyter_frames.specs.Framing.{frame, Held, IsBegun}
+use Rattle.jupyter_frames.specs.Framing.{frame, Held}
 use Rattle.jupyter_frames.specs.Turns.{nothing_held}
 use Rattle.session_queues.specs.declared.shared.SharedQueues.{SharedQueues}
 use Rattle.reply_frames.specs.declared.node.NodeError.{NodeError}
@@ -13,7 +13,7 @@ use Rattle.node_intake.specs.declared.session.IntakeEnd.{IntakeEnd}
 use Rattle.node_intake.specs.declared.session.IntakeEnd.TheVariants as intake
 use Rattle.node_intake.specs.Intake.{Taken, Node, no_sessions, with_frames}
 use Rattle.node_intake.specs.Standing.{StandsFor, HasKept}
-use Rattle.node_intake.specs.Taking.{TookSoFar, TookFront, HasTaken, EndsSo, EndsOrGoesOn, IsPlaceOf}
+use Rattle.node_intake.specs.Taking.{TookSoFar, TookFront, EndsSo, EndsOrGoesOn, IsPlaceOf}
 use Rattle.node_intake.proofs.Taking.{all_taken, from_nothing, front_taken, piece_more}
 use Rattle.node_intake.proofs.Standing.{kept_all as same_kept}
 use Rattle.node_run.specs.declared.open_session.OpenSession.{OpenSession}

@@ -1,5 +1,5 @@
 -- Which unit an error, or an entry that was read, is.
-use Rattle.std.proofs.Common.{◌≡◌, ℕ, zero, suc, ◌+◌, ◌≤◌, ◌<◌, List, [], ◌∷◌, ◌++◌, length, map, take, drop, Option, Some, None, inl, inr, refl, sym, ap, ◌∙◌, subst, append_assoc, append-nil, arith}
+use Rattle.std.proofs.Common.{◌≡◌, ℕ, zero, suc, ◌+◌, ◌≤◌, ◌<◌, List, [], ◌∷◌, ◌++◌, length, map, take, drop, Some, inl, inr, refl, sym, ap, ◌∙◌, subst, append_assoc, append-nil, arith}
 use Rattle.std.specs.Prelude.{slice_get, slice_set}
 use Rattle.std.specs.List.{AllByRecursion}
 use Rattle.std.proofs.lemmas.List.{take-append-drop}
@@ -12,7 +12,7 @@ use Rattle.node_run.specs.declared.open_session.OpenSession.{OpenSession}
 use Rattle.node_run.specs.declared.open_session.NextEntry.{NextEntry}
 use Rattle.node_run.specs.Unsent.{entries_of, read_of, frames_in, IsCounted, AreCounted, IsUnread, AreKept, HasRead, HasNumbered, with_entry}
 use Rattle.node_serve.specs.Interleaving.{IsPutTo, AreFronts}
-use Rattle.node_serve.specs.Units.{error_units, entry_units, number_after, read_units, unit_of, units_so_far}
+use Rattle.node_serve.specs.Units.{error_units, entry_units, number_after, read_units, unit_of}
 use Rattle.node_serve.proofs.Fronts.{fronts_all}
 
 -- ---- errors

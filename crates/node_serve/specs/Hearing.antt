@@ -1,6 +1,5 @@
 -- What is heard of a link.
 use Rattle.std.specs.Prelude.{◌≡◌, ℕ, ◌++◌, List, Option, Some, None}
-use Rattle.nb_outside.specs.Streams.{IsAtEnd}
 use Rattle.jupyter_frames.specs.Framing.{Held, IsBegun, IsBad}
 use Rattle.session_queues.specs.declared.shared.SharedQueues.{SharedQueues}
 use Rattle.node_intake.specs.declared.node.Intake.{Intake}

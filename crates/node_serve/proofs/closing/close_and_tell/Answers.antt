@@ -1,4 +1,4 @@
-use Rattle.std.proofs.Common.{◌≡◌, ◌+◌, ◌≤◌, List, true, false, length, take, refl, sym, ap, ◌∙◌, subst}
+use Rattle.std.proofs.Common.{◌≡◌, ◌+◌, ◌≤◌, List, true, false, length, take, sym, ap, ◌∙◌, subst}
 use Rattle.session_core.specs.declared.entry.Entry.{Entry}
 use Rattle.node_run.specs.Unsent.{read_of, frames_in}
 use Rattle.node_serve.specs.Units.{entry_units, read_units, run_units}

@@ -1,4 +1,4 @@
-use Rattle.std.proofs.Common.{◌≡◌, List, ◌∷◌, map, take, true, false, refl, sym, subst}
+use Rattle.std.proofs.Common.{◌≡◌, List, ◌∷◌, map, take, true, refl, sym, subst}
 use Rattle.node_intake.specs.Intake.{Taken, Node, no_sessions, with_frames}
 use Rattle.node_run.specs.Admitted.{AreOpen}
 use Rattle.node_run.specs.Ends.{errors_after}

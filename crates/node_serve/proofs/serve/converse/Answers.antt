@@ -1,4 +1,4 @@
-use Rattle.std.proofs.Common.{refl, subst, sym}
+use Rattle.std.proofs.Common.{refl, subst}
 use Rattle.node_serve.specs.Sent.{wire}
 use Rattle.node_serve.specs.Service.{IsFed, IsLeft}
 use Rattle.node_serve.proofs.Serving.{first_served}

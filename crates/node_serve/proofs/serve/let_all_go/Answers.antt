@@ -1,4 +1,3 @@
-use Rattle.std.proofs.Common.{false}
 use Rattle.node_serve.specs.Sent.{wire}
 use Rattle.node_serve.proofs.Ending.{stopped_left}
 use Rattle.node_serve.proofs.serve.let_all_go.Goals as goal

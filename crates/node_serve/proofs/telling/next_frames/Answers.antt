@@ -1,4 +1,4 @@
-use Rattle.std.proofs.Common.{◌<◌, length, sym, subst}
+use Rattle.std.proofs.Common.{◌<◌, sym, subst}
 use Rattle.node_run.proofs.Keeping.{alike_read, alike_numbered, alike_on, alike_length}
 use Rattle.node_serve.proofs.Tellings.{next_entry, fronts_read}
 use Rattle.node_serve.proofs.telling.next_frames.Goals as goal

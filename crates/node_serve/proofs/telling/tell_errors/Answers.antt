@@ -1,7 +1,5 @@
 use Rattle.std.proofs.Common.{◌+◌, true, false, refl}
-use Rattle.node_serve.specs.Units.{error_units}
 use Rattle.node_serve.specs.Sent.{wire}
-use Rattle.node_serve.proofs.Sendings.{sends_none}
 use Rattle.node_serve.proofs.Passing.{errors_on, errors_done, errors_short}
 use Rattle.node_serve.proofs.telling.tell_errors.Goals as goal
 

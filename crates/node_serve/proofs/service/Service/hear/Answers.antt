@@ -1,4 +1,4 @@
-use Rattle.std.proofs.Common.{true, false, take, refl, sym, subst}
+use Rattle.std.proofs.Common.{true, take, refl, sym, subst}
 use Rattle.std.specs.Prelude.{MatchResult}
 use Rattle.node_serve.specs.Sent.{wire}
 use Rattle.node_serve.specs.Hearing.{Heeds, HeedsFront}

@@ -1,7 +1,5 @@
 use Rattle.std.proofs.Common.{rules, ◌≡◌, ◌+◌, ◌<◌, true, false, length, get_or, refl, subst, arith}
 use Rattle.node_serve.specs.Sent.{wire}
-use Rattle.node_serve.specs.Units.{error_units}
-use Rattle.node_serve.proofs.Sendings.{sends_none}
 use Rattle.node_serve.proofs.Passing.{errors_on}
 use Rattle.node_serve.proofs.Serving.{error_told, error_cut}
 use Rattle.node_serve.proofs.service.Service.tell_one_error.Goals as goal
