@@ -18,6 +18,28 @@ use std::alloc::Global;
 use std::sync::Wait;
 use std::thread;
 
+/// Takes a session back once the workers have returned, and gives its lease, which has what the pass holds, and owes nothing. What
+/// waits for it is left.
+pub fn take_back<E, F, N, R>(
+    rt: &R,
+    alloc: Global,
+    cell: SessionCell<E, F, N>,
+    pass: Pass,
+) -> Lease<E, F>
+where
+    E: Engine + Drop,
+    F: Feed,
+    N: Name,
+    R: Wait,
+    requires { IsPassOf cell.0 pass }
+    ensures { IsFinished N.hosts cell.0 cell.1 pass N.gives F.seen result }
+{
+    let lease = take_any(rt, alloc, &cell);
+    let lease = cell.gather(rt, lease, pass);
+    lease.is_legal();
+    lease
+}
+
 /// Does what is left of a session once the workers have returned, and gives its lease, which has what the pass holds, and owes
 /// nothing. Whether each of the two queues was found empty then; if not, memory ran out.
 pub fn finish<E, F, N, G, R>(
@@ -37,9 +59,7 @@ where
     ensures finished { IsFinished N.hosts cell.0 cell.1 pass N.gives F.seen result.0 }
     ensures all { result.1 ≡ true → FoundNothing result.0.ends }
 {
-    let lease = take_any(rt, alloc, &cell);
-    let lease = cell.gather(rt, lease, pass);
-    lease.is_legal();
+    let lease = take_back(rt, alloc, cell, pass);
     let (lease, all) = drain(rt, alloc, gate, lease);
     lease.is_legal();
     (lease, all)

@@ -1,5 +1,5 @@
 -- The frames of a stream, put together.
-use Rattle.std.proofs.Common.{◌≡◌, ℕ, suc, ◌+◌, ◌%◌, Bool, true, false, List, [], ◌∷◌, ◌++◌, map, refl, sym, ap, subst, ◌∙◌, arith, append_assoc, append-nil}
+use Rattle.std.proofs.Common.{◌≡◌, ℕ, zero, suc, ◌+◌, ◌%◌, ◌≤◌, Bool, true, false, List, [], ◌∷◌, ◌++◌, map, refl, sym, ap, subst, ◌∙◌, arith, append_assoc, append-nil}
 use Rattle.std.specs.Prelude.{◌==◌, if◌then◌else◌}
 use Rattle.std.specs.List.{flat_map, AllByRecursion}
 use Rattle.std.proofs.lemmas.List.{map-append}
@@ -8,6 +8,7 @@ use Rattle.serde_json.specs.Data.{Data}
 use Rattle.serde_json.specs.Written.{compact_text, has_float}
 use Rattle.jupyter_frames.specs.Framing.{frame, IsBody}
 use Rattle.made_command.specs.Made.{asked, cell, framed, message, moving, opening, sent, stream}
+use Rattle.made_command.proofs.Short.{opening_read, cell_read, move_read}
 
 pub cell_alone : (j : ℕ) (old new : List ℕ) → (j % 4 == 0) ≡ false → new ≡ old ++ frame (compact_text (cell j)) → new ≡ old ++ framed (asked j)
 unfolding asked
@@ -41,26 +42,22 @@ all_both : (xs ys : List (List ℕ)) → AllByRecursion IsBody xs → AllByRecur
 all_both [] ys a b = b
 all_both (x ∷ xs) ys a b = (a.0, all_both xs ys a.1 b)
 
-pub body_alone : (j : ℕ) → (j % 4 == 0) ≡ false → IsBody (compact_text (cell j)) → AllByRecursion IsBody (map compact_text (asked j))
+-- a cell, and the move after it
+either_body : (b : Bool) (j : ℕ) → j ≤ 4000 → AllByRecursion IsBody (map compact_text (cell j ∷ (if b then moving j ∷ [] else [])))
+either_body true j small = (cell_read j small, (move_read j small, tt))
+either_body false j small = (cell_read j small, tt)
+
+asked_bodies : (j : ℕ) → j ≤ 4000 → AllByRecursion IsBody (map compact_text (asked j))
 unfolding asked
-body_alone j other one = subst (λ (b : Bool). AllByRecursion IsBody (map compact_text (cell j ∷ (if b then moving j ∷ [] else [])))) (sym other) (one, tt)
+asked_bodies j small = either_body (j % 4 == 0) j small
 
-pub body_and_move : (j : ℕ) → (j % 4 == 0) ≡ true → IsBody (compact_text (cell j)) → IsBody (compact_text (moving j)) → AllByRecursion IsBody (map compact_text (asked j))
-unfolding asked
-body_and_move j fourth one two = subst (λ (b : Bool). AllByRecursion IsBody (map compact_text (cell j ∷ (if b then moving j ∷ [] else [])))) (sym fourth) (one, (two, tt))
-
-pub bodies_begin : IsBody (compact_text opening) → AllByRecursion IsBody (map compact_text (sent 0))
+pub sent_bodies : (n : ℕ) → n ≤ 4000 → AllByRecursion IsBody (map compact_text (sent n))
 unfolding sent
-bodies_begin one = (one, tt)
-
-pub bodies_more : (before : ℕ) → AllByRecursion IsBody (map compact_text (sent before)) → AllByRecursion IsBody (map compact_text (asked (before + 1)))
-    → AllByRecursion IsBody (map compact_text (sent (before + 1)))
-unfolding sent
-bodies_more before all more =
-    let next : before + 1 ≡ suc before = omega arith in
-    subst (λ (j : ℕ). AllByRecursion IsBody (map compact_text (sent j))) (sym next)
-    (subst (AllByRecursion IsBody) (sym (map-append compact_text (sent before) (asked (suc before))))
-    (all_both (map compact_text (sent before)) (map compact_text (asked (suc before))) all (subst (λ (j : ℕ). AllByRecursion IsBody (map compact_text (asked j))) next more)))
+sent_bodies zero small = (opening_read, tt)
+sent_bodies (suc before) small =
+    let fewer : before ≤ 4000 = omega arith in
+    subst (AllByRecursion IsBody) (sym (map-append compact_text (sent before) (asked (suc before))))
+    (all_both (map compact_text (sent before)) (map compact_text (asked (suc before))) (sent_bodies before fewer) (asked_bodies (suc before) small))
 
 -- no message has a float
 pub opening_whole : has_float opening ≡ false

@@ -1,6 +1,7 @@
 -- What is counted of the journals of a stream, and what the command writes.
 use Rattle.std.specs.Prelude.{◌≡◌, ◌⊎◌, ℕ, ◌+◌, ◌-◌, ◌^◌, min, List, [], ◌∷◌, ◌++◌, codes, length, Option, Some, None}
 use Rattle.std.specs.Fmt.{decimal}
+use Rattle.std.specs.List.{AllByRecursion}
 use Rattle.nb_outside.specs.Streams.{Adds}
 use Rattle.session_core.specs.declared.entry.Entry.{Entry}
 use Rattle.session_core.specs.declared.entry.Entry.TheVariants.{Opened, Ran, Died, Dead, Sealed, Moved, Adopted, Refused, Resumed}
@@ -13,6 +14,7 @@ use Rattle.node_run.specs.declared.end.RunEnd.TheVariants.{Whole}
 use Rattle.node_run.specs.Frames.{AddsFront}
 use Rattle.node_run.specs.Journals.{Answers, AreJournals}
 use Rattle.node_run.specs.Streams.{IsNodeOf}
+use Rattle.unmoved_sessions.specs.Alike.{HadMemoryThroughout}
 use Rattle.made_command.specs.declared.counts.Counts.{Counts}
 use Rattle.made_command.specs.Made.{stream}
 
@@ -79,6 +81,10 @@ pub record IsCount (cells : ℕ) (text : List ℕ) : Type 0 where
   pub is_node : IsNodeOf 3 Whole (stream cells) (Some []) node
   pub are_journals : AreJournals notebooks 3 no_draws node.sessions journals
   pub text_is : text ≡ line (capped (counts_of journals))
+
+-- memory ran out in none of the sessions
+abbrev pub HadMemoryInAll : List (List Entry) → Type 0
+HadMemoryInAll journals = AllByRecursion HadMemoryThroughout journals
 
 -- At status 0 such a line was written, at 4 its first bytes, and at 5 nothing.
 abbrev pub MadeTold : ℕ → ℕ → Option (List ℕ) → Option (List ℕ) → Type 0

@@ -1,4 +1,4 @@
-ghost use Rattle.std.specs.Prelude.{◌≡◌, ◌⊎◌, IfOk, string_bytes};
+ghost use Rattle.std.specs.Prelude.{◌≡◌, ◌≤◌, ◌⊎◌, IfOk, string_bytes};
 ghost use Rattle.nb_outside.specs.Counts.{HasRisen};
 ghost use Rattle.made_command.specs.Counting as spec;
 
@@ -21,21 +21,16 @@ const HOSTS: u32 = 3;
 /// How many workers each has.
 const WORKERS: u32 = 2;
 
-/// The stream has fewer bytes than that, by far.
-const MOST_BYTES: usize = 0xffff_ffff;
-
 /// The line that tells the counts of the stream with this many cells.
 fn counted<G, R>(rt: &R, alloc: Global, cells: u32, gate: &G) -> Result<String, AllocError>
 where
     G: Gate + Sync,
     R: Threads + Wait + Sync,
+    requires { cells ≤ 4000 }
     ensures { IfOk result (λ text. spec.IsCount cells (string_bytes text)) }
 {
     a_bad_length_stays();
     let bytes = made_bytes(alloc, cells)?;
-    if bytes.len() >= MOST_BYTES {
-        return Err(AllocError);
-    }
     let mut source = MadeSource::new(bytes);
     let mut feeds = MemFeeds::new(Vec::new(alloc));
     let ran = run_sessions::<Notebook, MadeSource, MemFeeds, G, R>(
@@ -50,9 +45,9 @@ where
     line_of(alloc, &counts_of(ran.runs.as_slice()))
 }
 
-/// Serves the stream with this many cells on 3 hosts of 2 workers, and writes a line that tells how many cells ran, how many of them
-/// ended with an error, how many moves were made, and how many bytes the cells printed. No draw of the stream is given anything.
-/// Gives the status:
+/// Serves the stream with this many cells, at most 4,000, on 3 hosts of 2 workers, and writes a line that tells how many cells ran,
+/// how many of them ended with an error, how many moves were made, and how many bytes the cells printed. No draw of the stream is
+/// given anything. Gives the status:
 ///
 /// - 0: the line was written.
 /// - 4: the sink met a fault. What is out is a prefix of the line.
@@ -62,6 +57,7 @@ where
     K: Sink,
     G: Gate + Sync,
     R: Threads + Wait + Sync,
+    requires { cells ≤ 4000 }
     ensures told { spec.MadeTold cells result (K.written sink.old) (K.written sink.new) }
     ensures fault { result ≡ 4 → HasRisen (K.faults sink.old) (K.faults sink.new) }
     ensures statuses { (result ≡ 0) ⊎ ((result ≡ 4) ⊎ (result ≡ 5)) }

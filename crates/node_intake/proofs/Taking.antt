@@ -1,5 +1,5 @@
 -- Frames that are taken in as they come.
-use Rattle.std.proofs.Common.{◌≡◌, ◌≢◌, ℕ, ◌+◌, ◌<◌, List, [], ◌∷◌, ◌++◌, length, Option, Some, None, refl, sym, ap, ◌∙◌, subst, append_assoc, ◌⊎◌, inl, inr, arith}
+use Rattle.std.proofs.Common.{◌≡◌, ◌≢◌, ℕ, ◌+◌, ◌<◌, List, [], ◌∷◌, ◌++◌, length, Option, Some, None, Result, Ok, Err, OnErr, refl, sym, ap, ◌∙◌, subst, append_assoc, ◌⊎◌, inl, inr, arith}
 use Rattle.std.specs.List.{flat_map, AllByRecursion}
 use Rattle.std.specs.Int.{w32, to_be_bytes}
 use Rattle.std.proofs.lemmas.List.{append-nil, length-append}
@@ -12,7 +12,7 @@ use Rattle.jupyter_frames.specs.Turns.{nothing_held}
 use Rattle.node_intake.specs.Intake.{Node, no_sessions, with_frames, with_message}
 use Rattle.node_intake.specs.declared.session.IntakeEnd.{IntakeEnd}
 use Rattle.node_intake.specs.declared.session.IntakeEnd.TheVariants.{End, Failed, TooMany}
-use Rattle.node_intake.specs.Taking.{HasTaken, EndsSo, TookSoFar, IsPlaceOf}
+use Rattle.node_intake.specs.Taking.{HasTaken, EndsSo, TookSoFar, TookFront, IsPlaceOf}
 
 -- ---- frames
 
@@ -50,6 +50,16 @@ one_more hosts bytes body held new IsNode IsThen is parts place takes t = record
   place = place_more held.place new.place (4 + length body) t.bodies body t.place refl place;
   is_node = subst IsThen (sym (frame_more hosts no_sessions t.bodies body)) (takes (with_frames hosts no_sessions t.bodies) t.is_node);
 }
+
+-- what holds anyhow holds of an error
+pub on_err : {A E : Type 0} {P : Type 0} (r : Result A E) → P → OnErr r P
+on_err (Ok a) h = tt
+on_err (Err e) h = h
+
+-- a frame isn't
+pub front_taken : (hosts : ℕ) (bytes : List ℕ) (held : Held) (IsNode IsThen : Node → Type 0) → ((node : Node) → IsNode node → IsThen node) → TookSoFar hosts bytes held IsNode → TookFront hosts bytes IsThen
+front_taken hosts bytes held IsNode IsThen still t =
+    record { bodies = t.bodies; rest = held.bytes; are_bodies = t.are_bodies; is_stream = t.is_stream; is_node = still _ t.is_node }
 
 -- a piece comes
 pub piece_more : (hosts : ℕ) (bytes piece : List ℕ) (held new : Held) (IsNode : Node → Type 0) → new ≡ record held { bytes = held.bytes ++ piece } → TookSoFar hosts bytes held IsNode → TookSoFar hosts (bytes ++ piece) new IsNode

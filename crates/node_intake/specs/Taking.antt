@@ -34,6 +34,14 @@ pub record TookSoFar (hosts : ℕ) (bytes : List ℕ) (held : Held) (IsNode : No
   pub place : held.place ≡ place_after 0 (length (flat_map frame bodies))
   pub is_node : IsNode (with_frames hosts no_sessions bodies)
 
+-- of these bytes the first whole frames were taken in, as this node
+pub record TookFront (hosts : ℕ) (bytes : List ℕ) (IsNode : Node → Type 0) : Type 0 where
+  pub bodies : List (List ℕ)
+  pub rest : List ℕ
+  pub are_bodies : AllByRecursion IsBody bodies
+  pub is_stream : bytes ≡ stream bodies rest
+  pub is_node : IsNode (with_frames hosts no_sessions bodies)
+
 -- no whole frame is held, and a bad length only if no more may come
 abbrev pub Stands : Bool → List ℕ → Type 0
 Stands true rest = IsBegun rest

@@ -59,7 +59,7 @@ pub trait Desk: Drop {
         requires room { count self.old < spec.most_sessions }
         ensures ok { OnOk result ((ts : List Taken) → holds self.old ts → holds self.new (ts ++ new_session kernel host request channel ∷ [])) }
         ensures err { OnErr result ((ts : List Taken) → holds self.old ts → holds self.new ts) }
-        ensures kept { OnOk result (keeps self.old self.new) };
+        ensures kept { keeps self.old self.new };
 
     /// Hands in a request of frontend 0, after the others of the session at that index. After an error the sessions are as before.
     fn admit(&mut self, at: usize, request: Request) -> Result<(), AllocError>
@@ -68,5 +68,5 @@ pub trait Desk: Drop {
         requires few { asked self.old at < spec.most_requests }
         ensures ok { OnOk result ((ts : List Taken) (s : Taken) → holds self.old ts → slice_get ts at ≡ Some s → holds self.new (slice_set ts at (with_more s request))) }
         ensures err { OnErr result ((ts : List Taken) → holds self.old ts → holds self.new ts) }
-        ensures kept { OnOk result (keeps self.old self.new) };
+        ensures kept { keeps self.old self.new };
 }

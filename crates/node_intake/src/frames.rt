@@ -1,9 +1,9 @@
 //! The frames that are held, taken in one after the other.
 
-ghost use Rattle.std.specs.Prelude.{◌≡◌, ℕ, List, IfOk, OnOk};
+ghost use Rattle.std.specs.Prelude.{◌≡◌, ℕ, List, IfOk, OnOk, OnErr};
 ghost use Rattle.node_intake.specs.Sessions.{HasHosts};
 ghost use Rattle.node_intake.specs.Standing.{StandsFor, HasKept};
-ghost use Rattle.node_intake.specs.Taking.{TookSoFar, Stands, IsPlaceOf};
+ghost use Rattle.node_intake.specs.Taking.{TookSoFar, TookFront, Stands, IsPlaceOf};
 
 use crate::desk::Desk;
 use crate::node::Intake;
@@ -12,7 +12,8 @@ use jupyter_frames::{Framer, Next};
 use plain_data::Items;
 use std::alloc::{AllocError, Global};
 
-/// Takes in the whole frames that are held, and gives whether more may come: none may after a bad length.
+/// Takes in the whole frames that are held, and gives whether more may come: none may after a bad length. After an error perhaps some of
+/// them were taken in, the first.
 pub fn take_frames<D: Desk>(
     alloc: Global,
     hosts: u32,
@@ -22,7 +23,8 @@ pub fn take_frames<D: Desk>(
     requires hosts { HasHosts D.is_host hosts }
     ensures took { OnOk result ((bytes : List ℕ) → TookSoFar hosts bytes framer.old (StandsFor D.holds node.old) → TookSoFar hosts bytes framer.new (StandsFor D.holds node.new)) }
     ensures stands { IfOk result (λ more. Stands more framer.new.bytes) }
-    ensures kept { OnOk result (HasKept D.keeps node.old node.new) }
+    ensures err { OnErr result ((bytes : List ℕ) → TookSoFar hosts bytes framer.old (StandsFor D.holds node.old) → TookFront hosts bytes (StandsFor D.holds node.new)) }
+    ensures kept { HasKept D.keeps node.old node.new }
 {
     loop {
         match framer.next(alloc) {

@@ -1,6 +1,6 @@
 //! What was taken in so far, and one message more.
 
-ghost use Rattle.std.specs.Prelude.{◌≡◌, ◌<◌, List, [], ◌∷◌, ◌++◌, length, map, nat_le, slice_get, Some, None, true, Ok, MatchOption, OnOk};
+ghost use Rattle.std.specs.Prelude.{◌≡◌, ◌<◌, List, [], ◌∷◌, ◌++◌, length, map, nat_le, slice_get, Some, None, true, Ok, MatchOption, OnOk, OnErr};
 ghost use Rattle.jupyter_messages.specs.Outcomes.{is_told};
 ghost use Rattle.jupyter_messages.specs.Reading.{message_in};
 ghost use Rattle.node_intake.specs.Intake as spec;
@@ -64,7 +64,8 @@ impl<D: Desk> Intake<D> {
 
     fn fail(&mut self, kind: NodeErrorKind, about: Option<About>) -> Result<(), AllocError>
         ensures node { OnOk result (Becomes D.holds (λ node. spec.failed node kind about) self.old self.new) }
-        ensures kept { OnOk result (HasKept D.keeps self.old self.new) }
+        ensures err { OnErr result (Becomes D.holds (λ node. node) self.old self.new) }
+        ensures kept { HasKept D.keeps self.old self.new }
     {
         self.errors.push(NodeError { kind, about })?;
         Ok(())
@@ -78,7 +79,8 @@ impl<D: Desk> Intake<D> {
         header: Header,
     ) -> Result<(), AllocError>
         ensures node { OnOk result (Becomes D.holds (λ node. spec.failed node kind (Some (record { kernel = kernel; header = header }))) self.old self.new) }
-        ensures kept { OnOk result (HasKept D.keeps self.old self.new) }
+        ensures err { OnErr result (Becomes D.holds (λ node. node) self.old self.new) }
+        ensures kept { HasKept D.keeps self.old self.new }
     {
         self.fail(kind, Some(About { kernel, header }))
     }
@@ -96,7 +98,8 @@ impl<D: Desk> Intake<D> {
         requires room { D.count self.old.desk < spec.most_sessions }
         ensures node { OnOk result ((node : Node) → StandsFor D.holds self.old node → spec.session_of kernel node.sessions ≡ None
             → StandsFor D.holds self.new (record node { sessions = node.sessions ++ new_session kernel host header channel ∷ [] })) }
-        ensures kept { OnOk result (HasKept D.keeps self.old self.new) }
+        ensures err { OnErr result (Becomes D.holds (λ node. node) self.old self.new) }
+        ensures kept { HasKept D.keeps self.old self.new }
     {
         self.desk.open(alloc, kernel, host, header, channel)
     }
@@ -114,7 +117,8 @@ impl<D: Desk> Intake<D> {
         requires hosts { HasHosts D.is_host hosts }
         ensures node { OnOk result ((node : Node) → StandsFor D.holds self.old node → spec.session_of kernel node.sessions ≡ None
             → StandsFor D.holds self.new (spec.opening hosts node (record { header = header; channel = channel; kernel = kernel; kind = MessageKind.Open host }) host None)) }
-        ensures kept { OnOk result (HasKept D.keeps self.old self.new) }
+        ensures err { OnErr result (Becomes D.holds (λ node. node) self.old self.new) }
+        ensures kept { HasKept D.keeps self.old self.new }
     {
         if u64::from(hosts) <= host {
             return self.fail_about(NodeErrorKind::UnknownHost(host), kernel, header);
@@ -137,7 +141,8 @@ impl<D: Desk> Intake<D> {
         requires hosts { HasHosts D.is_host hosts }
         ensures node { OnOk result (Becomes D.holds (λ node. spec.opening hosts node
             (record { header = header; channel = channel; kernel = kernel; kind = MessageKind.Open host }) host (spec.session_of kernel node.sessions)) self.old self.new) }
-        ensures kept { OnOk result (HasKept D.keeps self.old self.new) }
+        ensures err { OnErr result (Becomes D.holds (λ node. node) self.old self.new) }
+        ensures kept { HasKept D.keeps self.old self.new }
     {
         match index_of(&self.desk, kernel) {
             Some(_) => self.fail_about(NodeErrorKind::OpenedTwice, kernel, header),
@@ -152,7 +157,8 @@ impl<D: Desk> Intake<D> {
         requires few { D.asked self.old.desk at < spec.most_requests }
         ensures node { OnOk result ((node : Node) → StandsFor D.holds self.old node → IsAt node.sessions kernel at
             → StandsFor D.holds self.new (record node { sessions = map (spec.with_request kernel request) node.sessions })) }
-        ensures kept { OnOk result (HasKept D.keeps self.old self.new) }
+        ensures err { OnErr result (Becomes D.holds (λ node. node) self.old self.new) }
+        ensures kept { HasKept D.keeps self.old self.new }
     {
         self.desk.admit(at, request)
     }
@@ -166,7 +172,8 @@ impl<D: Desk> Intake<D> {
     ) -> Result<(), AllocError>
         ensures node { OnOk result (Becomes D.holds (λ node. spec.asking node
             (record { header = header; channel = channel; kernel = kernel; kind = MessageKind.Ask ask }) ask (spec.session_of kernel node.sessions)) self.old self.new) }
-        ensures kept { OnOk result (HasKept D.keeps self.old self.new) }
+        ensures err { OnErr result (Becomes D.holds (λ node. node) self.old self.new) }
+        ensures kept { HasKept D.keeps self.old self.new }
     {
         let Some(at) = index_of(&self.desk, kernel) else {
             return self.fail_about(NodeErrorKind::UnknownKernel, kernel, header);
@@ -194,7 +201,8 @@ impl<D: Desk> Intake<D> {
     ) -> Result<(), AllocError>
         requires hosts { HasHosts D.is_host hosts }
         ensures node { OnOk result (Becomes D.holds (λ node. spec.with_message hosts node (Ok message)) self.old self.new) }
-        ensures kept { OnOk result (HasKept D.keeps self.old self.new) }
+        ensures err { OnErr result (Becomes D.holds (λ node. node) self.old self.new) }
+        ensures kept { HasKept D.keeps self.old self.new }
     {
         let Message {
             header,
@@ -212,7 +220,8 @@ impl<D: Desk> Intake<D> {
     fn take_fault(&mut self, alloc: Global, fault: MessageFault) -> Result<(), AllocError>
         ensures told { OnOk result (is_told fault ≡ true) }
         ensures node { OnOk result (Becomes D.holds (λ node. spec.unread node fault) self.old self.new) }
-        ensures kept { OnOk result (HasKept D.keeps self.old self.new) }
+        ensures err { OnErr result (Becomes D.holds (λ node. node) self.old self.new) }
+        ensures kept { HasKept D.keeps self.old self.new }
     {
         match fault {
             MessageFault::OutOfMemory => Err(AllocError),
@@ -228,11 +237,12 @@ impl<D: Desk> Intake<D> {
         }
     }
 
-    /// Takes in one frame more, with this body.
+    /// Takes in one frame more, with this body. After an error what was taken in is as before.
     pub fn take_body(&mut self, alloc: Global, hosts: u32, body: &[u8]) -> Result<(), AllocError>
         requires hosts { HasHosts D.is_host hosts }
         ensures node { OnOk result (Becomes D.holds (λ node. spec.with_message hosts node (message_in body.now)) self.old self.new) }
-        ensures kept { OnOk result (HasKept D.keeps self.old self.new) }
+        ensures err { OnErr result (Becomes D.holds (λ node. node) self.old self.new) }
+        ensures kept { HasKept D.keeps self.old self.new }
     {
         match read_message(alloc, body) {
             Ok(message) => self.take_message(alloc, hosts, message),

@@ -1,5 +1,5 @@
 -- What was asked of a session that has one producer, once all is answered.
-use Rattle.std.proofs.Common.{◌≡◌, ◌==◌, ◌≤◌, ◌⊎◌, ℕ, zero, suc, Bool, true, false, cond, List, [], ◌∷◌, ◌++◌, filter, map, refl, sym, ap, ◌∙◌, subst, append_assoc, inl, inr, eq-eqb, arith}
+use Rattle.std.proofs.Common.{◌≡◌, ◌==◌, ◌≤◌, ◌⊎◌, ℕ, zero, suc, Bool, true, false, cond, List, [], ◌∷◌, ◌++◌, filter, map, refl, sym, ap, ◌∙◌, subst, append_assoc, append-nil, inl, inr, eq-eqb, arith}
 use Rattle.ruled_queue.specs.Rule.{of, Keeps}
 use Rattle.session_core.specs.declared.request.Header.{Header}
 use Rattle.session_core.specs.declared.request.Channel.{Channel}
@@ -12,7 +12,7 @@ use Rattle.session_core.specs.Legal.{IsLegal, asked, main_asked}
 use Rattle.session_queues.specs.declared.items.MainItem.{MainItem}
 use Rattle.session_queues.specs.declared.items.MainItem.TheVariants.{Opening, Asked}
 use Rattle.session_queues.specs.Items.{number_of, frontend_of}
-use Rattle.session_queues.specs.Ends.{Held, FoundNothing}
+use Rattle.session_queues.specs.Ends.{Held, FoundNothing, HasWaiting}
 use Rattle.session_gate.specs.Answered.{opening_by, opening_of, as_main, as_control, IsAnswered}
 use Rattle.session_gate.proofs.Gathered.{main_all, control_all, main_none, control_none}
 
@@ -110,6 +110,48 @@ module _ (kernel : ℕ) (es : List Entry) (ends : Held) (answered : IsAnswered k
   control_is l lists given =
       control_all kernel es ends 0 l answered none (subst (Keeps 0 l) (sym lists) (inl (refl, refl)))
       ∙ all_of_zero frontend_of (as_control (asked es)) (λ n some. control_none kernel es ends n answered none (omega arith) (omega arith))
+
+-- an owner that took in the one producer's lists owes nothing, and this waits
+module _ (kernel : ℕ) (es : List Entry) (ends : Held) (answered : IsAnswered kernel es ends []) (waits : HasWaiting ends) where
+  -- main is what the journal answers of it, and then what waits
+  pub main_begins : (l : List MainItem) → ends.main.lists ≡ (0, l) ∷ [] → ends.main.given ≡ 1 → (more : List MainItem) × (l ≡ (opening_of kernel es ++ as_main (asked es)) ++ more)
+  main_begins l lists given =
+      let w = waits.0.1 in
+      let items = waits.0.0 in
+      let popped : ends.main.popped ≡ opening_of kernel es ++ as_main (asked es) = answered.0 ∙ ap (λ rs. opening_of kernel es ++ as_main rs) (append-nil (asked es)) in (
+        items,
+        w.of_each 0 l (subst (Keeps 0 l) (sym lists) (inl (refl, refl)))
+            ∙ all_of_zero number_of (ends.main.popped ++ items) (λ n some. w.later (omega arith) n (omega arith))
+            ∙ ap (λ p. p ++ items) popped,
+      )
+
+  -- and so is control
+  pub control_begins : (l : List Request) → ends.control.lists ≡ (0, l) ∷ [] → ends.control.given ≡ 1 → (more : List Request) × (l ≡ as_control (asked es) ++ more)
+  control_begins l lists given =
+      let w = waits.1.1 in
+      let items = waits.1.0 in
+      let popped : ends.control.popped ≡ as_control (asked es) = answered.1 ∙ ap as_control (append-nil (asked es)) in (
+        items,
+        w.of_each 0 l (subst (Keeps 0 l) (sym lists) (inl (refl, refl)))
+            ∙ all_of_zero frontend_of (ends.control.popped ++ items) (λ n some. w.later (omega arith) n (omega arith))
+            ∙ ap (λ p. p ++ items) popped,
+      )
+
+requests_both : (items more : List MainItem) → requests_in (items ++ more) ≡ requests_in items ++ requests_in more
+unfolding requests_in
+requests_both [] more = refl
+requests_both (Opening kernel host request channel ∷ items) more = requests_both items more
+requests_both (Asked r ∷ items) more = ap (λ l. r ∷ l) (requests_both items more)
+
+-- the first requests on main after the opening are those that the journal answers
+pub main_requests_begin : (kernel_of host : ℕ) (request : Header) (channel : Channel) (rs : List Request) (kernel : ℕ) (es : List Entry) (more : List MainItem)
+    → Opening kernel_of host request channel ∷ as_main rs ≡ (opening_of kernel es ++ as_main (asked es)) ++ more → (later : List Request) × (filter is_main rs ≡ main_asked es ++ later)
+main_requests_begin kernel_of host request channel rs kernel es more is = (
+  requests_in more,
+  sym (requests_asked (filter is_main rs)) ∙ sym (after_opening kernel_of host request channel (as_main rs)) ∙ ap requests_in is
+      ∙ requests_both (opening_of kernel es ++ as_main (asked es)) more
+      ∙ ap (λ l. l ++ requests_in more) (openings_skipped kernel es (as_main (asked es)) ∙ requests_asked (main_asked es)),
+)
 
 -- the requests on main after the opening are those that the journal answers
 pub main_requests_are : (kernel_of host : ℕ) (request : Header) (channel : Channel) (rs : List Request) (kernel : ℕ) (es : List Entry)

@@ -17,7 +17,7 @@ use Rattle.node_run.specs.Journals.{Answers, ServedSession, journal_of, journals
 use Rattle.node_run.specs.Frames.{journal_frames, session_frames, run_frames, error_frames, AddsFront, AddsServedBefore}
 use Rattle.nb_outside.specs.Counts.{HasRisen, HasRisenBy}
 use Rattle.node_run.specs.Ends.{status_of, node_at, EndsAt, IsCaused, end_after, errors_after}
-use Rattle.node_run.specs.Streams.{HasRun, Writes, StreamsTold}
+use Rattle.node_run.specs.Streams.{IsNodeOf, HasRun, Writes, StreamsTold}
 use Rattle.node_run.proofs.Streaming.{Adds-none}
 use Rattle.node_run.proofs.Stopping.{node_before}
 
@@ -72,16 +72,16 @@ node_agrees intake.End hosts bodies rest (Some p) sessions errors (inr some) agr
 node_agrees intake.Failed hosts bodies rest broken sessions errors is agrees = agrees
 node_agrees intake.TooMany hosts bodies rest broken sessions errors is agrees = agrees
 
-pub has_run : (meaning : Meaning) (hosts : ℕ) (gives : Answers) (bytes : List ℕ) (left : Option (List ℕ)) (IsDesk : List Taken → Type 0) (before : List NodeError) (broken : Option ℕ) (end : IntakeEnd) (run_end : RunEnd)
-    (errors : List NodeError) (runs : List ServedSession) → (taken : HasTaken hosts bytes (λ node. IsDesk node.sessions × (before ≡ node.errors)) broken) → EndsSo end left taken.rest → run_end ≡ end_after end broken
-    → errors ≡ errors_after end broken before → ((ts : List Taken) → IsDesk ts → AreRuns meaning hosts gives ts runs) → HasRun meaning hosts gives run_end bytes left errors runs
-has_run meaning hosts gives bytes left IsDesk before broken end run_end errors runs taken ends is are_errors are_runs =
+-- the node, with the errors and the desk that it had when reading ended
+pub node_ended : (hosts : ℕ) (bytes : List ℕ) (left : Option (List ℕ)) (IsDesk : List Taken → Type 0) (before : List NodeError) (broken : Option ℕ) (end : IntakeEnd)
+    → (taken : HasTaken hosts bytes (λ node. IsDesk node.sessions × (before ≡ node.errors)) broken) → EndsSo end left taken.rest
+    → (node : Node) × IsNodeOf hosts (end_after end broken) bytes left node × (errors_after end broken before ≡ node.errors) × IsDesk node.sessions
+node_ended hosts bytes left IsDesk before broken end taken ends =
     let plain_node : Node = with_frames hosts no_sessions taken.bodies in
     let plain : Agrees plain_node plain_node.sessions before = record { are_sessions = refl; are_errors = taken.node.1 } in
-    let agrees = node_agrees end hosts taken.bodies taken.rest broken plain_node.sessions before taken.broken plain in
-    subst (λ (e : RunEnd). HasRun meaning hosts gives e bytes left errors runs) (sym is) (record {
-      node = node_at (end_after end broken) hosts taken.bodies taken.rest;
-      is_node = record {
+    let agrees = node_agrees end hosts taken.bodies taken.rest broken plain_node.sessions before taken.broken plain in (
+      node_at (end_after end broken) hosts taken.bodies taken.rest,
+      record {
         bodies = taken.bodies;
         rest = taken.rest;
         are_bodies = taken.are_bodies;
@@ -89,9 +89,21 @@ has_run meaning hosts gives bytes left IsDesk before broken end run_end errors r
         is_stream = taken.is_stream;
         is_node = refl;
         ends = ends_at end left taken.rest _ broken ends taken.broken;
-      };
-      errors_are = are_errors ∙ agrees.are_errors;
-      are_runs = subst (λ ss. AreRuns meaning hosts gives ss runs) agrees.are_sessions (are_runs plain_node.sessions taken.node.0);
+      },
+      agrees.are_errors,
+      subst IsDesk agrees.are_sessions taken.node.0,
+    )
+
+pub has_run : (meaning : Meaning) (hosts : ℕ) (gives : Answers) (bytes : List ℕ) (left : Option (List ℕ)) (IsDesk : List Taken → Type 0) (before : List NodeError) (broken : Option ℕ) (end : IntakeEnd) (run_end : RunEnd)
+    (errors : List NodeError) (runs : List ServedSession) → (taken : HasTaken hosts bytes (λ node. IsDesk node.sessions × (before ≡ node.errors)) broken) → EndsSo end left taken.rest → run_end ≡ end_after end broken
+    → errors ≡ errors_after end broken before → ((ts : List Taken) → IsDesk ts → AreRuns meaning hosts gives ts runs) → HasRun meaning hosts gives run_end bytes left errors runs
+has_run meaning hosts gives bytes left IsDesk before broken end run_end errors runs taken ends is are_errors are_runs =
+    let n = node_ended hosts bytes left IsDesk before broken end taken ends in
+    subst (λ (e : RunEnd). HasRun meaning hosts gives e bytes left errors runs) (sym is) (record {
+      node = n.0;
+      is_node = n.1;
+      errors_are = are_errors ∙ n.2;
+      are_runs = are_runs n.0.sessions n.3;
     })
 
 pub failed_end : (end : IntakeEnd) (broken : Option ℕ) → end_after end broken ≡ SourceFailed → end ≡ intake.Failed

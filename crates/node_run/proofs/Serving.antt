@@ -40,6 +40,7 @@ module _ {E F : Type 0} (seen : F → SeenFeed) where
         begins = first.1;
         main = main_requests_are s.kernel s.host s.request s.channel s.requests h.kernel h.entries main;
         control = sym control;
+        settled = fin.0;
         fed = subst (λ a. AreFirstAnswers a (drawn_in h.entries)) (fin.9 ∙ ap gives first.0) (first_answers (seen h.feed).made h.entries (seen h.feed) fed);
       }
 
@@ -96,7 +97,7 @@ same_queues queues rest o done cell next number listed =
     let same : Some cell.0 ≡ Some next.queue = sym here ∙ there in
     cc
 
-open_first : (queues left : List SharedQueues) (later : List Taken) (rest : List OpenSession) (o : OpenSession) (q : SharedQueues) → queues ≡ q ∷ left → AreOpen later (o ∷ rest) queues
+pub open_first : (queues left : List SharedQueues) (later : List Taken) (rest : List OpenSession) (o : OpenSession) (q : SharedQueues) → queues ≡ q ∷ left → AreOpen later (o ∷ rest) queues
     → (s : Taken) × (more : List Taken) × (later ≡ s ∷ more) × IsOpen q s o × AreOpen more rest left
 open_first queues left [] rest o q is are = absurd are
 open_first queues left (s ∷ more) rest o q is are = let there : IsOpen q s o × AreOpen more rest left = subst (AreOpen (s ∷ more) (o ∷ rest)) is are in (s, more, refl, there.0, there.1)
@@ -131,7 +132,7 @@ pub none_left : {X : Type 0} (xs : List X) → length xs ≡ 0 → xs ≡ []
 none_left [] is = refl
 none_left (x ∷ xs) is = absurd (omega (arith, is))
 
-open_none : (later : List Taken) (queues : List SharedQueues) → AreOpen later [] queues → later ≡ []
+pub open_none : (later : List Taken) (queues : List SharedQueues) → AreOpen later [] queues → later ≡ []
 open_none [] queues are = refl
 open_none (s ∷ later) queues are = absurd are
 

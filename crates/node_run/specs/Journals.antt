@@ -5,7 +5,7 @@ use Rattle.nb_outside.specs.declared.feed.Drawn.{Drawn}
 use Rattle.session_core.specs.declared.entry.Entry.{Entry}
 use Rattle.session_core.specs.declared.entry.Entry.TheVariants.{Opened}
 use Rattle.session_core.specs.Meanings.{Meaning}
-use Rattle.session_core.specs.Legal.{IsLegal, main_asked, control_asked}
+use Rattle.session_core.specs.Legal.{settled, progress_of, IsLegal, main_asked, control_asked}
 use Rattle.session_core.specs.Aloneness.{Seen}
 use Rattle.session_core.specs.Feeding.{drawn_in, AreFirstAnswers}
 use Rattle.node_intake.specs.Intake.{Taken, main_requests, control_requests}
@@ -14,13 +14,14 @@ use Rattle.node_intake.specs.Intake.{Taken, main_requests, control_requests}
 abbrev pub Answers : Type 0
 Answers = ℕ → Option (List Drawn)
 
--- a legal journal of a session that was opened so, in which all that was asked of it is answered, each list in order; and what its
--- cells drew, that of which it died full included, is what its feed gave first
+-- a legal journal of a session that was opened so, in which all that was asked of it is answered, each list in order, and each move
+-- that was begun has ended; and what its cells drew, that of which it died full included, is what its feed gave first
 pub record IsJournalOf (meaning : Meaning) (hosts : ℕ) (answers : Option (List Drawn)) (s : Taken) (es : List Entry) : Type 0 where
   pub legal : IsLegal meaning hosts es
   pub begins : (more : List Entry) × (es ≡ Opened s.host s.request s.channel ∷ more)
   pub main : main_asked es ≡ main_requests s
   pub control : control_asked es ≡ control_requests s
+  pub settled : (progress_of es).phase ≡ settled
   pub fed : AreFirstAnswers answers (drawn_in es)
 
 -- a session that was served, by its kernel

@@ -1,5 +1,5 @@
 -- What has begun to be sent can be sent whole.
-use Rattle.std.proofs.Common.{◌≡◌, ◌⊎◌, inl, inr, List, [], ◌∷◌, ◌++◌, refl, sym, ap, ◌∙◌, subst, append_assoc, append-nil}
+use Rattle.std.proofs.Common.{◌≡◌, inl, inr, List, [], ◌∷◌, ◌++◌, refl, sym, subst, append_assoc, append-nil}
 use Rattle.node_serve.specs.Interleaving.{Interleaves, IsPutTo, AreFronts}
 use Rattle.node_serve.proofs.Interleaving.{goes_on}
 
@@ -31,3 +31,12 @@ module _ {A : Type 0} where
   -- an interleaving of fronts is the front of one
   pub goes_on_to_the_end : (lists longer : List (List A)) (xs : List A) → AreFronts lists longer → Interleaves lists xs → (more : List A) × Interleaves longer (xs ++ more)
   goes_on_to_the_end lists longer xs fronts h = all_on [] lists longer xs fronts h
+
+  pub fronts_all : (lists : List (List A)) → AreFronts lists lists
+  fronts_all [] = tt
+  fronts_all (l ∷ lists) = (([], sym (append-nil l)), fronts_all lists)
+
+  -- one of the lists goes on, and so do those after it
+  pub fronts_at : (before after later : List (List A)) (l m : List A) → ((more : List A) × (m ≡ l ++ more)) → AreFronts after later → AreFronts (before ++ l ∷ after) (before ++ m ∷ later)
+  fronts_at [] after later l m goes fronts = (goes, fronts)
+  fronts_at (b ∷ before) after later l m goes fronts = (([], sym (append-nil b)), fronts_at before after later l m goes fronts)

@@ -1,5 +1,5 @@
 -- An interleaving goes on by what is put at the end of one of its lists, or by one list more.
-use Rattle.std.proofs.Common.{◌≡◌, ◌⊎◌, inl, inr, List, [], ◌∷◌, ◌++◌, refl, sym, ap, subst}
+use Rattle.std.proofs.Common.{◌≡◌, inl, inr, List, [], ◌∷◌, ◌++◌, refl, sym, ap, subst}
 use Rattle.std.specs.List.{AllByRecursion}
 use Rattle.node_serve.specs.Interleaving.{IsTakenOf, Interleaves, IsPutTo}
 

@@ -2,10 +2,12 @@
 use Rattle.std.proofs.Common.{◌≡◌, ℕ, ◌≤◌, Bool, true, false, List, [], ◌∷◌, ◌++◌, Option, Some, None, ◌⊎◌, inl, inr, refl, sym, ap, ◌∙◌, subst, append_assoc, append-nil, arith}
 use Rattle.nb_outside.specs.Counts.{HasRisen}
 use Rattle.nb_links.specs.Lines.{Line, Adds, Gives}
-use Rattle.node_serve.specs.Interleaving.{Interleaves, IsPutTo}
+use Rattle.node_serve.specs.Interleaving.{Interleaves, IsPutTo, AreFronts}
 use Rattle.node_serve.specs.Units.{joined, AllOf, FrontOf}
-use Rattle.node_serve.specs.Sent.{AddsFront, WentOn, Wire, Says, Tells, GoesOn, Sends, IsSending}
+use Rattle.node_serve.specs.Sent.{AddsFront, WentOn, Wire, Says, Tells, TellsFront, TellsWhile, Sends, IsSending, HasSentFront, SendsWhile, SendsOn}
 use Rattle.node_serve.proofs.Interleaving.{goes_on}
+use Rattle.node_serve.proofs.Fronts.{put_at, goes_on_to_the_end, fronts_all, fronts_at}
+use Rattle.node_serve.proofs.Pieces.{sent_none}
 
 -- ---- units
 
@@ -42,43 +44,6 @@ taken_more None old new taken sent piece went gives = subst (λ line. Gives line
 taken_more (Some line) old new taken sent piece (rest, parts, is) gives =
     let g = subst (λ l. Gives l new piece) is gives in
     (g.0, parts ∙ ap (λ z. taken ++ z) g.1 ∙ sym (append_assoc taken piece g.0), g.2 ∙ ap (λ z. let l : Line = record { gave = z; left = g.0; sent = line.sent ++ sent } in Some l) (append_assoc line.gave taken piece))
-
-went_both : (start old new : Option Line) (taken sent more said : List ℕ) → WentOn start old taken sent → WentOn old new more said → WentOn start new (taken ++ more) (sent ++ said)
-went_both None old new taken sent more said went on = subst (λ line. WentOn line new more said) went on
-went_both (Some line) old new taken sent more said (rest, parts, is) on =
-    let g = subst (λ l. WentOn l new more said) is on in (
-      g.0,
-      parts ∙ ap (λ z. taken ++ z) g.1 ∙ sym (append_assoc taken more g.0),
-      g.2 ∙ ap (λ z. let l : Line = record { gave = z; left = g.0; sent = (line.sent ++ sent) ++ said } in Some l) (append_assoc line.gave taken more)
-          ∙ ap (λ z. let l : Line = record { gave = line.gave ++ (taken ++ more); left = g.0; sent = z } in Some l) (append_assoc line.sent sent said),
-    )
-
--- ---- what goes on
-
-pub goes_none : (w : Wire) → GoesOn w w
-goes_none w = record { taken = []; sent = []; went = went_none w.line; stays = omega arith }
-
-pub goes_both : (a b c : Wire) → GoesOn a b → GoesOn b c → GoesOn a c
-goes_both a b c g h = record {
-  taken = g.taken ++ h.taken;
-  sent = g.sent ++ h.sent;
-  went = went_both a.line b.line c.line g.taken g.sent h.taken h.sent g.went h.went;
-  stays = let p = g.stays in let q = h.stays in omega arith;
-}
-
-went_front : (old new : Option Line) (bytes : List ℕ) → AddsFront old new bytes → (sent : List ℕ) × WentOn old new [] sent
-went_front old new bytes (front, back, parts, adds) = (front, sent_more old old new [] [] front (went_none old) adds)
-
-said_on : (cut later : Bool) (old new : Option Line) (bytes : List ℕ) → Says cut later old new bytes → (sent : List ℕ) × WentOn old new [] sent
-said_on true later old new bytes (is, same) = ([], subst (λ l. WentOn old l [] []) (sym same) (went_none old))
-said_on false true old new bytes says = went_front old new bytes says
-said_on false false old new bytes says = (bytes, sent_more old old new [] [] bytes (went_none old) says)
-
-pub tells_go : (old new : Wire) (bytes : List ℕ) → Tells old new bytes → GoesOn old new
-tells_go old new bytes t = let s = said_on old.cut new.cut old.line new.line bytes t.says in record { taken = []; sent = s.0; went = s.1; stays = t.stays }
-
-pub front_goes : (old new : Wire) (bytes : List ℕ) → AddsFront old.line new.line bytes → old.faults ≤ new.faults → GoesOn old new
-front_goes old new bytes adds stays = let s = went_front old.line new.line bytes adds in record { taken = []; sent = s.0; went = s.1; stays = stays }
 
 -- ---- one unit more
 
@@ -124,6 +89,74 @@ tells_more start old new taken u lists later t put s =
       kept = λ is. still_cut old.cut new.cut old.line new.line u t.says (s.kept is);
     }
 
+-- ---- memory runs out
+
+front_of_sends : (cut : Bool) (lists : List (List (List ℕ))) (sent : List ℕ) → Sends cut lists sent → FrontOf lists sent
+front_of_sends true lists sent front = front
+front_of_sends false lists sent all = front_of_all lists sent all
+
+pub front_sent : (start now : Wire) (taken : List ℕ) (lists : List (List (List ℕ))) → IsSending start now taken lists → HasSentFront start now taken lists
+front_sent start now taken lists s = record { sent = s.sent; went = s.went; front = front_of_sends now.cut lists s.sent s.sends; stays = s.stays }
+
+pub sends_front : (suffices : Bool) (start now : Wire) (taken : List ℕ) (lists : List (List (List ℕ))) → SendsWhile suffices start now taken lists → HasSentFront start now taken lists
+sends_front true start now taken lists s = front_sent start now taken lists s
+sends_front false start now taken lists s = s
+
+-- perhaps the first bytes of a unit more
+pub tells_first : (start old new : Wire) (taken u : List ℕ) (lists later : List (List (List ℕ))) → TellsFront old new u → IsPutTo lists u later → IsSending start old taken lists → HasSentFront start new taken later
+tells_first start old new taken u lists later t put s =
+    let m = says_more old.cut true start.line old.line new.line taken s.sent u lists later s.went s.sends put t.says in
+    record { sent = m.sent; went = m.went; front = m.sends; stays = let p = s.stays in let q = t.stays in omega arith }
+
+tells_while : (suffices : Bool) (start old new : Wire) (taken u : List ℕ) (lists later : List (List (List ℕ))) → TellsWhile suffices old new u → IsPutTo lists u later → IsSending start old taken lists → SendsWhile suffices start new taken later
+tells_while true start old new taken u lists later t put s = tells_more start old new taken u lists later t put s
+tells_while false start old new taken u lists later t put s = tells_first start old new taken u lists later t put s
+
+joined_both : (units more : List (List ℕ)) → joined (units ++ more) ≡ joined units ++ joined more
+joined_both [] more = refl
+joined_both (u ∷ units) more = ap (λ z. u ++ z) (joined_both units more) ∙ sym (append_assoc u (joined units) (joined more))
+
+front_on : (lists longer : List (List (List ℕ))) (sent : List ℕ) → AreFronts lists longer → FrontOf lists sent → FrontOf longer sent
+front_on lists longer sent fronts front =
+    let units = front.1.0 in
+    let more = goes_on_to_the_end lists longer units fronts front.1.1 in (
+      front.0 ++ joined more.0,
+      (
+        units ++ more.0,
+        more.1,
+        sym (append_assoc sent front.0 (joined more.0)) ∙ ap (λ z. z ++ joined more.0) front.1.2 ∙ sym (joined_both units more.0),
+      ),
+    )
+
+-- what is the front of these lists is the front of those with more at their ends
+pub front_longer : (start now : Wire) (taken : List ℕ) (lists longer : List (List (List ℕ))) → AreFronts lists longer → HasSentFront start now taken lists → HasSentFront start now taken longer
+front_longer start now taken lists longer fronts s = record { sent = s.sent; went = s.went; front = front_on lists longer s.sent fronts s.front; stays = s.stays }
+
+-- ---- one of the lists goes on
+
+put_more : (lists others : List (List (List ℕ))) (units later : List (List ℕ)) (u : List ℕ) → later ≡ units ++ u ∷ [] → IsPutTo (lists ++ units ∷ others) u (lists ++ later ∷ others)
+put_more lists others units later u is = subst (λ z. IsPutTo (lists ++ units ∷ others) u (lists ++ z ∷ others)) (sym is) (put_at lists others units u)
+
+-- by a unit
+pub unit_told : (suffices : Bool) (first old new : Wire) (from units later : List (List ℕ)) (u : List ℕ) → TellsWhile suffices old new u → later ≡ units ++ u ∷ [] → SendsOn true true first old from units → SendsOn true suffices first new from later
+unit_told suffices first old new from units later u tells is on = λ start taken lists others s.
+    tells_while suffices start old new taken u (lists ++ units ∷ others) (lists ++ later ∷ others) tells (put_more lists others units later u is) (on start taken lists others s)
+
+-- by what wasn't sent
+pub sends_longer : (before : Bool) (first now : Wire) (from units later : List (List ℕ)) → ((more : List (List ℕ)) × (later ≡ units ++ more)) → SendsOn before false first now from units → SendsOn before false first now from later
+sends_longer before first now from units later goes on = λ start taken lists others s.
+    front_longer start now taken (lists ++ units ∷ others) (lists ++ later ∷ others) (fronts_at lists others others units later goes (fronts_all others)) (on start taken lists others s)
+
+pub sends_none : (before : Bool) (w : Wire) (units : List (List ℕ)) → SendsOn before before w w units units
+sends_none before w units = λ start taken lists others s. s
+
+pub sends_short : (w : Wire) (units : List (List ℕ)) → SendsOn true false w w units units
+sends_short w units = λ start taken lists others s. front_sent start w taken (lists ++ units ∷ others) s
+
+pub sends_as : (before then : Bool) (old new : Wire) (a b c d : List (List ℕ)) → a ≡ b → c ≡ d → SendsOn before then old new b c → SendsOn before then old new a d
+sends_as before then old new a b c d from to on =
+    subst (λ z. SendsOn before then old new z d) (sym from) (subst (λ z. SendsOn before then old new b z) to on)
+
 -- ---- bytes come
 
 pub taken_on : (start old new : Wire) (taken piece : List ℕ) (lists : List (List (List ℕ))) → Gives old.line new.line piece → old.faults ≤ new.faults → new.cut ≡ old.cut → IsSending start old taken lists
@@ -136,13 +169,6 @@ taken_on start old new taken piece lists gives stays same s = record {
   risen = λ is. risen_on start.faults old.faults new.faults (s.risen (sym same ∙ is)) stays;
   kept = λ is. same ∙ s.kept is;
 }
-
-pub taken_goes : (old new : Wire) (piece : List ℕ) → Gives old.line new.line piece → old.faults ≤ new.faults → GoesOn old new
-taken_goes old new piece gives stays = record { taken = piece; sent = []; went = taken_more old.line old.line new.line [] [] piece (went_none old.line) gives; stays = stays }
-
--- nothing came
-pub same_goes : (old new : Wire) → new.line ≡ old.line → old.faults ≤ new.faults → GoesOn old new
-same_goes old new same stays = record { taken = []; sent = []; went = subst (λ l. WentOn old.line l [] []) (sym same) (went_none old.line); stays = stays }
 
 pub same_on : (start old new : Wire) (taken : List ℕ) (lists : List (List (List ℕ))) → new.line ≡ old.line → old.faults ≤ new.faults → new.cut ≡ old.cut → IsSending start old taken lists → IsSending start new taken lists
 same_on start old new taken lists line stays same s = record {
@@ -171,13 +197,13 @@ cut_on start old new taken lists line stays was is risen s = record {
 all_as : (lists later : List (List (List ℕ))) (sent : List ℕ) → ((units : List (List ℕ)) → Interleaves lists units → Interleaves later units) → AllOf lists sent → AllOf later sent
 all_as lists later sent turn all = (all.0, turn all.0 all.1, all.2)
 
-sends_as : (cut : Bool) (lists later : List (List (List ℕ))) (sent : List ℕ) → ((units : List (List ℕ)) → Interleaves lists units → Interleaves later units) → Sends cut lists sent → Sends cut later sent
-sends_as true lists later sent turn front = (front.0, all_as lists later (sent ++ front.0) turn front.1)
-sends_as false lists later sent turn all = all_as lists later sent turn all
+cut_as : (cut : Bool) (lists later : List (List (List ℕ))) (sent : List ℕ) → ((units : List (List ℕ)) → Interleaves lists units → Interleaves later units) → Sends cut lists sent → Sends cut later sent
+cut_as true lists later sent turn front = (front.0, all_as lists later (sent ++ front.0) turn front.1)
+cut_as false lists later sent turn all = all_as lists later sent turn all
 
 pub lists_as : (start now : Wire) (taken : List ℕ) (lists later : List (List (List ℕ))) → ((units : List (List ℕ)) → Interleaves lists units → Interleaves later units) → IsSending start now taken lists → IsSending start now taken later
 lists_as start now taken lists later turn s =
-    record { sent = s.sent; went = s.went; sends = sends_as now.cut lists later s.sent turn s.sends; stays = s.stays; risen = s.risen; kept = s.kept }
+    record { sent = s.sent; went = s.went; sends = cut_as now.cut lists later s.sent turn s.sends; stays = s.stays; risen = s.risen; kept = s.kept }
 
 -- at the start nothing is sent
 pub starts : (w : Wire) (lists : List (List (List ℕ))) → w.cut ≡ false → Interleaves lists [] → IsSending w w [] lists
@@ -217,5 +243,13 @@ tells_front old new bytes was is adds stays risen = record {
   risen = λ cut. inr risen;
 }
 
-pub adds_goes : (old new : Wire) (bytes : List ℕ) → Adds old.line new.line bytes → old.faults ≤ new.faults → GoesOn old new
-adds_goes old new bytes adds stays = record { taken = []; sent = bytes; went = sent_more old.line old.line new.line [] [] bytes (went_none old.line) adds; stays = stays }
+-- nothing is sent
+says_none : (cut : Bool) (line : Option Line) (bytes : List ℕ) → Says cut true line line bytes
+says_none true line bytes = (refl, refl)
+says_none false line bytes = ([], bytes, refl, sent_none line)
+
+pub front_none : (w : Wire) (bytes : List ℕ) → TellsFront w w bytes
+front_none w bytes = record { says = says_none w.cut w.line bytes; stays = omega arith }
+
+pub front_told : (old new : Wire) (bytes : List ℕ) → old.cut ≡ false → AddsFront old.line new.line bytes → old.faults ≤ new.faults → TellsFront old new bytes
+front_told old new bytes was adds stays = record { says = subst (λ b. Says b true old.line new.line bytes) (sym was) adds; stays = stays }

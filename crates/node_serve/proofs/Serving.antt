@@ -1,33 +1,37 @@
 -- A link goes on being served.
-use Rattle.std.proofs.Common.{◌≡◌, ℕ, ◌≤◌, Bool, true, false, List, [], ◌∷◌, ◌++◌, length, map, take, Option, Some, None, Result, Ok, Err, inl, inr, refl, sym, ap, ◌∙◌, subst, length-append, arith}
-use Rattle.std.specs.Prelude.{IfOk, OnOk}
+use Rattle.std.proofs.Common.{◌≡◌, ℕ, ◌≤◌, Bool, true, false, List, [], ◌∷◌, ◌++◌, length, map, take, Option, Some, None, Result, Ok, Err, inr, refl, sym, ap, ◌∙◌, subst, append_assoc, append-nil, length-append, arith}
+use Rattle.std.specs.Prelude.{MatchResult, is_ok}
+use Rattle.std.specs.List.{flat_map}
 use Rattle.nb_outside.specs.Streams.{IsAtEnd}
 use Rattle.nb_links.specs.Lines.{Line, Gives, IsDone}
-use Rattle.jupyter_frames.specs.Framing.{Held, IsBegun}
+use Rattle.jupyter_frames.specs.Framing.{frame, Held}
 use Rattle.jupyter_frames.specs.Turns.{nothing_held}
 use Rattle.session_queues.specs.declared.shared.SharedQueues.{SharedQueues}
 use Rattle.reply_frames.specs.declared.node.NodeError.{NodeError}
 use Rattle.node_intake.specs.declared.node.Intake.{Intake}
 use Rattle.node_intake.specs.declared.session.IntakeEnd.{IntakeEnd}
 use Rattle.node_intake.specs.declared.session.IntakeEnd.TheVariants as intake
-use Rattle.node_intake.specs.Intake.{Taken, Node, no_sessions}
+use Rattle.node_intake.specs.Intake.{Taken, Node, no_sessions, with_frames}
 use Rattle.node_intake.specs.Standing.{StandsFor, HasKept}
-use Rattle.node_intake.specs.Taking.{TookSoFar, HasTaken, EndsSo, EndsOrGoesOn, IsPlaceOf}
-use Rattle.node_intake.proofs.Taking.{all_taken, from_nothing, piece_more}
+use Rattle.node_intake.specs.Taking.{TookSoFar, TookFront, EndsSo, EndsOrGoesOn, IsPlaceOf}
+use Rattle.node_intake.proofs.Taking.{all_taken, from_nothing, front_taken, piece_more}
+use Rattle.node_intake.proofs.Standing.{kept_all as same_kept}
 use Rattle.node_run.specs.declared.open_session.OpenSession.{OpenSession}
 use Rattle.node_run.specs.Admitted.{AreOpen, AreSeated}
 use Rattle.node_run.specs.Unsent.{AreCounted, AreReadable, AreAlike, AreKept}
+use Rattle.node_run.specs.Keeping.{kept_all}
 use Rattle.node_run.proofs.Keeping.{alike_open}
-use Rattle.node_serve.specs.Interleaving.{IsPutTo, Interleaves}
+use Rattle.node_serve.specs.Interleaving.{IsPutTo, Interleaves, AreFronts}
 use Rattle.node_serve.specs.Units.{error_units, read_units, units_so_far}
-use Rattle.node_serve.specs.Sent.{Wire, left_of, Tells, IsSending}
-use Rattle.node_serve.specs.Service.{InService, IsEnd, IsFed}
-use Rattle.node_serve.specs.Hearing.{end_in, IsLeftBy, Heeds}
+use Rattle.node_serve.specs.Sent.{Wire, left_of, Tells, TellsFront, IsSending, HasSentFront, SendsOn}
+use Rattle.node_serve.specs.Service.{InService, WasInService, Serves, IsEnd, IsFed, IsLeft}
+use Rattle.node_serve.specs.Hearing.{end_in, IsLeftBy, Heeds, HeedsFront}
 use Rattle.node_serve.specs.declared.service.Heard.{Heard}
 use Rattle.node_serve.specs.declared.service.Heard.TheVariants.{More, NotYet, Ended}
 use Rattle.node_serve.proofs.Interleaving.{lists_more}
-use Rattle.node_serve.proofs.Sendings.{tells_more, taken_on, lists_as, starts}
-use Rattle.node_serve.proofs.Tellings.{take_front, kept_on}
+use Rattle.node_serve.proofs.Fronts.{fronts_all}
+use Rattle.node_serve.proofs.Sendings.{tells_more, tells_first, front_sent, front_longer, taken_on, lists_as, starts}
+use Rattle.node_serve.proofs.Tellings.{take_front, errors_front, kept_on}
 
 abbrev Holds : List SharedQueues → List OpenSession → List Taken → Type 0
 Holds queues os ts = AreOpen ts os queues
@@ -57,10 +61,10 @@ entry_told hosts queues start old new held node then told u alike same put tells
 
 -- an error is told
 pub error_told : (hosts : ℕ) (queues : List SharedQueues) (start old new : Wire) (held : Held) (node : Intake (List OpenSession)) (told later : ℕ) → (told ≤ length node.errors.items → later ≤ length node.errors.items)
-    → ((taken : List ℕ) (lists : List (List (List ℕ))) → IsSending start old taken (error_units 1 (take told node.errors.items) ∷ lists) → IsSending start new taken (error_units 1 (take later node.errors.items) ∷ lists))
+    → SendsOn true true old new (error_units 1 (take told node.errors.items)) (error_units 1 (take later node.errors.items))
     → InService hosts queues start old held node told → InService hosts queues start new held node later
 error_told hosts queues start old new held node told later few on s =
-    record { taken = s.taken; took = s.took; counted = s.counted; few = few s.few; sending = on s.taken (map read_units node.desk) s.sending }
+    record { taken = s.taken; took = s.took; counted = s.counted; few = few s.few; sending = on start s.taken [] (map read_units node.desk) s.sending }
 
 -- the lists go on as those that were kept
 go_on : (told : ℕ) (old new : Intake (List OpenSession)) (units : List (List ℕ)) → told ≤ length old.errors.items → HasKept (λ (os : List OpenSession) (later : List OpenSession). AreKept os later) old new
@@ -89,16 +93,18 @@ piece_heard hosts queues start old new held then node later told next piece hear
           (taken_on start old new s.taken piece (units_so_far told node.errors.items node.desk) gives stays cut s.sending);
     })
 
+held_more : (held mid : Held) (piece : List ℕ) → mid.bytes ≡ held.bytes ++ piece → mid.place ≡ held.place → mid ≡ record held { bytes = held.bytes ++ piece }
+held_more held mid piece bytes_are place_is =
+    ap (λ (p : ℕ). let h : Held = record mid { place = p } in h) place_is ∙ ap (λ (bs : List ℕ). let h : Held = record held { bytes = bs } in h) bytes_are
+
 -- what came is taken in, once it is put after what was held
 pub piece_taken : (hosts : ℕ) (queues : List SharedQueues) (held mid then : Held) (node later : Intake (List OpenSession)) (told : ℕ) (piece : List ℕ) (heard : Heard)
     → mid.bytes ≡ held.bytes ++ piece → mid.place ≡ held.place
     → ((bytes : List ℕ) → TookSoFar hosts bytes mid (StandsFor (Holds queues) node) → TookSoFar hosts bytes then (StandsFor (Holds queues) later))
     → HasKept (λ (os : List OpenSession) (later : List OpenSession). AreKept os later) node later → IsLeftBy heard then.bytes → Heeds queues hosts held node told piece heard then later told
 piece_taken hosts queues held mid then node later told piece heard bytes_are place_is took kept left =
-    let is : mid ≡ record held { bytes = held.bytes ++ piece } =
-    ap (λ (p : ℕ). let h : Held = record mid { place = p } in h) place_is ∙ ap (λ (bs : List ℕ). let h : Held = record held { bytes = bs } in h) bytes_are in
     record {
-      took = λ bytes t. took (bytes ++ piece) (piece_more hosts bytes piece held mid (StandsFor (Holds queues) node) is t);
+      took = λ bytes t. took (bytes ++ piece) (piece_more hosts bytes piece held mid (StandsFor (Holds queues) node) (held_more held mid piece bytes_are place_is) t);
       kept = kept;
       left = left;
       same = refl;
@@ -116,16 +122,129 @@ pub at_end : (line : Option Line) → IsDone line → IsAtEnd (left_of line)
 at_end None done = tt
 at_end (Some line) done = done
 
-pub on_ok : {A E : Type 0} {P : A → Type 0} {Q : Type 0} (r : Result A E) → IfOk r P → ((a : A) → P a → Q) → OnOk r Q
-on_ok (Ok a) is turn = turn a is
-on_ok (Err e) is turn = tt
-
 -- nothing comes
 pub still_served : (hosts : ℕ) (queues : List SharedQueues) (start old new : Wire) (held : Held) (node : Intake (List OpenSession)) (told : ℕ)
     → ((taken : List ℕ) (lists : List (List (List ℕ))) → IsSending start old taken lists → IsSending start new taken lists)
     → InService hosts queues start old held node told → InService hosts queues start new held node told
 still_served hosts queues start old new held node told on s =
     record { taken = s.taken; took = s.took; counted = s.counted; few = s.few; sending = on s.taken (units_so_far told node.errors.items node.desk) s.sending }
+
+-- ---- memory runs out
+
+units_whole : (told : ℕ) (errors : List NodeError) (os : List OpenSession) → AreFronts (units_so_far told errors os) (error_units 1 errors ∷ map read_units os)
+units_whole told errors os = (errors_front told errors, fronts_all (map read_units os))
+
+was_served : (hosts : ℕ) (queues : List SharedQueues) (start now : Wire) (held : Held) (node : Intake (List OpenSession)) (told : ℕ) (taken : List ℕ) → TookSoFar hosts taken held (StandsFor (Holds queues) node)
+    → HasSentFront start now taken (units_so_far told node.errors.items node.desk) → WasInService hosts queues start now node
+was_served hosts queues start now held node told taken took sent = record {
+  taken = taken;
+  took = front_taken hosts taken held (StandsFor (Holds queues) node) (StandsFor (Holds queues) node) (λ n st. st) took;
+  sending = front_longer start now taken (units_so_far told node.errors.items node.desk) (error_units 1 node.errors.items ∷ map read_units node.desk) (units_whole told node.errors.items node.desk) sent;
+}
+
+-- at once
+pub served_till : (hosts : ℕ) (queues : List SharedQueues) (start now : Wire) (held : Held) (node : Intake (List OpenSession)) (told : ℕ) → InService hosts queues start now held node told → WasInService hosts queues start now node
+served_till hosts queues start now held node told s =
+    was_served hosts queues start now held node told s.taken s.took (front_sent start now s.taken (units_so_far told node.errors.items node.desk) s.sending)
+
+-- while an entry is told
+pub entry_cut : (hosts : ℕ) (queues : List SharedQueues) (start old new : Wire) (held : Held) (node then : Intake (List OpenSession)) (told : ℕ) (u : List ℕ) → AreAlike node.desk then.desk → then.errors.items ≡ node.errors.items
+    → (AreCounted node.desk → IsPutTo (map read_units node.desk) u (map read_units then.desk) × AreCounted then.desk) → TellsFront old new u
+    → InService hosts queues start old held node told → WasInService hosts queues start new then
+entry_cut hosts queues start old new held node then told u alike same put tells s =
+    let p = put s.counted in
+    let lists : IsPutTo (units_so_far told node.errors.items node.desk) u (units_so_far told node.errors.items then.desk) = inr (map read_units then.desk, p.0, refl) in
+    was_served hosts queues start new held then told s.taken
+    (took_as hosts s.taken held (StandsFor (Holds queues) node) (StandsFor (Holds queues) then) (stands_still queues node then alike same) s.took)
+    (subst (λ (es : List NodeError). HasSentFront start new s.taken (units_so_far told es then.desk)) (sym same)
+    (tells_first start old new s.taken u (units_so_far told node.errors.items node.desk) (units_so_far told node.errors.items then.desk) tells lists s.sending))
+
+-- once an entry was read, and before it is told
+pub entry_lost : (hosts : ℕ) (queues : List SharedQueues) (start now : Wire) (held : Held) (node then : Intake (List OpenSession)) (told : ℕ) → AreAlike node.desk then.desk → then.errors.items ≡ node.errors.items
+    → AreFronts (map read_units node.desk) (map read_units then.desk) → InService hosts queues start now held node told → WasInService hosts queues start now then
+entry_lost hosts queues start now held node then told alike same fronts s =
+    let errors = node.errors.items in
+    let sent = front_longer start now s.taken (units_so_far told errors node.desk) (units_so_far told errors then.desk) (([], sym (append-nil (error_units 1 (take told errors)))), fronts)
+    (front_sent start now s.taken (units_so_far told errors node.desk) s.sending) in
+    was_served hosts queues start now held then told s.taken
+    (took_as hosts s.taken held (StandsFor (Holds queues) node) (StandsFor (Holds queues) then) (stands_still queues node then alike same) s.took)
+    (subst (λ (es : List NodeError). HasSentFront start now s.taken (units_so_far told es then.desk)) (sym same) sent)
+
+-- while an error is told
+pub error_cut : (hosts : ℕ) (queues : List SharedQueues) (start old new : Wire) (held : Held) (node : Intake (List OpenSession)) (told later : ℕ)
+    → SendsOn true false old new (error_units 1 (take told node.errors.items)) (error_units 1 (take later node.errors.items))
+    → InService hosts queues start old held node told → WasInService hosts queues start new node
+error_cut hosts queues start old new held node told later on s =
+    was_served hosts queues start new held node later s.taken s.took (on start s.taken [] (map read_units node.desk) s.sending)
+
+-- while a piece is taken in
+pub piece_cut : (hosts : ℕ) (queues : List SharedQueues) (start old new : Wire) (held : Held) (node later : Intake (List OpenSession)) (told : ℕ) (piece : List ℕ)
+    → Gives old.line new.line piece → old.faults ≤ new.faults → new.cut ≡ old.cut → HeedsFront queues hosts held node piece later
+    → InService hosts queues start old held node told → WasInService hosts queues start new later
+piece_cut hosts queues start old new held node later told piece gives stays cut h s =
+    let sending = lists_as start new (s.taken ++ piece) (units_so_far told node.errors.items node.desk) (units_so_far told later.errors.items later.desk) (λ units all. go_on told node later units s.few h.kept all)
+    (taken_on start old new s.taken piece (units_so_far told node.errors.items node.desk) gives stays cut s.sending) in
+    record {
+      taken = s.taken ++ piece;
+      took = h.took s.taken s.took;
+      sending = front_longer start new (s.taken ++ piece) (units_so_far told later.errors.items later.desk) (error_units 1 later.errors.items ∷ map read_units later.desk) (units_whole told later.errors.items later.desk)
+          (front_sent start new (s.taken ++ piece) (units_so_far told later.errors.items later.desk) sending);
+    }
+
+-- before it is put after what was held
+pub piece_lost : (hosts : ℕ) (queues : List SharedQueues) (held : Held) (node : Intake (List OpenSession)) (piece : List ℕ) → HeedsFront queues hosts held node piece node
+piece_lost hosts queues held node piece = record {
+  took = λ bytes t. record {
+    bodies = t.bodies;
+    rest = held.bytes ++ piece;
+    are_bodies = t.are_bodies;
+    is_stream = ap (λ z. z ++ piece) t.is_stream ∙ append_assoc (flat_map frame t.bodies) held.bytes piece;
+    is_node = t.is_node;
+  };
+  kept = same_kept (λ (os : List OpenSession) (later : List OpenSession). AreKept os later) node kept_all;
+}
+
+-- and after
+pub piece_front : (hosts : ℕ) (queues : List SharedQueues) (held mid : Held) (node later : Intake (List OpenSession)) (piece : List ℕ) → mid.bytes ≡ held.bytes ++ piece → mid.place ≡ held.place
+    → ((bytes : List ℕ) → TookSoFar hosts bytes mid (StandsFor (Holds queues) node) → TookFront hosts bytes (StandsFor (Holds queues) later))
+    → HasKept (λ (os : List OpenSession) (later : List OpenSession). AreKept os later) node later → HeedsFront queues hosts held node piece later
+piece_front hosts queues held mid node later piece bytes_are place_is took kept = record {
+  took = λ bytes t. took (bytes ++ piece) (piece_more hosts bytes piece held mid (StandsFor (Holds queues) node) (held_more held mid piece bytes_are place_is) t);
+  kept = kept;
+}
+
+-- by what became of a piece
+pub heard_serves : {E : Type 0} (r : Result Heard E) (hosts : ℕ) (queues : List SharedQueues) (old new : Wire) (held then : Held) (node later : Intake (List OpenSession)) (told next : ℕ) (piece : List ℕ)
+    → Gives old.line new.line piece → old.faults ≤ new.faults → new.cut ≡ old.cut
+    → MatchResult r (λ heard. Heeds queues hosts held node told piece heard then later next) (λ _. HeedsFront queues hosts held node piece later) → Serves (is_ok r) hosts queues old new held node told then later next
+heard_serves (Ok heard) hosts queues old new held then node later told next piece gives stays cut h = λ start s. piece_heard hosts queues start old new held then node later told next piece heard gives stays cut h s
+heard_serves (Err e) hosts queues old new held then node later told next piece gives stays cut h = λ start s. piece_cut hosts queues start old new held node later told piece gives stays cut h s
+
+-- nothing came
+pub still_till : (hosts : ℕ) (queues : List SharedQueues) (start old new : Wire) (held : Held) (node : Intake (List OpenSession)) (told : ℕ)
+    → ((taken : List ℕ) (lists : List (List (List ℕ))) → IsSending start old taken lists → IsSending start new taken lists)
+    → InService hosts queues start old held node told → WasInService hosts queues start new node
+still_till hosts queues start old new held node told on s = served_till hosts queues start new held node told (still_served hosts queues start old new held node told on s)
+
+-- the sessions that are open then
+pub left_at : (hosts : ℕ) (queues : List SharedQueues) (start now : Wire) (node : Intake (List OpenSession)) (sessions : List OpenSession) → sessions ≡ node.desk → AreSeated sessions queues → AreReadable sessions queues
+    → WasInService hosts queues start now node → IsLeft hosts queues start now sessions
+left_at hosts queues start now node sessions desk seated readable s = record {
+  taken = s.taken;
+  errors = node.errors.items;
+  took = record {
+    bodies = s.took.bodies;
+    rest = s.took.rest;
+    are_bodies = s.took.are_bodies;
+    is_stream = s.took.is_stream;
+    is_node = (subst (λ (os : List OpenSession). AreOpen (with_frames hosts no_sessions s.took.bodies).sessions os queues) (sym desk) s.took.is_node.sessions, s.took.is_node.errors);
+  };
+  seated = seated;
+  readable = readable;
+  sending = subst (λ (os : List OpenSession). HasSentFront start now s.taken (error_units 1 node.errors.items ∷ map read_units os)) (sym desk) s.sending;
+}
+
+-- ---- from start to end
 
 -- at the start
 pub first_served : (hosts : ℕ) (queues : List SharedQueues) (w : Wire) (held : Held) (node : Intake (List OpenSession)) (told : ℕ) → w.cut ≡ false → held ≡ nothing_held → StandsFor (Holds queues) node no_sessions → node.desk ≡ [] → node.errors.items ≡ [] → told ≡ 0

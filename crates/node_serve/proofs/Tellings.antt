@@ -1,7 +1,8 @@
 -- Which unit an error, or an entry that was read, is.
-use Rattle.std.proofs.Common.{◌≡◌, ℕ, zero, suc, ◌+◌, ◌≤◌, ◌<◌, List, [], ◌∷◌, ◌++◌, length, map, take, drop, Option, Some, None, inl, inr, refl, sym, ap, ◌∙◌, subst, append_assoc, append-nil, arith}
+use Rattle.std.proofs.Common.{◌≡◌, ℕ, zero, suc, ◌+◌, ◌≤◌, ◌<◌, List, [], ◌∷◌, ◌++◌, length, map, take, drop, Some, inl, inr, refl, sym, ap, ◌∙◌, subst, append_assoc, append-nil, arith}
 use Rattle.std.specs.Prelude.{slice_get, slice_set}
 use Rattle.std.specs.List.{AllByRecursion}
+use Rattle.std.proofs.lemmas.List.{take-append-drop}
 use Rattle.session_core.specs.declared.entry.Entry.{Entry}
 use Rattle.session_queues.specs.Ends.{OnOut}
 use Rattle.reply_frames.specs.declared.node.NodeError.{NodeError}
@@ -10,8 +11,9 @@ use Rattle.reply_frames.specs.Replies.{entry_frames, entry_length}
 use Rattle.node_run.specs.declared.open_session.OpenSession.{OpenSession}
 use Rattle.node_run.specs.declared.open_session.NextEntry.{NextEntry}
 use Rattle.node_run.specs.Unsent.{entries_of, read_of, frames_in, IsCounted, AreCounted, IsUnread, AreKept, HasRead, HasNumbered, with_entry}
-use Rattle.node_serve.specs.Interleaving.{IsPutTo}
-use Rattle.node_serve.specs.Units.{error_units, entry_units, number_after, read_units, unit_of, units_so_far}
+use Rattle.node_serve.specs.Interleaving.{IsPutTo, AreFronts}
+use Rattle.node_serve.specs.Units.{error_units, entry_units, number_after, read_units, unit_of}
+use Rattle.node_serve.proofs.Fronts.{fronts_all}
 
 -- ---- errors
 
@@ -46,9 +48,27 @@ error_next errors told next running e there within is number =
     ap (λ n. error_units 1 (take n errors)) same ∙ ap (error_units 1) (take_next errors told e there) ∙ errors_more 1 (take told errors) e
     ∙ ap (λ n. error_units 1 (take told errors) ++ frame_of n e ∷ []) running_is
 
-pub error_put : (errors : List NodeError) (told next : ℕ) (bytes : List ℕ) (lists : List (List (List ℕ))) → error_units 1 (take next errors) ≡ error_units 1 (take told errors) ++ bytes ∷ []
-    → IsPutTo (error_units 1 (take told errors) ∷ lists) bytes (error_units 1 (take next errors) ∷ lists)
-error_put errors told next bytes lists is = inl (ap (λ z. z ∷ lists) is)
+errors_both : (first : ℕ) (errors more : List NodeError) → error_units first (errors ++ more) ≡ error_units first errors ++ error_units (first + length errors) more
+errors_both first [] more = let same : first ≡ first + 0 = omega arith in ap (λ n. error_units n more) same
+errors_both first (d ∷ errors) more =
+    let same : first + 1 + length errors ≡ first + suc (length errors) = omega arith in
+    ap (λ z. frame_of first d ∷ z) (errors_both (first + 1) errors more ∙ ap (λ n. error_units (first + 1) errors ++ error_units n more) same)
+
+-- those of the first errors are the front of all
+pub errors_front : (n : ℕ) (errors : List NodeError) → (more : List (List ℕ)) × (error_units 1 errors ≡ error_units 1 (take n errors) ++ more)
+errors_front n errors = (
+  error_units (1 + length (take n errors)) (drop n errors),
+  ap (error_units 1) (sym (take-append-drop n errors)) ∙ errors_both 1 (take n errors) (drop n errors),
+)
+
+-- and those of more
+pub errors_front_of : (n : ℕ) (errors later : List NodeError) → ((more : List NodeError) × (later ≡ errors ++ more)) → (more : List (List ℕ)) × (error_units 1 later ≡ error_units 1 (take n errors) ++ more)
+errors_front_of n errors later goes =
+    let front = errors_front n errors in (
+      front.0 ++ error_units (1 + length errors) goes.0,
+      ap (error_units 1) goes.1 ∙ errors_both 1 errors goes.0 ∙ ap (λ z. z ++ error_units (1 + length errors) goes.0) front.1
+          ∙ append_assoc (error_units 1 (take n errors)) front.0 (error_units (1 + length errors) goes.0),
+    )
 
 -- ---- entries
 
@@ -61,6 +81,16 @@ entries_more kernel first [] e = let same : first ≡ first + 0 = omega arith in
 entries_more kernel first (d ∷ es) e =
     let same : first + entry_length d + frames_in es ≡ first + (entry_length d + frames_in es) = omega arith in
     ap (λ z. entry_frames kernel d first ∷ z) (entries_more kernel (first + entry_length d) es e ∙ ap (λ n. entry_units kernel (first + entry_length d) es ++ entry_frames kernel e n ∷ []) same)
+
+entries_both : (kernel first : ℕ) (es more : List Entry) → entry_units kernel first (es ++ more) ≡ entry_units kernel first es ++ entry_units kernel (first + frames_in es) more
+entries_both kernel first [] more = let same : first ≡ first + 0 = omega arith in ap (λ n. entry_units kernel n more) same
+entries_both kernel first (d ∷ es) more =
+    let same : first + entry_length d + frames_in es ≡ first + (entry_length d + frames_in es) = omega arith in
+    ap (λ z. entry_frames kernel d first ∷ z) (entries_both kernel (first + entry_length d) es more ∙ ap (λ n. entry_units kernel (first + entry_length d) es ++ entry_units kernel n more) same)
+
+-- those of the first entries are the front of all
+pub entries_front : (kernel : ℕ) (es more : List Entry) → (others : List (List ℕ)) × (entry_units kernel 1 (es ++ more) ≡ entry_units kernel 1 es ++ others)
+entries_front kernel es more = (entry_units kernel (1 + frames_in es) more, entries_both kernel 1 es more)
 
 -- at the next index
 pub entry_next : (kernel running at next : ℕ) (es : List Entry) (e : Entry) → slice_get es at ≡ Some e → next ≡ at + 1 → running ≡ 1 + frames_in (take at es)
@@ -138,6 +168,24 @@ pub next_entry : (old mid new : List OpenSession) (at later : ℕ) (next : NextE
 unfolding unit_of number_after
 next_entry old mid new at later next u h set counted bytes number =
     next_by old mid new at later next h.session h.out u h.there h.is_read h.kernel h.first h.is set counted bytes number
+
+-- what is read of a session makes its list longer
+fronts_set : (os : List OpenSession) (at : ℕ) (o p : OpenSession) → slice_get os at ≡ Some o → ((more : List (List ℕ)) × (read_units p ≡ read_units o ++ more)) → AreFronts (map read_units os) (map read_units (slice_set os at p))
+fronts_set [] at o p there goes = tt
+fronts_set (q ∷ os) zero o p there goes =
+    let here : Some q ≡ Some o = there in
+    let same : o ≡ q = cc in
+    ((goes.0, goes.1 ∙ ap (λ x. read_units x ++ goes.0) same), fronts_all (map read_units os))
+fronts_set (q ∷ os) (suc at) o p there goes = (([], sym (append-nil (read_units q))), fronts_set os at o p there goes)
+
+pub fronts_read : (old new : List OpenSession) (at : ℕ) (next : NextEntry) → HasRead old at next new → AreFronts (map read_units old) (map read_units new)
+fronts_read old new at next h =
+    let o = h.session in
+    let p : OpenSession = record o { reader = Some (with_entry h.out next.entry) } in
+    let before : read_of o ≡ h.out.entries = ap entries_of h.is_read in
+    let goes = entries_front o.kernel h.out.entries (next.entry ∷ []) in
+    subst (λ l. AreFronts (map read_units old) (map read_units l)) (sym h.is)
+    (fronts_set old at o p h.there (goes.0, goes.1 ∙ ap (λ es. entry_units o.kernel 1 es ++ goes.0) (sym before)))
 
 -- ---- new sessions
 

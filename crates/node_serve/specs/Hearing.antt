@@ -1,6 +1,5 @@
 -- What is heard of a link.
 use Rattle.std.specs.Prelude.{◌≡◌, ℕ, ◌++◌, List, Option, Some, None}
-use Rattle.nb_outside.specs.Streams.{IsAtEnd}
 use Rattle.jupyter_frames.specs.Framing.{Held, IsBegun, IsBad}
 use Rattle.session_queues.specs.declared.shared.SharedQueues.{SharedQueues}
 use Rattle.node_intake.specs.declared.node.Intake.{Intake}
@@ -8,7 +7,7 @@ use Rattle.node_intake.specs.declared.session.IntakeEnd.{IntakeEnd}
 use Rattle.node_intake.specs.declared.session.IntakeEnd.TheVariants as intake
 use Rattle.node_intake.specs.Intake.{Taken}
 use Rattle.node_intake.specs.Standing.{StandsFor, HasKept}
-use Rattle.node_intake.specs.Taking.{TookSoFar}
+use Rattle.node_intake.specs.Taking.{TookSoFar, TookFront}
 use Rattle.node_run.specs.declared.open_session.OpenSession.{OpenSession}
 use Rattle.node_run.specs.Admitted.{AreOpen}
 use Rattle.node_run.specs.Unsent.{AreKept}
@@ -36,3 +35,9 @@ pub record Heeds (queues : List SharedQueues) (hosts : ℕ) (held : Held) (old :
   pub kept : HasKept (λ (os : List OpenSession) (later : List OpenSession). AreKept os later) old new
   pub left : IsLeftBy heard then.bytes
   pub same : later ≡ told
+
+-- a piece came, and memory ran out: the first of the whole frames were taken in
+pub record HeedsFront (queues : List SharedQueues) (hosts : ℕ) (held : Held) (old : Intake (List OpenSession)) (piece : List ℕ) (new : Intake (List OpenSession)) : Type 0 where
+  pub took : (bytes : List ℕ) → TookSoFar hosts bytes held (StandsFor (λ (os : List OpenSession) (ts : List Taken). AreOpen ts os queues) old)
+      → TookFront hosts (bytes ++ piece) (StandsFor (λ (os : List OpenSession) (ts : List Taken). AreOpen ts os queues) new)
+  pub kept : HasKept (λ (os : List OpenSession) (later : List OpenSession). AreKept os later) old new

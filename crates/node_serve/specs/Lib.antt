@@ -4,4 +4,5 @@ pub mod Sent
 pub mod Service
 pub mod Hearing
 pub mod Links
+pub mod Closing
 pub mod Doors

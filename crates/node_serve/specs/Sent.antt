@@ -1,5 +1,5 @@
 -- What a link gave and was sent.
-use Rattle.std.specs.Prelude.{◌≡◌, ◌≤◌, ◌⊎◌, Bool, true, false, List, ◌++◌, ℕ, Option, Some, None}
+use Rattle.std.specs.Prelude.{◌≡◌, ◌≤◌, ◌⊎◌, Bool, true, false, List, ◌∷◌, ◌++◌, ℕ, Option, Some, None}
 use Rattle.nb_outside.specs.Counts.{HasRisen}
 use Rattle.nb_links.specs.Lines.{Line, Adds}
 use Rattle.node_serve.specs.Units.{AllOf, FrontOf}
@@ -47,12 +47,15 @@ pub record Tells (old new : Wire) (bytes : List ℕ) : Type 0 where
   pub stays : old.faults ≤ new.faults
   pub risen : new.cut ≡ true → (old.cut ≡ true) ⊎ HasRisen old.faults new.faults
 
--- some bytes were taken, and some sent
-pub record GoesOn (old new : Wire) : Type 0 where
-  pub taken : List ℕ
-  pub sent : List ℕ
-  pub went : WentOn old.line new.line taken sent
+-- memory ran out: perhaps the first of the bytes were sent, but nothing if it was cut off before
+pub record TellsFront (old new : Wire) (bytes : List ℕ) : Type 0 where
+  pub says : Says old.cut true old.line new.line bytes
   pub stays : old.faults ≤ new.faults
+
+-- by whether memory sufficed
+abbrev pub TellsWhile : Bool → Wire → Wire → List ℕ → Type 0
+TellsWhile true old new bytes = Tells old new bytes
+TellsWhile false old new bytes = TellsFront old new bytes
 
 -- all of these units were sent, or the first bytes of that if it is cut off
 abbrev pub Sends : Bool → List (List (List ℕ)) → List ℕ → Type 0
@@ -67,3 +70,21 @@ pub record IsSending (start now : Wire) (taken : List ℕ) (lists : List (List (
   pub stays : start.faults ≤ now.faults
   pub risen : now.cut ≡ true → HasRisen start.faults now.faults
   pub kept : start.cut ≡ true → now.cut ≡ true
+
+-- since the start these bytes were taken, and the first bytes of these units sent
+pub record HasSentFront (start now : Wire) (taken : List ℕ) (lists : List (List (List ℕ))) : Type 0 where
+  pub sent : List ℕ
+  pub went : WentOn start.line now.line taken sent
+  pub front : FrontOf lists sent
+  pub stays : start.faults ≤ now.faults
+
+-- by whether memory sufficed
+abbrev pub SendsWhile : Bool → Wire → Wire → List ℕ → List (List (List ℕ)) → Type 0
+SendsWhile true start now taken lists = IsSending start now taken lists
+SendsWhile false start now taken lists = HasSentFront start now taken lists
+
+-- Whatever else was sent since any start: of one of the lists these units were sent, and now those. Memory sufficed before, or not, and
+-- then.
+abbrev pub SendsOn : Bool → Bool → Wire → Wire → List (List ℕ) → List (List ℕ) → Type 0
+SendsOn before then old new units later = (start : Wire) (taken : List ℕ) (lists others : List (List (List ℕ)))
+    → SendsWhile before start old taken (lists ++ units ∷ others) → SendsWhile then start new taken (lists ++ later ∷ others)

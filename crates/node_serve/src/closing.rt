@@ -1,18 +1,20 @@
-//! Once nothing more is taken in, what the workers left is done, session by session, and told.
+//! Once nothing more is taken in, what the workers left is done, session by session, and told. Once memory ran out, sessions are only
+//! taken back.
 
-ghost use Rattle.std.specs.Prelude.{◌≡◌, List, ◌∷◌, ◌++◌, ℕ, length, map, IfOk, OnOk};
+ghost use Rattle.std.specs.Prelude.{◌≡◌, List, ◌++◌, true, length, IfOk, OnErr};
 ghost use Rattle.session_core.specs.declared.entry.Entry.{Entry};
 ghost use Rattle.session_queues.specs.Passes.{IsPassOf};
 ghost use Rattle.host_workers.specs.Tables.{IsTable};
 ghost use Rattle.node_intake.specs.Intake.{Taken};
 ghost use Rattle.node_run.specs.Admitted.{IsOpen, AreOpen, AreSeated};
-ghost use Rattle.node_run.specs.Journals.{IsRunOf, AreRuns};
+ghost use Rattle.node_run.specs.Journals.{IsRunOf};
 ghost use Rattle.node_run.specs.Unsent.{entries_of, read_of, IsCounted, AreCounted, IsReaderOf, AreReadable};
 ghost use Rattle.node_serve.specs.Units.{read_units, run_units};
-ghost use Rattle.node_serve.specs.Sent.{Wire, wire, GoesOn, IsSending};
+ghost use Rattle.node_serve.specs.Sent.{wire, SendsOn};
+ghost use Rattle.node_serve.specs.Closing.{IsTakenBack, IsCutShort, Closes, AreClosed};
 
 use crate::telling::tell_rest;
-use host_workers::{Gate, finish};
+use host_workers::{Gate, finish, take_back};
 use nb_links::Link;
 use nb_outside::Feed;
 use node_run::{OpenSession, discard};
@@ -31,6 +33,14 @@ struct Closed<E: Engine> {
     place: usize,
     /// The running number of the next frame.
     next: u64,
+}
+
+/// The sessions that were served and told, as long as memory suffices.
+#[derive(Drop)]
+pub(crate) struct Closings<E: Engine> {
+    pub(crate) runs: Vec<(u128, Alone<E>)>,
+    /// Whether memory sufficed so far.
+    pub(crate) suffices: bool,
 }
 
 /// Closes the reader, if there is one, and gives how many entries it took.
@@ -68,6 +78,7 @@ where
     requires reader { IsReaderOf cell.0 session.reader }
     ensures run { (s : Taken) → IsOpen cell.0 s session → IfOk result (λ c. IsRunOf E.meaning N.hosts N.gives s (c.kernel, c.served)) }
     ensures place { IfOk result (λ c. (c.kernel ≡ session.kernel) × (c.next ≡ session.next) × (c.place ≡ length (read_of session)) × ((rest : List Entry) × (c.served.entries ≡ read_of session ++ rest))) }
+    ensures err { (s : Taken) → IsOpen cell.0 s session → OnErr result (IsTakenBack E.meaning N.hosts N.gives s session) }
 {
     let OpenSession {
         kernel,
@@ -80,10 +91,11 @@ where
     let (lease, all) = finish(rt, alloc, cell, pass, gate);
     let mut lease = lease;
     let place = close_reader(rt, &mut lease, reader) as usize;
-    let (served, _feed) = lease.into_alone();
     if !all {
+        lease.let_go(rt);
         return Err(AllocError);
     }
+    let (served, _feed) = lease.into_alone();
     served.is_legal();
     Ok(Closed {
         kernel,
@@ -91,6 +103,30 @@ where
         place,
         next,
     })
+}
+
+/// Takes a session back, and lets it go with what waits for it.
+fn let_go<E, F, N, R>(rt: &R, alloc: Global, cell: SessionCell<E, F, N>, session: OpenSession)
+where
+    E: Engine + Drop,
+    F: Feed,
+    N: Name,
+    R: Wait,
+    requires pass { IsPassOf cell.0 session.pass }
+    requires reader { IsReaderOf cell.0 session.reader }
+    ensures { (s : Taken) → IsOpen cell.0 s session → IsTakenBack E.meaning N.hosts N.gives s session }
+{
+    let OpenSession {
+        kernel: _,
+        host: _,
+        requests: _,
+        pass,
+        reader,
+        next: _,
+    } = session;
+    let mut lease = take_back(rt, alloc, cell, pass);
+    let _ = close_reader(rt, &mut lease, reader);
+    lease.let_go(rt);
 }
 
 /// Does what is left of a session, and tells what wasn't told of it. Gives it with its kernel.
@@ -114,10 +150,8 @@ where
     requires reader { IsReaderOf cell.0 session.reader }
     requires counted { IsCounted session }
     ensures run { (s : Taken) → IsOpen cell.0 s session → IfOk result (λ run. IsRunOf E.meaning N.hosts N.gives s run) }
-    ensures ok { IfOk result (λ run. (start : Wire) (taken : List ℕ) (before after : List (List (List ℕ)))
-        → IsSending start (wire (L.line link.old) (L.faults link.old) is_cut.old) taken (before ++ read_units session ∷ after)
-        → IsSending start (wire (L.line link.new) (L.faults link.new) is_cut.new) taken (before ++ run_units run ∷ after)) }
-    ensures goes { GoesOn (wire (L.line link.old) (L.faults link.old) is_cut.old) (wire (L.line link.new) (L.faults link.new) is_cut.new) }
+    ensures ok { IfOk result (λ run. SendsOn true true (wire (L.line link.old) (L.faults link.old) is_cut.old) (wire (L.line link.new) (L.faults link.new) is_cut.new) (read_units session) (run_units run)) }
+    ensures err { (s : Taken) → IsOpen cell.0 s session → OnErr result (IsCutShort E.meaning N.hosts N.gives (wire (L.line link.old) (L.faults link.old) is_cut.old) (wire (L.line link.new) (L.faults link.new) is_cut.new) s session) }
 {
     match close_one(rt, alloc, cell, session, gate) {
         Ok(closed) => {
@@ -136,7 +170,43 @@ where
     }
 }
 
-/// Does what is left of each session, in the order of opening, and tells it. Gives each with its kernel.
+/// Does what is left of a session, and tells what wasn't told of it. Once memory ran out, it is only taken back.
+fn close_next<E, F, N, L, G, R>(
+    rt: &R,
+    alloc: Global,
+    link: &mut L,
+    is_cut: &mut bool,
+    cell: SessionCell<E, F, N>,
+    session: OpenSession,
+    gate: &G,
+    closings: &mut Closings<E>,
+)
+where
+    E: Engine + Drop,
+    F: Feed,
+    N: Name,
+    L: Link,
+    G: Gate,
+    R: Wait,
+    requires pass { IsPassOf cell.0 session.pass }
+    requires reader { IsReaderOf cell.0 session.reader }
+    requires counted { closings.old.suffices ≡ true → IsCounted session }
+    ensures closes { (s : Taken) → IsOpen cell.0 s session → Closes E.meaning N.hosts N.gives (wire (L.line link.old) (L.faults link.old) is_cut.old) (wire (L.line link.new) (L.faults link.new) is_cut.new) s session
+        closings.old.suffices closings.new.suffices closings.old.runs.items closings.new.runs.items }
+    ensures stays { closings.new.suffices ≡ true → closings.old.suffices ≡ true }
+{
+    if !closings.suffices {
+        let_go(rt, alloc, cell, session);
+        return;
+    }
+    match close_and_tell(rt, alloc, link, is_cut, cell, session, gate) {
+        Ok(run) => closings.suffices = closings.runs.push(run).is_ok(),
+        Err(_) => closings.suffices = false,
+    }
+}
+
+/// Closes each session, in the order of opening: does what is left of it and tells it. From when memory runs out on, or from the start if
+/// it ran out before, they are only taken back.
 pub(crate) fn close_all<E, F, N, L, G, R>(
     rt: &R,
     alloc: Global,
@@ -145,7 +215,8 @@ pub(crate) fn close_all<E, F, N, L, G, R>(
     cells: Vec<SessionCell<E, F, N>>,
     sessions: Vec<OpenSession>,
     gate: &G,
-) -> Result<Vec<(u128, Alone<E>)>, AllocError>
+    suffices: bool,
+) -> Closings<E>
 where
     E: Engine + Drop,
     F: Feed,
@@ -156,34 +227,23 @@ where
     requires table { IsTable cells.items × (length N.queues ≡ 256) }
     requires seated { AreSeated sessions.items N.queues }
     requires readable { AreReadable sessions.items N.queues }
-    requires counted { AreCounted sessions.items }
-    ensures runs { (ts : List Taken) → AreOpen ts sessions.items N.queues → IfOk result (λ runs. AreRuns E.meaning N.hosts N.gives ts runs.items) }
-    ensures ok { IfOk result (λ runs. (start : Wire) (taken : List ℕ) (errors : List (List ℕ))
-        → IsSending start (wire (L.line link.old) (L.faults link.old) is_cut.old) taken (errors ∷ map read_units sessions.items)
-        → IsSending start (wire (L.line link.new) (L.faults link.new) is_cut.new) taken (errors ∷ map run_units runs.items)) }
-    ensures goes { GoesOn (wire (L.line link.old) (L.faults link.old) is_cut.old) (wire (L.line link.new) (L.faults link.new) is_cut.new) }
+    requires counted { suffices ≡ true → AreCounted sessions.items }
+    ensures { (ts : List Taken) → AreOpen ts sessions.items N.queues → AreClosed E.meaning N.hosts N.gives (wire (L.line link.old) (L.faults link.old) is_cut.old) (wire (L.line link.new) (L.faults link.new) is_cut.new) ts sessions.items
+        suffices result.suffices result.runs.items }
 {
     let mut cells = cells;
-    let mut runs = Vec::new(alloc);
+    let mut closings = Closings {
+        runs: Vec::new(alloc),
+        suffices,
+    };
     cells.reverse();
     for session in sessions {
         let Some(cell) = cells.pop() else {
             unreachable!()
         };
         cell.is_listed();
-        match close_and_tell(rt, alloc, link, is_cut, cell, session, gate) {
-            Ok(run) => {
-                if runs.push(run).is_err() {
-                    discard(cells);
-                    return Err(AllocError);
-                }
-            }
-            Err(error) => {
-                discard(cells);
-                return Err(error);
-            }
-        }
+        close_next(rt, alloc, link, is_cut, cell, session, gate, &mut closings);
     }
     discard(cells);
-    Ok(runs)
+    closings
 }

@@ -1,15 +1,17 @@
 //! A link is served by the workers of its sessions.
 
-ghost use Rattle.std.specs.Prelude.{◌≡◌, ◌≤◌, ℕ, false, List, length, Some, IfOk};
+ghost use Rattle.std.specs.Prelude.{◌≡◌, ◌≤◌, ℕ, true, false, List, length, take, Some, IfOk, MatchResult};
 ghost use Rattle.nb_outside.specs.Counts.{HasRisen};
 ghost use Rattle.host_workers.specs.Tables.{IsTable};
 ghost use Rattle.node_intake.specs.Taking.{EndsSo};
-ghost use Rattle.node_serve.specs.Sent.{Wire, wire, left_of, WentOn, GoesOn};
-ghost use Rattle.node_serve.specs.Service.{InService, IsEnd, IsFed};
-ghost use Rattle.node_serve.specs.Links.{HasServed, IsReported, link_end_of};
+ghost use Rattle.node_run.specs.Ends.{errors_after};
+ghost use Rattle.node_serve.specs.Units.{error_units};
+ghost use Rattle.node_serve.specs.Sent.{Wire, wire, left_of, WentOn, SendsOn};
+ghost use Rattle.node_serve.specs.Service.{InService, WasInService, IsEnd, IsFed, IsLeft};
+ghost use Rattle.node_serve.specs.Links.{HasServed, HasServedSoFar, IsReported, IsStopped, link_end_of};
 
 use crate::bell::{Bell, RingingGate};
-use crate::closing::close_all;
+use crate::closing::{Closings, close_all};
 use crate::report::{LinkEnd, LinkReport};
 use crate::service::Service;
 use crate::telling::tell_errors;
@@ -19,7 +21,7 @@ use nb_links::Link;
 use nb_outside::{Feed, Feeds};
 use node_intake::{Handed, Intake, IntakeEnd, taken_in};
 use node_run::{
-    AdmissionDesk, OpenSession, RunEnd, discard, end_after, make_queues, push_broken, run_workers,
+    AdmissionDesk, OpenSession, RunEnd, end_after, make_queues, push_broken, run_workers,
 };
 use plain_data::Items;
 use reply_frames::NodeError;
@@ -74,7 +76,23 @@ fn fed_by<E: Engine + Drop, Q: Feeds, N: Name, R: Wait>(
     }
 }
 
-/// Takes in what the link gives, and tells what is answered.
+/// The sessions that are open.
+fn left_by<E: Engine + Drop, Q: Feeds, N: Name, R: Wait>(
+    service: Service<'_, E, Q, N, R>,
+) -> Vec<OpenSession>
+    ensures left { (start now : Wire) → WasInService N.hosts N.queues start now service.entry.node → IsLeft N.hosts N.queues start now result.items }
+{
+    let Service {
+        framer: _,
+        node,
+        told: _,
+        answered: _,
+    } = service;
+    let Intake { desk, errors: _ } = node;
+    desk.into_sessions()
+}
+
+/// Takes in what the link gives, and tells what is answered. Once memory ran out, it gives the sessions that are open.
 fn converse<E, L, Q, N, R>(
     rt: &R,
     alloc: Global,
@@ -85,7 +103,7 @@ fn converse<E, L, Q, N, R>(
     bell: &Bell,
     node: &Hosts<E, Q::Feed, N>,
     queues: Vec<Queues>,
-) -> Result<Fed, AllocError>
+) -> Result<Fed, Vec<OpenSession>>
 where
     E: Engine + Drop,
     L: Link,
@@ -96,8 +114,8 @@ where
     requires hosts { N.hosts ≡ hosts }
     requires gives { Q.gives feeds.old ≡ N.gives }
     requires whole { is_cut.old ≡ false }
-    ensures ok { IfOk result (λ fed. IsFed hosts N.queues (wire (L.line link.old) (L.faults link.old) is_cut.old) (wire (L.line link.new) (L.faults link.new) is_cut.new) fed.sessions.items fed.errors fed.broken fed.end fed.told) }
-    ensures goes { GoesOn (wire (L.line link.old) (L.faults link.old) is_cut.old) (wire (L.line link.new) (L.faults link.new) is_cut.new) }
+    ensures fed { MatchResult result (λ fed. IsFed hosts N.queues (wire (L.line link.old) (L.faults link.old) is_cut.old) (wire (L.line link.new) (L.faults link.new) is_cut.new) fed.sessions.items fed.errors fed.broken fed.end fed.told)
+        (λ sessions. IsLeft hosts N.queues (wire (L.line link.old) (L.faults link.old) is_cut.old) (wire (L.line link.new) (L.faults link.new) is_cut.new) sessions.items) }
 {
     let desk = AdmissionDesk::new(rt, alloc, node, feeds, hosts, queues, true);
     let mut service = Service {
@@ -108,7 +126,7 @@ where
     };
     match service.attend(rt, alloc, hosts, link, is_cut, bell) {
         Ok(end) => Ok(fed_by(service, end)),
-        Err(error) => Err(error),
+        Err(_) => Err(left_by(service)),
     }
 }
 
@@ -134,7 +152,7 @@ where
 }
 
 /// Takes in what the link gives while each host has so many workers, as far as threads can be made. Once nothing more is taken in, and
-/// the workers have returned, it returns too.
+/// the workers have returned, it returns too. Once memory ran out, it gives the sessions that are open.
 fn converse_beside_workers<E, L, Q, G, N, R>(
     rt: &R,
     alloc: Global,
@@ -146,7 +164,7 @@ fn converse_beside_workers<E, L, Q, G, N, R>(
     gate: &G,
     node: &Hosts<E, Q::Feed, N>,
     queues: Vec<Queues>,
-) -> Result<Fed, AllocError>
+) -> Result<Fed, Vec<OpenSession>>
 where
     E: Engine + Drop + Send,
     L: Link,
@@ -159,8 +177,8 @@ where
     requires hosts { N.hosts ≡ hosts }
     requires gives { Q.gives feeds.old ≡ N.gives }
     requires whole { is_cut.old ≡ false }
-    ensures ok { IfOk result (λ fed. IsFed hosts N.queues (wire (L.line link.old) (L.faults link.old) is_cut.old) (wire (L.line link.new) (L.faults link.new) is_cut.new) fed.sessions.items fed.errors fed.broken fed.end fed.told) }
-    ensures goes { GoesOn (wire (L.line link.old) (L.faults link.old) is_cut.old) (wire (L.line link.new) (L.faults link.new) is_cut.new) }
+    ensures fed { MatchResult result (λ fed. IsFed hosts N.queues (wire (L.line link.old) (L.faults link.old) is_cut.old) (wire (L.line link.new) (L.faults link.new) is_cut.new) fed.sessions.items fed.errors fed.broken fed.end fed.told)
+        (λ sessions. IsLeft hosts N.queues (wire (L.line link.old) (L.faults link.old) is_cut.old) (wire (L.line link.new) (L.faults link.new) is_cut.new) sessions.items) }
 {
     let bell = Bell::new();
     let bell = &bell;
@@ -168,13 +186,13 @@ where
     let ((), fed) = join_mut(
         rt,
         &mut || run_ringing(rt, alloc, hosts, workers, gate, bell, node),
-        &mut || -> Result<Fed, AllocError>
+        &mut || -> Result<Fed, Vec<OpenSession>>
             requires queues { (N.queues ≡ queues.items) × (length queues.items ≡ 256) }
             requires hosts { N.hosts ≡ hosts }
             requires gives { Q.gives feeds.now ≡ N.gives }
             requires whole { is_cut.now ≡ false }
-            ensures ok { IfOk result (λ fed. IsFed hosts N.queues (wire (L.line link.entry.now) (L.faults link.entry.now) is_cut.entry.now) (wire (L.line link.exit.now) (L.faults link.exit.now) is_cut.exit.now) fed.sessions.items fed.errors fed.broken fed.end fed.told) }
-            ensures goes { GoesOn (wire (L.line link.entry.now) (L.faults link.entry.now) is_cut.entry.now) (wire (L.line link.exit.now) (L.faults link.exit.now) is_cut.exit.now) }
+            ensures fed { MatchResult result (λ fed. IsFed hosts N.queues (wire (L.line link.entry.now) (L.faults link.entry.now) is_cut.entry.now) (wire (L.line link.exit.now) (L.faults link.exit.now) is_cut.exit.now) fed.sessions.items fed.errors fed.broken fed.end fed.told)
+                (λ sessions. IsLeft hosts N.queues (wire (L.line link.entry.now) (L.faults link.entry.now) is_cut.entry.now) (wire (L.line link.exit.now) (L.faults link.exit.now) is_cut.exit.now) sessions.items) }
         {
             let all = mem::replace(&mut queues, Vec::new(alloc));
             let fed = converse(rt, alloc, hosts, link, is_cut, feeds, bell, node, all);
@@ -199,6 +217,26 @@ fn link_end(end: RunEnd, is_cut: bool) -> LinkEnd
     }
 }
 
+/// Adds the error of a broken frame, and tells the errors that weren't told. Whether memory sufficed.
+fn tell_left<L: Link>(
+    alloc: Global,
+    link: &mut L,
+    is_cut: &mut bool,
+    end: IntakeEnd,
+    broken: Option<u64>,
+    errors: &mut Items<NodeError>,
+    told: usize,
+) -> bool
+    requires few { told ≤ length errors.old }
+    ensures errors { result ≡ true → errors.new ≡ errors_after end broken errors.old }
+    ensures sends { SendsOn true result (wire (L.line link.old) (L.faults link.old) is_cut.old) (wire (L.line link.new) (L.faults link.new) is_cut.new) (error_units 1 (take told errors.old)) (error_units 1 (errors_after end broken errors.old)) }
+{
+    if push_broken(end, broken, errors).is_err() {
+        return false;
+    }
+    tell_errors(alloc, link, is_cut, errors.as_slice(), told).is_ok()
+}
+
 /// Does what the workers left of what was taken in, and tells the rest.
 fn close_fed<E, F, N, L, G, R>(
     rt: &R,
@@ -218,9 +256,9 @@ where
     R: Wait,
     requires table { IsTable cells.items × (length N.queues ≡ 256) }
     requires fed { (start : Wire) × IsFed N.hosts N.queues start (wire (L.line link.old) (L.faults link.old) is_cut.old) fed.sessions.items fed.errors fed.broken fed.end fed.told }
-    ensures ok { (start : Wire) → IsFed N.hosts N.queues start (wire (L.line link.old) (L.faults link.old) is_cut.old) fed.sessions.items fed.errors fed.broken fed.end fed.told
-        → IfOk result (λ report. IsReported E.meaning N.hosts N.gives start (wire (L.line link.new) (L.faults link.new) is_cut.new) report.end report.errors report.runs.items) }
-    ensures goes { GoesOn (wire (L.line link.old) (L.faults link.old) is_cut.old) (wire (L.line link.new) (L.faults link.new) is_cut.new) }
+    ensures told { (start : Wire) → IsFed N.hosts N.queues start (wire (L.line link.old) (L.faults link.old) is_cut.old) fed.sessions.items fed.errors fed.broken fed.end fed.told
+        → MatchResult result (λ report. IsReported E.meaning N.hosts N.gives start (wire (L.line link.new) (L.faults link.new) is_cut.new) report.end report.errors report.runs.items)
+        (λ _. IsStopped E.meaning N.hosts N.gives start (wire (L.line link.new) (L.faults link.new) is_cut.new)) }
 {
     let Fed {
         sessions,
@@ -230,22 +268,42 @@ where
         told,
     } = fed;
     let mut errors = errors;
-    if push_broken(end, broken, &mut errors).is_err() {
-        discard(cells);
+    let suffices = tell_left(alloc, link, is_cut, end, broken, &mut errors, told);
+    let closings = close_all(rt, alloc, link, is_cut, cells, sessions, gate, suffices);
+    let Closings { runs, suffices } = closings;
+    if !suffices {
         return Err(AllocError);
     }
-    if tell_errors(alloc, link, is_cut, errors.as_slice(), told).is_err() {
-        discard(cells);
-        return Err(AllocError);
-    }
-    match close_all(rt, alloc, link, is_cut, cells, sessions, gate) {
-        Ok(runs) => Ok(LinkReport {
-            end: link_end(end_after(end, broken), *is_cut),
-            errors,
-            runs,
-        }),
-        Err(error) => Err(error),
-    }
+    Ok(LinkReport {
+        end: link_end(end_after(end, broken), *is_cut),
+        errors,
+        runs,
+    })
+}
+
+/// Lets the sessions go that are open once memory ran out.
+fn let_all_go<E, F, N, L, G, R>(
+    rt: &R,
+    alloc: Global,
+    link: &mut L,
+    is_cut: &mut bool,
+    cells: Vec<SessionCell<E, F, N>>,
+    sessions: Vec<OpenSession>,
+    gate: &G,
+)
+where
+    E: Engine + Drop,
+    F: Feed,
+    N: Name,
+    L: Link,
+    G: Gate,
+    R: Wait,
+    requires table { IsTable cells.items × (length N.queues ≡ 256) }
+    requires left { (start : Wire) × IsLeft N.hosts N.queues start (wire (L.line link.old) (L.faults link.old) is_cut.old) sessions.items }
+    ensures stopped { (start : Wire) → IsLeft N.hosts N.queues start (wire (L.line link.old) (L.faults link.old) is_cut.old) sessions.items → IsStopped E.meaning N.hosts N.gives start (wire (L.line link.new) (L.faults link.new) is_cut.new) }
+{
+    let closings = close_all(rt, alloc, link, is_cut, cells, sessions, gate, false);
+    drop(closings);
 }
 
 /// Serves a link, under a name that lists the queues of its sessions.
@@ -271,7 +329,8 @@ where
     requires hosts { N.hosts ≡ hosts }
     requires gives { Q.gives feeds.old ≡ N.gives }
     ensures told { (taken : List ℕ) × (sent : List ℕ) × WentOn (L.line link.old) (L.line link.new) taken sent
-        × IfOk result (λ report. HasServed E.meaning hosts (Q.gives feeds.old) report.end taken (left_of (L.line link.new)) sent report.errors report.runs.items) }
+        × MatchResult result (λ report. HasServed E.meaning hosts (Q.gives feeds.old) report.end taken (left_of (L.line link.new)) sent report.errors report.runs.items)
+        (λ _. HasServedSoFar E.meaning hosts (Q.gives feeds.old) taken (left_of (L.line link.new)) sent) }
     ensures fault { IfOk result (λ report. report.end ≡ LinkEnd.LinkFault → HasRisen (L.faults link.old) (L.faults link.new)) }
     ensures faults_stay { L.faults link.old ≤ L.faults link.new }
 {
@@ -293,9 +352,17 @@ where
         queues,
     ) {
         Ok(fed) => close_fed(rt, alloc, link, &mut is_cut, node.into_cells(), fed, gate),
-        Err(error) => {
-            discard(node.into_cells());
-            Err(error)
+        Err(sessions) => {
+            let_all_go(
+                rt,
+                alloc,
+                link,
+                &mut is_cut,
+                node.into_cells(),
+                sessions,
+                gate,
+            );
+            Err(AllocError)
         }
     }
 }
@@ -304,7 +371,8 @@ where
 /// far as threads can be made. The calling thread polls the link, and sends each error's frame and each entry's frames as soon as they
 /// are there: all frames of an entry together, those of a session in their order. Once the link ended, or gave what is no frame, what
 /// is left is done and sent. After a fault of the link nothing more is sent or taken in, and what was taken in is served all the same.
-/// At `Err` memory ran out, and all is let go.
+/// At `Err` memory ran out. Then no more is taken in or sent, and the sessions are let go with the requests that still wait for them. What
+/// was sent till then is the first of all that; its last frame may be cut off.
 pub fn serve_link<E, L, Q, G, R>(
     rt: &R,
     alloc: Global,
@@ -322,7 +390,8 @@ where
     G: Gate + Sync,
     R: Threads + Wait + Clock + Sync,
     ensures told { (taken : List ℕ) × (sent : List ℕ) × WentOn (L.line link.old) (L.line link.new) taken sent
-        × IfOk result (λ report. HasServed E.meaning hosts (Q.gives feeds.old) report.end taken (left_of (L.line link.new)) sent report.errors report.runs.items) }
+        × MatchResult result (λ report. HasServed E.meaning hosts (Q.gives feeds.old) report.end taken (left_of (L.line link.new)) sent report.errors report.runs.items)
+        (λ _. HasServedSoFar E.meaning hosts (Q.gives feeds.old) taken (left_of (L.line link.new)) sent) }
     ensures fault { IfOk result (λ report. report.end ≡ LinkEnd.LinkFault → HasRisen (L.faults link.old) (L.faults link.new)) }
     ensures faults_stay { L.faults link.old ≤ L.faults link.new }
 {

@@ -1,11 +1,11 @@
 //! A link is heard and told while the workers of its sessions run.
 
-ghost use Rattle.std.specs.Prelude.{◌≡◌, ◌<◌, ◌≤◌, false, Some, length, IfOk, OnOk};
+ghost use Rattle.std.specs.Prelude.{◌≡◌, ◌<◌, false, Some, length, is_ok, IfOk, OnOk, MatchResult};
 ghost use Rattle.jupyter_frames.specs.Framing.{IsBegun};
 ghost use Rattle.node_intake.specs.Taking.{EndsSo, EndsOrGoesOn};
-ghost use Rattle.node_serve.specs.Sent.{Wire, wire, left_of, GoesOn};
-ghost use Rattle.node_serve.specs.Service.{InService, IsEnd};
-ghost use Rattle.node_serve.specs.Hearing.{end_in, Heeds};
+ghost use Rattle.node_serve.specs.Sent.{wire, left_of};
+ghost use Rattle.node_serve.specs.Service.{Serves, IsEnd};
+ghost use Rattle.node_serve.specs.Hearing.{end_in, Heeds, HeedsFront};
 
 use crate::bell::Bell;
 use crate::telling::{next_frames, tell, tell_error};
@@ -67,10 +67,8 @@ impl<'a, E: Engine + Drop, Q: Feeds, N: Name, R: Wait> Service<'a, E, Q, N, R> {
     ) -> Result<bool, AllocError>
         requires at { at < length self.old.node.desk }
         ensures count { OnOk result (length self.new.node.desk ≡ length self.old.node.desk) }
-        ensures ok { OnOk result ((start : Wire) → InService N.hosts N.queues start (wire (L.line link.old) (L.faults link.old) is_cut.old) self.old.framer self.old.node self.old.told
-            → InService N.hosts N.queues start (wire (L.line link.new) (L.faults link.new) is_cut.new) self.new.framer self.new.node self.new.told) }
+        ensures serves { Serves (is_ok result) N.hosts N.queues (wire (L.line link.old) (L.faults link.old) is_cut.old) (wire (L.line link.new) (L.faults link.new) is_cut.new) self.old.framer self.old.node self.old.told self.new.framer self.new.node self.new.told }
         ensures held { OnOk result (self.new.framer ≡ self.old.framer) }
-        ensures goes { GoesOn (wire (L.line link.old) (L.faults link.old) is_cut.old) (wire (L.line link.new) (L.faults link.new) is_cut.new) }
     {
         match next_frames(alloc, &mut self.node.desk, at) {
             Ok(Some(frames)) => match tell(link, is_cut, frames.as_slice()) {
@@ -92,10 +90,8 @@ impl<'a, E: Engine + Drop, Q: Feeds, N: Name, R: Wait> Service<'a, E, Q, N, R> {
         link: &mut L,
         is_cut: &mut bool,
     ) -> Result<bool, AllocError>
-        ensures ok { OnOk result ((start : Wire) → InService N.hosts N.queues start (wire (L.line link.old) (L.faults link.old) is_cut.old) self.old.framer self.old.node self.old.told
-            → InService N.hosts N.queues start (wire (L.line link.new) (L.faults link.new) is_cut.new) self.new.framer self.new.node self.new.told) }
+        ensures serves { Serves (is_ok result) N.hosts N.queues (wire (L.line link.old) (L.faults link.old) is_cut.old) (wire (L.line link.new) (L.faults link.new) is_cut.new) self.old.framer self.old.node self.old.told self.new.framer self.new.node self.new.told }
         ensures held { OnOk result (self.new.framer ≡ self.old.framer) }
-        ensures goes { GoesOn (wire (L.line link.old) (L.faults link.old) is_cut.old) (wire (L.line link.new) (L.faults link.new) is_cut.new) }
     {
         let errors = self.node.errors.as_slice();
         let at = self.told;
@@ -119,10 +115,8 @@ impl<'a, E: Engine + Drop, Q: Feeds, N: Name, R: Wait> Service<'a, E, Q, N, R> {
         link: &mut L,
         is_cut: &mut bool,
     ) -> Result<bool, AllocError>
-        ensures ok { OnOk result ((start : Wire) → InService N.hosts N.queues start (wire (L.line link.old) (L.faults link.old) is_cut.old) self.old.framer self.old.node self.old.told
-            → InService N.hosts N.queues start (wire (L.line link.new) (L.faults link.new) is_cut.new) self.new.framer self.new.node self.new.told) }
+        ensures serves { Serves (is_ok result) N.hosts N.queues (wire (L.line link.old) (L.faults link.old) is_cut.old) (wire (L.line link.new) (L.faults link.new) is_cut.new) self.old.framer self.old.node self.old.told self.new.framer self.new.node self.new.told }
         ensures held { OnOk result (self.new.framer ≡ self.old.framer) }
-        ensures goes { GoesOn (wire (L.line link.old) (L.faults link.old) is_cut.old) (wire (L.line link.new) (L.faults link.new) is_cut.new) }
     {
         match self.tell_one_error(alloc, link, is_cut) {
             Ok(has_told) => self.tell_sessions(alloc, link, is_cut, has_told),
@@ -138,10 +132,8 @@ impl<'a, E: Engine + Drop, Q: Feeds, N: Name, R: Wait> Service<'a, E, Q, N, R> {
         is_cut: &mut bool,
         has_told: bool,
     ) -> Result<bool, AllocError>
-        ensures ok { OnOk result ((start : Wire) → InService N.hosts N.queues start (wire (L.line link.old) (L.faults link.old) is_cut.old) self.old.framer self.old.node self.old.told
-            → InService N.hosts N.queues start (wire (L.line link.new) (L.faults link.new) is_cut.new) self.new.framer self.new.node self.new.told) }
+        ensures serves { Serves (is_ok result) N.hosts N.queues (wire (L.line link.old) (L.faults link.old) is_cut.old) (wire (L.line link.new) (L.faults link.new) is_cut.new) self.old.framer self.old.node self.old.told self.new.framer self.new.node self.new.told }
         ensures held { OnOk result (self.new.framer ≡ self.old.framer) }
-        ensures goes { GoesOn (wire (L.line link.old) (L.faults link.old) is_cut.old) (wire (L.line link.new) (L.faults link.new) is_cut.new) }
     {
         let mut has_told = has_told;
         for at in 0..self.node.desk.sessions() {
@@ -166,7 +158,8 @@ impl<'a, E: Engine + Drop, Q: Feeds, N: Name, R: Wait> Service<'a, E, Q, N, R> {
     /// Takes in what came.
     fn take_piece(&mut self, alloc: Global, hosts: u32, piece: &[u8]) -> Result<Heard, AllocError>
         requires hosts { N.hosts ≡ hosts }
-        ensures took { IfOk result (λ heard. Heeds N.queues hosts self.old.framer self.old.node self.old.told piece.now heard self.new.framer self.new.node self.new.told) }
+        ensures took { MatchResult result (λ heard. Heeds N.queues hosts self.old.framer self.old.node self.old.told piece.now heard self.new.framer self.new.node self.new.told)
+            (λ _. HeedsFront N.queues hosts self.old.framer self.old.node piece.now self.new.node) }
     {
         match self.framer.feed(alloc, piece) {
             Ok(()) => match take_frames(alloc, hosts, &mut self.framer, &mut self.node) {
@@ -192,11 +185,9 @@ impl<'a, E: Engine + Drop, Q: Feeds, N: Name, R: Wait> Service<'a, E, Q, N, R> {
         requires begun { IsBegun self.old.framer.bytes }
         requires room { 0 < length room.old }
         requires whole { is_cut.old ≡ false }
-        ensures ok { OnOk result ((start : Wire) → InService N.hosts N.queues start (wire (L.line link.old) (L.faults link.old) is_cut.old) self.old.framer self.old.node self.old.told
-            → InService N.hosts N.queues start (wire (L.line link.new) (L.faults link.new) is_cut.new) self.new.framer self.new.node self.new.told) }
+        ensures serves { Serves (is_ok result) N.hosts N.queues (wire (L.line link.old) (L.faults link.old) is_cut.old) (wire (L.line link.new) (L.faults link.new) is_cut.new) self.old.framer self.old.node self.old.told self.new.framer self.new.node self.new.told }
         ensures ends { IfOk result (λ heard. EndsOrGoesOn (end_in heard) (left_of (L.line link.new)) self.new.framer.bytes × IsEnd (end_in heard) is_cut.new) }
         ensures room { length room.new ≡ length room.old }
-        ensures goes { GoesOn (wire (L.line link.old) (L.faults link.old) is_cut.old) (wire (L.line link.new) (L.faults link.new) is_cut.new) }
     {
         match link.poll(room, patience) {
             Polled::Bytes(count) => self.take_piece(alloc, hosts, &room[..count]),
@@ -226,11 +217,9 @@ impl<'a, E: Engine + Drop, Q: Feeds, N: Name, R: Wait> Service<'a, E, Q, N, R> {
         requires begun { IsBegun self.old.framer.bytes }
         requires room { 0 < length room.old }
         requires whole { is_cut.old ≡ false }
-        ensures ok { OnOk result ((start : Wire) → InService N.hosts N.queues start (wire (L.line link.old) (L.faults link.old) is_cut.old) self.old.framer self.old.node self.old.told
-            → InService N.hosts N.queues start (wire (L.line link.new) (L.faults link.new) is_cut.new) self.new.framer self.new.node self.new.told) }
+        ensures serves { Serves (is_ok result) N.hosts N.queues (wire (L.line link.old) (L.faults link.old) is_cut.old) (wire (L.line link.new) (L.faults link.new) is_cut.new) self.old.framer self.old.node self.old.told self.new.framer self.new.node self.new.told }
         ensures ends { IfOk result (λ end. EndsOrGoesOn end (left_of (L.line link.new)) self.new.framer.bytes × IsEnd end is_cut.new) }
         ensures room { length room.new ≡ length room.old }
-        ensures goes { GoesOn (wire (L.line link.old) (L.faults link.old) is_cut.old) (wire (L.line link.new) (L.faults link.new) is_cut.new) }
     {
         let rings = bell.rings(rt);
         match self.tell_ready(alloc, link, is_cut) {
@@ -264,10 +253,8 @@ impl<'a, E: Engine + Drop, Q: Feeds, N: Name, R: Wait> Service<'a, E, Q, N, R> {
         requires begun { IsBegun self.old.framer.bytes }
         requires room { 0 < length room.old }
         requires whole { is_cut.old ≡ false }
-        ensures ok { OnOk result ((start : Wire) → InService N.hosts N.queues start (wire (L.line link.old) (L.faults link.old) is_cut.old) self.old.framer self.old.node self.old.told
-            → InService N.hosts N.queues start (wire (L.line link.new) (L.faults link.new) is_cut.new) self.new.framer self.new.node self.new.told) }
+        ensures serves { Serves (is_ok result) N.hosts N.queues (wire (L.line link.old) (L.faults link.old) is_cut.old) (wire (L.line link.new) (L.faults link.new) is_cut.new) self.old.framer self.old.node self.old.told self.new.framer self.new.node self.new.told }
         ensures ends { IfOk result (λ end. EndsSo end (left_of (L.line link.new)) self.new.framer.bytes × IsEnd (Some end) is_cut.new) }
-        ensures goes { GoesOn (wire (L.line link.old) (L.faults link.old) is_cut.old) (wire (L.line link.new) (L.faults link.new) is_cut.new) }
     {
         for _ in rt.forever() {
             match self.turn(rt, alloc, hosts, link, is_cut, bell, room) {
@@ -292,10 +279,8 @@ impl<'a, E: Engine + Drop, Q: Feeds, N: Name, R: Wait> Service<'a, E, Q, N, R> {
         requires hosts { N.hosts ≡ hosts }
         requires begun { IsBegun self.old.framer.bytes }
         requires whole { is_cut.old ≡ false }
-        ensures ok { OnOk result ((start : Wire) → InService N.hosts N.queues start (wire (L.line link.old) (L.faults link.old) is_cut.old) self.old.framer self.old.node self.old.told
-            → InService N.hosts N.queues start (wire (L.line link.new) (L.faults link.new) is_cut.new) self.new.framer self.new.node self.new.told) }
+        ensures serves { Serves (is_ok result) N.hosts N.queues (wire (L.line link.old) (L.faults link.old) is_cut.old) (wire (L.line link.new) (L.faults link.new) is_cut.new) self.old.framer self.old.node self.old.told self.new.framer self.new.node self.new.told }
         ensures ends { IfOk result (λ end. EndsSo end (left_of (L.line link.new)) self.new.framer.bytes × IsEnd (Some end) is_cut.new) }
-        ensures goes { GoesOn (wire (L.line link.old) (L.faults link.old) is_cut.old) (wire (L.line link.new) (L.faults link.new) is_cut.new) }
     {
         match read_room(alloc) {
             Ok(room) => {

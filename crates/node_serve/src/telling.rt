@@ -1,12 +1,12 @@
 //! A link is told errors and entries, each by the frames of one unit. Once it met a fault it is told nothing more.
 
-ghost use Rattle.std.specs.Prelude.{◌≡◌, ℕ, ◌+◌, ◌≤◌, ◌<◌, List, ◌∷◌, ◌++◌, length, map, take, IfOk, OnOk, MatchOption};
+ghost use Rattle.std.specs.Prelude.{◌≡◌, ◌+◌, ◌≤◌, ◌<◌, true, length, map, take, is_ok, IfOk, OnErr, MatchOption};
 ghost use Rattle.reply_frames.specs.Nodes.{frame_of};
 ghost use Rattle.reply_frames.specs.Replies.{entry_frames, entry_length};
 ghost use Rattle.node_run.specs.Unsent.{AreAlike, AreCounted, frames_in};
-ghost use Rattle.node_serve.specs.Interleaving.{IsPutTo};
+ghost use Rattle.node_serve.specs.Interleaving.{IsPutTo, AreFronts};
 ghost use Rattle.node_serve.specs.Units.{error_units, entry_units, number_after, read_units, unit_of};
-ghost use Rattle.node_serve.specs.Sent.{Wire, wire, Tells, GoesOn, IsSending};
+ghost use Rattle.node_serve.specs.Sent.{wire, TellsWhile, SendsOn};
 
 use crate::sending::{SendFault, send_all};
 use nb_links::Link;
@@ -21,8 +21,7 @@ use std::sync::Wait;
 
 /// Sends the bytes, unless the link met a fault before.
 pub(crate) fn tell<L: Link>(link: &mut L, is_cut: &mut bool, bytes: &[u8]) -> Result<(), AllocError>
-    ensures ok { OnOk result (Tells (wire (L.line link.old) (L.faults link.old) is_cut.old) (wire (L.line link.new) (L.faults link.new) is_cut.new) bytes.now) }
-    ensures goes { GoesOn (wire (L.line link.old) (L.faults link.old) is_cut.old) (wire (L.line link.new) (L.faults link.new) is_cut.new) }
+    ensures tells { TellsWhile (is_ok result) (wire (L.line link.old) (L.faults link.old) is_cut.old) (wire (L.line link.new) (L.faults link.new) is_cut.new) bytes.now }
 {
     if *is_cut {
         return Ok(());
@@ -45,8 +44,7 @@ pub(crate) fn tell_error<L: Link>(
     running: u64,
     error: &NodeError,
 ) -> Result<(), AllocError>
-    ensures ok { OnOk result (Tells (wire (L.line link.old) (L.faults link.old) is_cut.old) (wire (L.line link.new) (L.faults link.new) is_cut.new) (frame_of running error.now)) }
-    ensures goes { GoesOn (wire (L.line link.old) (L.faults link.old) is_cut.old) (wire (L.line link.new) (L.faults link.new) is_cut.new) }
+    ensures tells { TellsWhile (is_ok result) (wire (L.line link.old) (L.faults link.old) is_cut.old) (wire (L.line link.new) (L.faults link.new) is_cut.new) (frame_of running error.now) }
 {
     match node_error_frame(alloc, running, error) {
         Ok(frame) => tell(link, is_cut, frame.as_slice()),
@@ -62,10 +60,7 @@ pub(crate) fn tell_errors<L: Link>(
     errors: &[NodeError],
     told: usize,
 ) -> Result<(), AllocError>
-    ensures ok { OnOk result ((start : Wire) (taken : List ℕ) (lists : List (List (List ℕ)))
-        → IsSending start (wire (L.line link.old) (L.faults link.old) is_cut.old) taken (error_units 1 (take told errors.now) ∷ lists)
-        → IsSending start (wire (L.line link.new) (L.faults link.new) is_cut.new) taken (error_units 1 errors.now ∷ lists)) }
-    ensures goes { GoesOn (wire (L.line link.old) (L.faults link.old) is_cut.old) (wire (L.line link.new) (L.faults link.new) is_cut.new) }
+    ensures sends { SendsOn true (is_ok result) (wire (L.line link.old) (L.faults link.old) is_cut.old) (wire (L.line link.new) (L.faults link.new) is_cut.new) (error_units 1 (take told errors.now)) (error_units 1 errors.now) }
 {
     for at in told..errors.len() {
         let error = &errors[at];
@@ -88,7 +83,8 @@ fn frames_after(alloc: Global, next: NextEntry) -> Result<(Items<u8>, u64), Allo
     told
 }
 
-/// The frames of the next entry of the session at that index. None if none was there at a step of this call.
+/// The frames of the next entry of the session at that index. None if none was there at a step of this call. After an error perhaps
+/// one was read.
 pub(crate) fn next_frames<E, Q, N, R>(
     alloc: Global,
     desk: &mut AdmissionDesk<'_, E, Q, N, R>,
@@ -103,6 +99,7 @@ where
     ensures same { IfOk result (λ frames. MatchOption frames (desk.new ≡ desk.old) (λ bytes. AreAlike desk.old desk.new)) }
     ensures next { IfOk result (λ frames. MatchOption frames (desk.new ≡ desk.old)
         (λ bytes. AreCounted desk.old → IsPutTo (map read_units desk.old) bytes (map read_units desk.new) × AreCounted desk.new)) }
+    ensures err { OnErr result (AreAlike desk.old desk.new × AreFronts (map read_units desk.old) (map read_units desk.new)) }
 {
     let Some(next) = desk.read(at) else {
         return Ok(None);
@@ -125,9 +122,8 @@ fn tell_entry<L: Link>(
     entry: &Entry,
     running: u64,
 ) -> Result<u64, AllocError>
-    ensures ok { OnOk result (Tells (wire (L.line link.old) (L.faults link.old) is_cut.old) (wire (L.line link.new) (L.faults link.new) is_cut.new) (entry_frames kernel entry.now running)) }
+    ensures tells { TellsWhile (is_ok result) (wire (L.line link.old) (L.faults link.old) is_cut.old) (wire (L.line link.new) (L.faults link.new) is_cut.new) (entry_frames kernel entry.now running) }
     ensures next { IfOk result (λ next. next ≡ running + entry_length entry.now) }
-    ensures goes { GoesOn (wire (L.line link.old) (L.faults link.old) is_cut.old) (wire (L.line link.new) (L.faults link.new) is_cut.new) }
 {
     match frames_of(alloc, kernel, entry, running) {
         Ok((frames, next)) => match tell(link, is_cut, frames.as_slice()) {
@@ -150,10 +146,7 @@ pub(crate) fn tell_rest<L: Link>(
 ) -> Result<(), AllocError>
     requires place { place ≤ length entries.now }
     requires next { next ≡ 1 + frames_in (take place entries.now) }
-    ensures ok { OnOk result ((start : Wire) (taken : List ℕ) (before after : List (List (List ℕ)))
-        → IsSending start (wire (L.line link.old) (L.faults link.old) is_cut.old) taken (before ++ entry_units kernel 1 (take place entries.now) ∷ after)
-        → IsSending start (wire (L.line link.new) (L.faults link.new) is_cut.new) taken (before ++ entry_units kernel 1 entries.now ∷ after)) }
-    ensures goes { GoesOn (wire (L.line link.old) (L.faults link.old) is_cut.old) (wire (L.line link.new) (L.faults link.new) is_cut.new) }
+    ensures sends { SendsOn true (is_ok result) (wire (L.line link.old) (L.faults link.old) is_cut.old) (wire (L.line link.new) (L.faults link.new) is_cut.new) (entry_units kernel 1 (take place entries.now)) (entry_units kernel 1 entries.now) }
 {
     let mut running = next;
     for at in place..entries.len() {

@@ -6,7 +6,7 @@ ghost use Rattle.session_core.specs.Legal.{progress_of, sealed, IsLegal, IsReaso
 ghost use Rattle.session_core.specs.Stepping.{GoesBy, IsVerdict};
 ghost use Rattle.session_core.specs.Feeding.{HasFed};
 ghost use Rattle.session_queues.specs.Passes.{IsPassOf};
-ghost use Rattle.session_queues.specs.Ends.{FoundNothing, looked_at_both, TookRequest, admitted_main, admitted_control, gathered, all_of, GoesOn};
+ghost use Rattle.session_queues.specs.Ends.{FoundNothing, HasWaiting, looked_at_both, TookRequest, admitted_main, admitted_control, gathered, all_of, GoesOn};
 ghost use Rattle.session_gate.specs.Facts.{OwesNone, Owes, IsSettled, IsWhole, IsIn, HasSame, HasNoted, owner_of};
 ghost use Rattle.session_gate.specs.Slots.{IsServed};
 ghost use Rattle.session_gate.specs.Custodies.{is_of, IsFree};
@@ -275,6 +275,33 @@ impl<E: Engine, F: Feed> Lease<E, F> {
             count: _,
         } = resident;
         journal
+    }
+
+    /// Lets the session go, with all that waits for it. Its journal is legal. Just what that says was taken from the feed since it was
+    /// made, and after it what was drawn for a request of which the session died for want of memory. What was popped is the front
+    /// of each producer's list that the lease has. Takes no memory.
+    pub fn let_go<R: Wait>(self, rt: &R)
+    where
+        E: Drop,
+        requires owes { OwesNone self }
+        ensures legal { IsLegal E.meaning self.hosts self.entries }
+        ensures fed { HasFed (F.seen self.feed).made self.entries (F.seen self.feed) }
+        ensures waits { HasWaiting self.ends }
+    {
+        let Lease { resident } = self;
+        let Resident {
+            engine: _,
+            feed: _,
+            journal: _,
+            ends,
+            outlet: _,
+            number: _,
+            kernel: _,
+            hosts: _,
+            dead: _,
+            count: _,
+        } = resident;
+        ends.let_go(rt);
     }
 
     /// The session on one thread, settled between two requests, and its feed. Just what the journal says was taken from the feed

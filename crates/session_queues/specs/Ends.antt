@@ -109,6 +109,10 @@ FoundNoControl h = Waits frontend_of h.control []
 abbrev pub FoundNothing : Held → Type 0
 FoundNothing h = Waits number_of h.main [] × FoundNoControl h
 
+-- These wait in the two queues: each list that is kept is what was popped of its number, and then what waits of it.
+abbrev pub HasWaiting : Held → Type 0
+HasWaiting h = ((items : List MainItem) × Waits number_of h.main items) × ((requests : List Request) × Waits frontend_of h.control requests)
+
 -- each of the two was found empty once more
 abbrev pub looked_at_both : Held → Held
 looked_at_both h = record h { main = looked h.main; control = looked h.control }

@@ -1,12 +1,14 @@
-ghost use Rattle.std.specs.Prelude.{◌≡◌, ◌≢◌, ◌<◌, [], cond, true, MatchOption, MatchResult};
+ghost use Rattle.std.specs.Prelude.{◌≡◌, ◌≢◌, ◌<◌, [], cond, true, List, MatchOption, MatchResult};
+ghost use Rattle.crossbeam_queue.specs.SegTies.{IsSegPassOf};
+ghost use Rattle.ruled_queue.specs.Rule.{Waits};
 ghost use Rattle.session_core.specs.Asks.{is_control};
 ghost use Rattle.session_queues.specs.Passes.{IsPassOf, KeepsAll};
-ghost use Rattle.session_queues.specs.Ends.{FoundNothing, looked_at_both, TookRequest, gathered, admitted_main, admitted_control};
+ghost use Rattle.session_queues.specs.Ends.{FoundNothing, HasWaiting, looked_at_both, TookRequest, gathered, admitted_main, admitted_control};
 
 use crate::items::MainItem;
 use crate::pass::{Pass, push_main};
 use crate::shared::SharedQueues;
-use ruled_queue::Seat;
+use ruled_queue::{Numbering, Queue, Seat};
 use session_core::Request;
 use std::alloc::Global;
 use std::marker::Model;
@@ -91,6 +93,21 @@ impl Ends {
         ruled_queue::join(&self.shared.control, &mut self.control, control);
     }
 
+    /// Lets the ends go, with all that waits. What was popped before is the front of each list that is kept here. Takes no memory.
+    pub fn let_go<R: Wait>(self, rt: &R)
+        ensures { HasWaiting self }
+    {
+        let Ends {
+            shared,
+            main,
+            control,
+        } = self;
+        let mut main = main;
+        let mut control = control;
+        drop_waiting(rt, &shared.main, &mut main);
+        drop_waiting(rt, &shared.control, &mut control);
+    }
+
     /// Two owners of one session never meet.
     pub fn meets<R: Wait>(&mut self, rt: &R, other: Ends)
         requires { other.queues ≡ self.old.queues }
@@ -103,4 +120,18 @@ impl Ends {
         } = other;
         ruled_queue::one_consumer(rt, &self.shared.main, &mut self.main, other);
     }
+}
+
+/// Drops all that is queued.
+fn drop_waiting<T: Drop, N: Numbering<T>, R: Wait>(rt: &R, queue: &Queue<T, N>, seat: &mut Seat<T>)
+    requires queue { IsSegPassOf queue.now seat.old }
+    requires consumer { seat.old.me.view.client.pops ≡ true }
+    ensures { (items : List T) × Waits N.number seat.old.me.view.client items }
+{
+    for _ in rt.forever() {
+        if !ruled_queue::pop_and_drop(rt, queue, seat) {
+            return;
+        }
+    }
+    unreachable!()
 }

@@ -29,7 +29,7 @@ either_way true = inl refl
 either_way false = inr refl
 
 -- if no request waits in the control list, all wait in the main list
-main_alone : (rs : List Request) → filter is_control rs ≡ [] → filter is_main rs ≡ rs
+pub main_alone : (rs : List Request) → filter is_control rs ≡ [] → filter is_main rs ≡ rs
 main_alone [] none = refl
 main_alone (r ∷ rs) none = elim (either_way (is_control r)) [
   | inl is ↦

@@ -2,3 +2,9 @@ pub mod Asked
 pub mod Ran
 pub mod Unmoved
 pub mod Streaming
+pub mod OneWay
+pub mod NotebooksOneWay
+pub mod OneReason
+pub mod OneEntry
+pub mod OneList
+pub mod OneJournal

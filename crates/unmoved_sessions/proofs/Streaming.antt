@@ -94,7 +94,7 @@ module _ (hosts : ℕ) (end : RunEnd) (bytes : List ℕ) (left : Option (List �
   ends_is : EndsAt end left cut.rest
   ends_is = subst (EndsAt end left) same.1 is.ends
 
-  node_is : (s : Taken) → AreBodiesOf s cut.bodies → s.host < hosts → length s.requests ≤ most_requests → node ≡ alone s (errors_of end cut.bodies)
+  pub node_is : (s : Taken) → AreBodiesOf s cut.bodies → s.host < hosts → length s.requests ≤ most_requests → node ≡ alone s (errors_of end cut.bodies)
   node_is s are hosted few =
       is.is_node ∙ ap (λ bodies. node_at end hosts bodies is.rest) same.0
       ∙ node_at_is end hosts s cut.bodies is.rest left (bodies_open hosts s cut.bodies are hosted few) is.ends
@@ -102,11 +102,11 @@ module _ (hosts : ℕ) (end : RunEnd) (bytes : List ℕ) (left : Option (List �
 -- ---- from the node to what is written
 
 -- one session has one journal
-one_journal : (meaning : Meaning) (hosts : ℕ) (gives : Answers) (s : Taken) (journals : List (List Entry)) → AreJournals meaning hosts gives (s ∷ []) journals
+pub journal_alone : (meaning : Meaning) (hosts : ℕ) (gives : Answers) (s : Taken) (journals : List (List Entry)) → AreJournals meaning hosts gives (s ∷ []) journals
     → (es : List Entry) × (journals ≡ es ∷ []) × IsJournalOf meaning hosts (gives s.kernel) s es
-one_journal meaning hosts gives s [] are = absurd are
-one_journal meaning hosts gives s (es ∷ []) are = (es, refl, are.0)
-one_journal meaning hosts gives s (es ∷ (more ∷ journals)) are = absurd are.1
+journal_alone meaning hosts gives s [] are = absurd are
+journal_alone meaning hosts gives s (es ∷ []) are = (es, refl, are.0)
+journal_alone meaning hosts gives s (es ∷ (more ∷ journals)) are = absurd are.1
 
 written_is : (s : Taken) (errors : List NodeError) (es : List Entry) → written (alone s errors) (es ∷ []) ≡ error_frames 1 errors ++ journal_frames s.kernel 1 es
 unfolding session_frames
@@ -118,7 +118,7 @@ module _ (hosts : ℕ) (gives : Answers) (bytes left : List ℕ) (cut : Cutting 
   stream_written IsAdded end writes =
       let errors = errors_of end cut.bodies in
       let node = node_is hosts end bytes (Some left) writes.node cut writes.is_node s are hosted few in
-      let (es, one, journal) = one_journal notebooks hosts gives s writes.journals (subst (λ (n : Node). AreJournals notebooks hosts gives n.sessions writes.journals) node writes.are_journals) in
+      let (es, one, journal) = journal_alone notebooks hosts gives s writes.journals (subst (λ (n : Node). AreJournals notebooks hosts gives n.sessions writes.journals) node writes.are_journals) in
       let (entries, begins, answered) = session_answered hosts (gives s.kernel) s es journal cells in
       let frames = ap (λ (n : Node). written n writes.journals) node ∙ (ap (written (alone s errors)) one ∙ written_is s errors es) in
       record {

@@ -1,3 +1,4 @@
 pub mod Cells
 pub mod Answered
 pub mod Streams
+pub mod Alike

@@ -6,6 +6,9 @@ ghost use Rattle.session_core.specs.declared.entry.Entry.TheVariants.{Opened};
 ghost use Rattle.node_intake.specs.Intake.{Taken};
 ghost use Rattle.node_run.specs.Journals.{IsJournalOf};
 ghost use Rattle.notebook_meaning.specs.Notebooks.{notebooks};
+ghost use Rattle.node_intake.specs.Intake.{control_requests};
+ghost use Rattle.std.specs.Prelude.{Some};
+ghost use Rattle.unmoved_sessions.specs.Alike.{HadMemoryThroughout, AreAlike};
 ghost use Rattle.unmoved_sessions.specs.Cells.{AsksCell, IsNoDeath};
 ghost use Rattle.unmoved_sessions.specs.Answered.{AreAnswered, AreAnsweredUntilDeath};
 
@@ -21,4 +24,12 @@ pub fn a_session_of_cells_is_one_that_never_moves()
 pub fn a_session_of_cells_never_moves_until_it_dies()
     ensures { (hosts : ℕ) (answers : Option (List Drawn)) (s : Taken) (es : List Entry) → IsJournalOf notebooks hosts answers s es → AllByRecursion AsksCell s.requests
         → (entries : List Entry) × (es ≡ Opened s.host s.request s.channel ∷ entries) × AreAnsweredUntilDeath s.host [] s.requests entries }
+{}
+
+/// A session that isn't short of memory has one journal, if it is asked for no move on control and its feed tells what it gives: of
+/// two journals of it, in neither of which memory ran out, each entry is the same, but that a move may have been made by another
+/// certificate.
+pub fn a_session_has_one_journal()
+    ensures { (hosts : ℕ) (gives : List Drawn) (s : Taken) (es fs : List Entry) → control_requests s ≡ [] → IsJournalOf notebooks hosts (Some gives) s es → IsJournalOf notebooks hosts (Some gives) s fs
+        → HadMemoryThroughout es → HadMemoryThroughout fs → AreAlike es fs }
 {}

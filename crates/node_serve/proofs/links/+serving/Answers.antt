@@ -1,4 +1,4 @@
-use Rattle.std.proofs.Common.{◌≡◌, ℕ, suc, ◌-◌, refl, subst, arith}
+use Rattle.std.proofs.Common.{◌≡◌, ℕ, suc, ◌-◌, subst, arith}
 use Rattle.node_serve.specs.Doors.{LinksServed}
 use Rattle.node_serve.proofs.Doors.{one_more}
 use Rattle.node_serve.proofs.links.+serving.Goals as goal

@@ -3,6 +3,7 @@ use Rattle.node_run.specs.declared.open_session.OpenSession.{OpenSession}
 use Rattle.node_run.specs.Admitted.{AreOpen}
 use Rattle.node_run.proofs.Seating.{seated_few, admitted_seated, admitted_length, admitted_open}
 use Rattle.node_run.specs.Unsent.{AreKept}
+use Rattle.node_run.specs.Keeping.{kept_all}
 use Rattle.node_run.proofs.Keeping.{admitted_readable, kept_admitted}
 use Rattle.node_run.proofs.desk.AdmissionDeskDesk.admit.Goals as goal
 
@@ -46,3 +47,8 @@ pub returns-clause-kept : goal.returns-clause-kept
 returns-clause-kept g c =
     let kept = kept_admitted c.self.inside.sessions.items c.admit_to.new.sessions.items c.args.at c.args.request c.in_ok-host.ensures.ok in
     subst (λ (l : List OpenSession). AreKept l c.admit_to.new.sessions.items) c.self.view_is kept
+
+pub returns-in_err-host-clause-kept : goal.returns-in_err-host-clause-kept
+returns-in_err-host-clause-kept g c =
+    let os : List OpenSession = c.self.inside.sessions.items in
+    subst (λ (l : List OpenSession). AreKept l c.admit_to.new.sessions.items) c.self.view_is (subst (AreKept os) (sym c.in_err-host.ensures.err) (kept_all os))

@@ -8,6 +8,7 @@ use Rattle.node_run.specs.declared.open_session.OpenSession.{OpenSession}
 use Rattle.node_run.specs.Admitted.{AreOpen, AreSeated}
 use Rattle.node_run.proofs.Seating.{next_listed, next_left, seated_more, first_seated, open_more, open_new}
 use Rattle.node_run.specs.Unsent.{AreReadable, AreKept}
+use Rattle.node_run.specs.Keeping.{kept_all}
 use Rattle.node_run.proofs.Keeping.{readable_more, kept_is_of, kept_is_unread, kept_more}
 use Rattle.node_run.proofs.desk.AdmissionDeskDesk.open.Goals as goal
 
@@ -74,3 +75,18 @@ returns-in-Ok-clause-kept g c =
     let all : c.push_reserved.new.self.items ≡ os ++ o ∷ [] = c.push_reserved.ensures.items ∙ ap (λ l. l ++ o ∷ []) c.reserve.ensures.items in
     let none = kept_is_unread c.in-Some.queues c.in-Ok.reader c.kept_reader-reader.result c.in-Ok.ensures.1 c.kept_reader-reader.ensures in
     subst (λ (l : List OpenSession). AreKept l c.push_reserved.new.self.items) c.self.view_is (subst (AreKept os) (sym all) (kept_more os o (none, refl)))
+
+pub returns-in_err-feed-clause-kept : goal.returns-in_err-feed-clause-kept
+returns-in_err-feed-clause-kept g c =
+    let os : List OpenSession = c.self.inside.sessions.items in
+    subst (λ (l : List OpenSession). AreKept l os) c.self.view_is (kept_all os)
+
+pub returns-in_err-reserve-clause-kept : goal.returns-in_err-reserve-clause-kept
+returns-in_err-reserve-clause-kept g c =
+    let os : List OpenSession = c.self.inside.sessions.items in
+    subst (λ (l : List OpenSession). AreKept l c.reserve.new.self.items) c.self.view_is (subst (AreKept os) (sym c.reserve.ensures.items) (kept_all os))
+
+pub returns-in-Err-clause-kept : goal.returns-in-Err-clause-kept
+returns-in-Err-clause-kept g c =
+    let os : List OpenSession = c.self.inside.sessions.items in
+    subst (λ (l : List OpenSession). AreKept l c.reserve.new.self.items) c.self.view_is (subst (AreKept os) (sym c.reserve.ensures.items) (kept_all os))
