@@ -3,7 +3,7 @@ use Rattle.std.specs.List.{flat_map}
 use Rattle.py_value.specs.declared.value.Value.{Value}
 use Rattle.part_bytes.specs.Texts as spec
 use Rattle.part_bytes.proofs.Lengths.{length-list, as_many_bytes}
-use Rattle.part_bytes.proofs.length.add_list.Goals as goal
+use Rattle.part_bytes.proofs.length.add_sequence.Goals as goal
 
 pub returns-in_err-counted : goal.returns-in_err-counted
 returns-in_err-counted c = rw c.from_residual.ensures (λ fits. c.in_err-counted.ensures (omega (arith, fits, length-list c.args.items.now)))
