@@ -1,7 +1,7 @@
 //! Chains that begin and go on.
-ghost use Rattle.std.specs.Prelude.{◌≡◌, [], ◌∷◌, ◌++◌, IfOk, Some, None};
+ghost use Rattle.std.specs.Prelude.{◌≡◌, [], ◌∷◌, IfOk, Some, None};
 ghost use Rattle.py_frames.specs.declared.frames.Hole.TheVariants as h;
-ghost use Rattle.py_frames.specs.Values.{beside, compared_from, opened, begun_by, grown, logic, arithmetic_in, arithmetic, compared, relating, related, finished, made};
+ghost use Rattle.py_frames.specs.Values.{compared_from, begun_by, logic, arithmetic_in, arithmetic, compared, relating, related, finished, made};
 
 use crate::closing::{all_with, join, made, operate, places, relate};
 use crate::frames::{Chain, Frame, Hole, Value};

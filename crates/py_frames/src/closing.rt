@@ -1,11 +1,10 @@
 //! What ends, and what goes on.
 ghost use Rattle.std.specs.Prelude.{◌≡◌, [], ◌∷◌, ◌++◌, true, false, if◌then◌else◌, IfOk, Some, None};
 ghost use Rattle.py_tree.specs.declared.expressions.Expr.TheVariants as e;
-ghost use Rattle.py_tree.specs.declared.expressions.Literal.TheVariants as literal;
 ghost use Rattle.py_tree.specs.declared.expressions.Relation.TheVariants.{With};
-ghost use Rattle.py_frames.specs.Values.{beside, kept, made, level, filled, emptied, is_index, opened, begun_by, grown, close, shut, closes, logic, arithmetic, compared_from, compared_with, compared, relating, finished};
+ghost use Rattle.py_frames.specs.Values.{beside, kept, made, level, filled, emptied, is_index, close, shut, closes};
 
-use crate::frames::{Chain, Frame, Hole, Value};
+use crate::frames::{Frame, Hole, Value};
 use crate::nest::Nest;
 use crate::places::Places;
 use plain_data::{Boxed, Items, Text};

@@ -1,5 +1,5 @@
 //! One more token where an operand is to come.
-ghost use Rattle.std.specs.Prelude.{◌≡◌, [], ◌∷◌, if◌then◌else◌, true, false, Some, None, IfOk};
+ghost use Rattle.std.specs.Prelude.{◌≡◌, ◌∷◌, if◌then◌else◌, true, false, Some, None};
 ghost use Rattle.py_token.specs.declared.kinds.Kind.TheVariants as t;
 ghost use Rattle.py_frames.specs.declared.frames.Hole.TheVariants as h;
 ghost use Rattle.py_frames.specs.declared.frames.State.TheVariants.{Wants, Has};
