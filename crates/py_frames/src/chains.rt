@@ -11,6 +11,7 @@ use plain_data::{Boxed, Items};
 use py_tree::{Expr, Op, Operand, Relation};
 use std::alloc::{AllocError, Global};
 
+/// One more frame, inside these.
 pub fn put(mut frames: Nest<Frame>, frame: Frame) -> Result<Nest<Frame>, AllocError>
     ensures { IfOk result (λ all. all ≡ frame ∷ frames) }
 {
@@ -18,6 +19,7 @@ pub fn put(mut frames: Nest<Frame>, frame: Frame) -> Result<Nest<Frame>, AllocEr
     Ok(frames)
 }
 
+/// A list of one tree.
 pub fn one(alloc: Global, tree: Expr) -> Result<Items<Expr>, AllocError>
     ensures { IfOk result (λ all. all ≡ tree ∷ []) }
 {

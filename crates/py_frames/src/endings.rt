@@ -21,6 +21,7 @@ pub fn begun(alloc: Global) -> State
     State::Wants(Nest::none(alloc))
 }
 
+/// Whether it is a tuple.
 pub fn is_tuple(hole: &Hole) -> bool
     ensures { result ≡ is_tuple hole.now }
 {

@@ -1,3 +1,4 @@
+//! What is true of the machine whatever is read: each law is the contract of a function that does nothing.
 ghost use Rattle.std.specs.Prelude.{◌≡◌, Bool, is_some, ℕ, max, ◌<◌, List, ◌∷◌, length};
 ghost use Rattle.py_token.specs.declared.kinds.Kind.{Kind};
 ghost use Rattle.py_grammar.specs.Expressions.{Exprs, spell_exprs};

@@ -109,6 +109,7 @@ fn symbol(alloc: Global, frames: Nest<Frame>, symbol: Symbol, at: usize) -> Resu
     }
 }
 
+/// A token where an operand is to come.
 pub fn operand(alloc: Global, frames: Nest<Frame>, token: &Kind, at: usize) -> Result<State, Stop>
     ensures { Gives result (operand frames token.now at) }
 {

@@ -15,11 +15,14 @@ use py_tree::{Expr, Target};
 use std::alloc::{AllocError, Global};
 use std::mem::drop;
 
-/// Targets, whether a comma is among them, and the places of what is in them.
+/// What has been read, as targets.
 #[derive(Drop)]
 pub struct Sight {
+    /// The targets, in their order.
     pub targets: Items<Target>,
+    /// Whether a comma is among them.
     pub divided: bool,
+    /// The places of what is in them.
     pub under: Places,
 }
 
