@@ -6,9 +6,9 @@ use Rattle.py_frames.specs.declared.frames.Frame.{Frame}
 use Rattle.py_frames.specs.declared.frames.Hole.{Hole}
 use Rattle.py_frames.specs.declared.frames.Hole.TheVariants as h
 use Rattle.py_frames.specs.declared.frames.State.{State}
-use Rattle.py_frames.specs.declared.frames.State.TheVariants.{Wants, Has, Compared, AfterIs, AfterIsNot, AfterNot, AfterDot, AfterMethod}
+use Rattle.py_frames.specs.declared.frames.State.TheVariants.{Wants, Has, Compared}
 use Rattle.py_frames.specs.declared.seeing.Sight.{Sight}
-use Rattle.py_frames.specs.Values.{places, beside, level, close, shut, closes, finished}
+use Rattle.py_frames.specs.Values.{places, beside, level, close, closes, finished}
 use Rattle.py_frames.specs.Steps.{with_both}
 use Rattle.py_frames.specs.Ends.{ended, ended_in, ended_after, ended_at_in, ended_at}
 use Rattle.py_frames.specs.Targets.{sight, sight_if, sight_in, sight_after, sight_at_in, sight_at}

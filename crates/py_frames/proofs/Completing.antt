@@ -1,11 +1,11 @@
 -- Each reading goes on to a whole one by tokens that begin no part before themselves.
-use Rattle.std.proofs.Common.{◌≡◌, ℕ, zero, suc, Bool, true, false, IsTrue, ◌&&◌, List, [], ◌∷◌, Option, Some, None, refl, ap, ◌∙◌, sym}
+use Rattle.std.proofs.Common.{◌≡◌, ℕ, zero, Bool, true, false, IsTrue, ◌&&◌, List, [], ◌∷◌, Option, Some, None, refl, ap, ◌∙◌}
 use Rattle.std.proofs.lemmas.Bool.{false≢true}
 use Rattle.py_token.specs.declared.kinds.Kind.{Kind}
 use Rattle.py_token.specs.declared.kinds.Kind.TheVariants as t
 use Rattle.py_grammar.specs.Words.{else_word, in_word, none_word, open_parenthesis, close_parenthesis, close_bracket, close_brace, colon}
 use Rattle.py_grammar.specs.Expressions.{Expression, Elements, Pairs, Compares, plain, Ors, Ands, compared, compares_none, compares_not_none, within, not_within, Primary, name, group, display, dict, call, index, slice, single, tuple, bounded, args, no_args, entries, method, spell_primary}
-use Rattle.py_grammar.specs.Readings.{Picked, picked, Upper, upper, no_upper, related, Lower, lower, no_lower, Bracket, in_group, in_display, in_dict, in_pair, in_call, in_index, in_slice, Opened, opened, listed, Reading, wants, has, has_none, has_not_none, after_is, after_is_not, after_not, after_dot, after_method, add_nots, add_and, add_or, add_picked, add_element, add_pair, compares_of, bare, bare_below, narrow, no_lower_part, no_upper_part, is_none, is_zero, is_empty, undivided, lists_stand, reading_stands, read}
+use Rattle.py_grammar.specs.Readings.{Picked, Upper, upper, no_upper, related, Lower, lower, no_lower, in_group, in_display, in_dict, in_pair, in_call, in_index, in_slice, Opened, opened, listed, Reading, wants, has, has_none, has_not_none, after_is, after_is_not, after_not, after_dot, after_method, add_nots, add_and, add_or, add_picked, add_element, add_pair, compares_of, bare, bare_below, narrow, no_lower_part, no_upper_part, is_none, is_zero, is_empty, undivided, lists_stand, reading_stands, read}
 use Rattle.py_grammar.specs.States.{Outer, Spot, Purpose, on_simple, then_simple}
 use Rattle.py_frames.specs.Forced.{of_dict, Ending, a_name, no_args as none_given, parenthesis, bracket, brace, otherwise, key, related as goes_on, no_value, not_no_value, within as denied, a_method, called}
 use Rattle.py_frames.specs.Values.{closes}

@@ -4,7 +4,7 @@ use Rattle.py_token.specs.declared.kinds.Kind.{Kind}
 use Rattle.py_grammar.specs.Words.{if_word, else_word, not_word, comma}
 use Rattle.py_grammar.specs.Expressions.{Ors, Ands, Additive, function, method, additive_sign, spell_ors, spell_elements}
 use Rattle.py_grammar.specs.Readings as r
-use Rattle.py_grammar.specs.Readings.{Picked, picked, Upper, upper, Related, related, Added, added, Scaled, scaled, Lower, lower, no_lower, Bracket, in_group, in_display, in_dict, in_pair, in_call, in_index, in_slice, Opened, opened, listed, wants, has, has_none, has_not_none, after_is, after_is_not, after_not, after_dot, after_method, bare, bare_below, narrow, open_in, one_below, undivided}
+use Rattle.py_grammar.specs.Readings.{Picked, picked, Upper, upper, Related, related, Added, added, Scaled, scaled, Lower, lower, Bracket, in_group, in_display, in_dict, in_pair, in_call, in_index, in_slice, Opened, opened, listed, wants, has, has_none, has_not_none, after_is, after_is_not, after_not, after_dot, after_method, bare, bare_below, narrow, one_below, undivided}
 use Rattle.py_grammar.specs.States as states
 use Rattle.py_grammar.specs.Open.{spell_upper, spell_lower, spell_bracket}
 use Rattle.py_frames.specs.declared.frames.Frame.{Frame}

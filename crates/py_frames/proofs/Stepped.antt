@@ -9,7 +9,7 @@ use Rattle.py_grammar.specs.Words.{and_word, or_word, not_word, if_word, else_wo
 use Rattle.py_grammar.specs.Expressions.{Expression, plain, Ors, Ands, Negation, compared, Compares, compares_none, compares_not_none, Sums, Products, Additive, plus, minus, Multiplicative, times, floor, modulo, Signed, unsigned, Primary, function, method, spell_expression, spell_ors, spell_ands, spell_negation, spell_compares, spell_sums, spell_products, spell_signed, spell_primary, additive_sign, multiplicative_sign}
 use Rattle.py_grammar.specs.Trees.{additive_op, multiplicative_op, is_minus}
 use Rattle.py_grammar.specs.Readings as r
-use Rattle.py_grammar.specs.Readings.{Picked, picked, Upper, upper, Related, related, Added, added, Scaled, scaled, Lower, lower, no_upper, no_lower, Opened, opened, listed, in_group, in_display, in_dict, in_pair, in_call, in_index, in_slice, wants, has, has_none, has_not_none, after_is, after_is_not, after_not, after_dot, after_method, add_signs, add_scaled, add_added, add_related, add_nots, add_and, add_or, add_picked, compares_of, expression_of, if_nothing}
+use Rattle.py_grammar.specs.Readings.{Picked, picked, Upper, upper, Related, related, Added, added, Scaled, scaled, Lower, lower, no_lower, Opened, opened, listed, in_group, in_display, in_dict, in_pair, in_call, in_index, in_slice, wants, has, has_none, has_not_none, after_is, after_is_not, after_not, after_dot, after_method, add_signs, add_scaled, add_added, add_related, add_nots, add_and, add_or, add_picked, compares_of, if_nothing}
 use Rattle.py_grammar.specs.Open.{spell_picked, spell_test, front_or, front_and, front_related, front_added, front_scaled}
 use Rattle.py_frames.specs.declared.frames.Value.{Value}
 use Rattle.py_frames.specs.declared.frames.Frame.{Frame}
@@ -20,7 +20,7 @@ use Rattle.py_frames.specs.declared.frames.State.TheVariants.{Wants}
 use Rattle.py_frames.specs.declared.steps.Link.{Link}
 use Rattle.py_frames.specs.declared.steps.Link.TheVariants as k
 use Rattle.py_frames.specs.Values as v
-use Rattle.py_frames.specs.Values.{level, close, closes, begun_by, joined, logic_in, logic, arithmetic_in, arithmetic, compared_in, compared_from}
+use Rattle.py_frames.specs.Values.{level, closes, begun_by, joined, logic_in, logic, arithmetic_in, arithmetic, compared_in, compared_from}
 use Rattle.py_frames.specs.Steps as m
 use Rattle.py_frames.specs.Steps.{ends_at, ends_with, may_deny, with_both, link, linked, step}
 use Rattle.py_frames.specs.Held.{value_expression, value_ors, value_ands, value_negation, value_compares, value_sums, value_products, value_signed, value_primary, chain_compares, frames_scaled, frames_added, frames_related, frames_and, frames_or, frames_test, frames_picked, frames_opened, above, around, held, held_if}

@@ -6,7 +6,7 @@ use Rattle.py_grammar.specs.Words.{and_word, or_word, not_word, if_word, else_wo
 use Rattle.py_grammar.specs.Expressions.{Expression, plain, conditional, Ors, ors_one, ors_more, Ands, ands_one, ands_more, Negation, compared, negated, Compares, compares_one, compares_more, compares_none, compares_not_none, Sums, sums_one, sums_more, Products, products_one, products_more, Signed, unsigned, signed, Primary, name, number, text, nothing, truth, falsity, empty, group, display, dict, call, index, slice, Exprs, single, tuple, tuple_comma, Callee, function, method, Bound, unbounded, bounded, Args, no_args, args, args_comma, Elements, elements_one, elements_more, Entries, no_entries, entries, entries_comma, Pairs, pairs_one, pairs_more, spell_relational, additive_sign, multiplicative_sign, spell_expression, spell_ors, spell_ands, spell_negation, spell_sums, spell_products, spell_signed, spell_primary, spell_exprs, spell_bound, spell_args}
 use Rattle.py_grammar.specs.Trees as m
 use Rattle.py_token.specs.declared.kinds.Kind.TheVariants as t
-use Rattle.py_grammar.specs.Trees.{is_minus, tree_expression, tree_ors, tree_ands, tree_negation, tree_compares, tree_sums, tree_products, tree_signed, tree_primary, tree_exprs, tree_call, tree_bound, tree_args, tree_elements, tree_entries, tree_pairs}
+use Rattle.py_grammar.specs.Trees.{tree_expression, tree_ors, tree_ands, tree_negation, tree_compares, tree_sums, tree_products, tree_signed, tree_primary, tree_exprs, tree_call, tree_bound, tree_args, tree_elements, tree_entries, tree_pairs}
 use Rattle.py_frames.specs.Values.{beside}
 use Rattle.py_frames.specs.Under.{all, under_expression, under_ors, inner_ors, under_ands, inner_ands, under_negation, under_compares, inner_compares, under_sums, inner_sums, under_products, inner_products, under_signed, under_primary, under_exprs, inner_callee, inner_bound, inner_args, inner_elements, inner_entries, inner_pairs}
 use Rattle.py_frames.specs.Kept as k

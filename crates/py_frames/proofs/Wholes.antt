@@ -3,7 +3,7 @@ use Rattle.std.proofs.Common.{◌≡◌, ℕ, zero, suc, List, [], ◌∷◌, Op
 use Rattle.py_token.specs.declared.kinds.Kind.{Kind}
 use Rattle.py_grammar.specs.Expressions.{Expression, Ors, Ands, Compares, compares_none, compares_not_none, function, method, Exprs, spell_expression, spell_compares}
 use Rattle.py_grammar.specs.Readings as r
-use Rattle.py_grammar.specs.Readings.{Picked, picked, Upper, upper, Related, related, Added, added, Scaled, scaled, Lower, lower, no_upper, no_lower, Opened, opened, listed, in_group, in_display, in_dict, in_pair, in_call, in_index, in_slice, wants, has, has_none, has_not_none, after_is, after_is_not, after_not, after_dot, after_method, add_signs, add_scaled, add_added, add_related, add_nots, add_and, add_or, add_picked, compares_of, expression_of, if_nothing, exprs_after, exprs_at, if_begun, whole}
+use Rattle.py_grammar.specs.Readings.{Picked, picked, Upper, upper, related, added, scaled, Lower, lower, no_lower, Opened, opened, listed, in_call, wants, has, has_none, has_not_none, compares_of, expression_of, exprs_after, exprs_at, if_begun, whole}
 use Rattle.py_frames.specs.Values.{closes}
 use Rattle.py_frames.specs.Steps.{with_both}
 use Rattle.py_frames.specs.Held.{value_expression, value_compares, frames_opened, above, around, held, value_if}

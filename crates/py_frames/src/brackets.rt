@@ -1,17 +1,17 @@
 //! Brackets that end, and what is in them.
-ghost use Rattle.std.specs.Prelude.{◌≡◌, [], ◌∷◌, ◌++◌, Some, None, IfOk};
+ghost use Rattle.std.specs.Prelude.{◌≡◌, [], ◌∷◌, Some, IfOk};
 ghost use Rattle.py_frames.specs.declared.frames.Hole.TheVariants as h;
 ghost use Rattle.py_frames.specs.declared.frames.State.TheVariants.{Wants};
 ghost use Rattle.py_frames.specs.Gives.{Gives};
-ghost use Rattle.py_frames.specs.Values.{begun_by, grown};
-ghost use Rattle.py_frames.specs.Steps.{enclosed, next_in, ends_with, ends_at, close_parenthesis_in, close_bracket_in, close_brace_in, comma_in, comma_after, colon_in, close_parenthesis_at_in, close_bracket_at_in, close_brace_at_in, colon_at_in};
+ghost use Rattle.py_frames.specs.Values.{begun_by};
+ghost use Rattle.py_frames.specs.Steps.{enclosed, next_in, ends_with, close_parenthesis_in, close_bracket_in, close_brace_in, comma_after, colon_in};
 
 use crate::chains::{one, put};
-use crate::closing::{all_with, close, join, pair, places, shut};
+use crate::closing::{all_with, close, join, pair, places};
 use crate::frames::{Frame, Hole, State, Value};
 use crate::nest::Nest;
 use crate::stop::Stop;
-use plain_data::{Boxed, Items};
+use plain_data::Boxed;
 use std::alloc::{AllocError, Global};
 
 /// Parentheses round a tuple.

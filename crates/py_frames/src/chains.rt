@@ -1,7 +1,7 @@
 //! Chains that begin and go on.
-ghost use Rattle.std.specs.Prelude.{◌≡◌, [], ◌∷◌, ◌++◌, IfOk, Some, None};
+ghost use Rattle.std.specs.Prelude.{◌≡◌, [], ◌∷◌, IfOk, Some, None};
 ghost use Rattle.py_frames.specs.declared.frames.Hole.TheVariants as h;
-ghost use Rattle.py_frames.specs.Values.{beside, compared_from, opened, begun_by, grown, logic, arithmetic_in, arithmetic, compared, relating, related, finished, made};
+ghost use Rattle.py_frames.specs.Values.{compared_from, begun_by, logic, arithmetic_in, arithmetic, compared, relating, related, finished, made};
 
 use crate::closing::{all_with, join, made, operate, places, relate};
 use crate::frames::{Chain, Frame, Hole, Value};
@@ -11,6 +11,7 @@ use plain_data::{Boxed, Items};
 use py_tree::{Expr, Op, Operand, Relation};
 use std::alloc::{AllocError, Global};
 
+/// One more frame, inside these.
 pub fn put(mut frames: Nest<Frame>, frame: Frame) -> Result<Nest<Frame>, AllocError>
     ensures { IfOk result (λ all. all ≡ frame ∷ frames) }
 {
@@ -18,6 +19,7 @@ pub fn put(mut frames: Nest<Frame>, frame: Frame) -> Result<Nest<Frame>, AllocEr
     Ok(frames)
 }
 
+/// A list of one tree.
 pub fn one(alloc: Global, tree: Expr) -> Result<Items<Expr>, AllocError>
     ensures { IfOk result (λ all. all ≡ tree ∷ []) }
 {

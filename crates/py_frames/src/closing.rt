@@ -1,11 +1,10 @@
 //! What ends, and what goes on.
 ghost use Rattle.std.specs.Prelude.{◌≡◌, [], ◌∷◌, ◌++◌, true, false, if◌then◌else◌, IfOk, Some, None};
 ghost use Rattle.py_tree.specs.declared.expressions.Expr.TheVariants as e;
-ghost use Rattle.py_tree.specs.declared.expressions.Literal.TheVariants as literal;
 ghost use Rattle.py_tree.specs.declared.expressions.Relation.TheVariants.{With};
-ghost use Rattle.py_frames.specs.Values.{beside, kept, made, level, filled, emptied, is_index, opened, begun_by, grown, close, shut, closes, logic, arithmetic, compared_from, compared_with, compared, relating, finished};
+ghost use Rattle.py_frames.specs.Values.{beside, kept, made, level, filled, emptied, is_index, close, shut, closes};
 
-use crate::frames::{Chain, Frame, Hole, Value};
+use crate::frames::{Frame, Hole, Value};
 use crate::nest::Nest;
 use crate::places::Places;
 use plain_data::{Boxed, Items, Text};
@@ -26,6 +25,7 @@ fn keep(under: &Places, tree: Expr) -> Expr
     }
 }
 
+/// How closely it holds what is in it: an operator that binds less closely ends it.
 pub fn level(hole: &Hole) -> u8
     ensures { result ≡ level hole.now }
 {
@@ -41,6 +41,7 @@ pub fn level(hole: &Hole) -> u8
     }
 }
 
+/// Whether it is an item, `a[_`.
 pub fn is_index(hole: &Hole) -> bool
     ensures { result ≡ is_index hole.now }
 {
@@ -50,6 +51,7 @@ pub fn is_index(hole: &Hole) -> bool
     }
 }
 
+/// With one more tree at the end.
 pub fn all_with(mut items: Items<Expr>, last: Expr) -> Result<Items<Expr>, AllocError>
     ensures { IfOk result (λ all. all ≡ items ++ last ∷ []) }
 {
@@ -57,6 +59,7 @@ pub fn all_with(mut items: Items<Expr>, last: Expr) -> Result<Items<Expr>, Alloc
     Ok(items)
 }
 
+/// With one more operand at the end.
 pub fn operate(mut rest: Items<Operand>, op: Op, value: Expr) -> Result<Items<Operand>, AllocError>
     ensures { IfOk result (λ all. all ≡ rest ++ record { op = op; value = value } ∷ []) }
 {
@@ -64,6 +67,7 @@ pub fn operate(mut rest: Items<Operand>, op: Op, value: Expr) -> Result<Items<Op
     Ok(rest)
 }
 
+/// With one more comparison at the end.
 pub fn relate(mut rest: Items<Relation>, op: Op, value: Expr) -> Result<Items<Relation>, AllocError>
     ensures { IfOk result (λ all. all ≡ rest ++ With op value ∷ []) }
 {
@@ -71,6 +75,7 @@ pub fn relate(mut rest: Items<Relation>, op: Op, value: Expr) -> Result<Items<Re
     Ok(rest)
 }
 
+/// With one more pair at the end.
 pub fn pair(mut pairs: Items<Pair>, key: Expr, value: Expr) -> Result<Items<Pair>, AllocError>
     ensures { IfOk result (λ all. all ≡ pairs ++ record { key = key; value = value } ∷ []) }
 {
@@ -222,6 +227,7 @@ fn empty(alloc: Global, hole: Hole) -> Result<Expr, AllocError>
     }
 }
 
+/// A part that has ended. Where it is too deep, a constant stands for its tree.
 pub fn made(from: usize, under: Places, target: bool, tree: Expr) -> Value
     ensures { result ≡ made from under target tree }
 {

@@ -1,5 +1,5 @@
 //! Which construct outside the grammar a token begins behind what has been read.
-ghost use Rattle.std.specs.Prelude.{◌≡◌, List, IfOk};
+ghost use Rattle.std.specs.Prelude.{◌≡◌, IfOk};
 ghost use Rattle.py_grammar.specs.Outside.{not_none, not_none_or_not, no_call};
 ghost use Rattle.py_frames.specs.Constructs.{among, in_braces, behind_hole, behind_top, construct, lone, lone_tuple, may_end};
 

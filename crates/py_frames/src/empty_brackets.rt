@@ -1,5 +1,5 @@
 //! Brackets that end where an operand is to come.
-ghost use Rattle.std.specs.Prelude.{◌≡◌, [], ◌∷◌, ◌++◌, Some, None, IfOk};
+ghost use Rattle.std.specs.Prelude.{Some, None};
 ghost use Rattle.py_frames.specs.declared.frames.State.TheVariants.{Has};
 ghost use Rattle.py_frames.specs.Gives.{Gives};
 ghost use Rattle.py_frames.specs.Values.{shut};

@@ -1,8 +1,8 @@
 //! What has been read, when it is to end.
-ghost use Rattle.std.specs.Prelude.{◌≡◌, IsTrue, [], drop, length, IfOk};
+ghost use Rattle.std.specs.Prelude.{◌≡◌, []};
 ghost use Rattle.py_frames.specs.declared.frames.State.TheVariants.{Wants};
 ghost use Rattle.py_frames.specs.Gives.{Gives};
-ghost use Rattle.py_frames.specs.Ends.{ended, ended_after, ended_at, is_bracket, is_tuple, enclosed_or, outermost, is_narrow, is_one, is_undivided, is_begun, either_of, colon_or_end, ends_or_goes, shuts_or_goes};
+ghost use Rattle.py_frames.specs.Ends.{ended, ended_after, ended_at, is_bracket, is_tuple, enclosed_or, outermost, is_narrow, is_one, is_undivided, is_begun, colon_or_end, ends_or_goes, shuts_or_goes};
 
 use crate::brackets::colon;
 use crate::chains::{finished, put};
@@ -21,6 +21,7 @@ pub fn begun(alloc: Global) -> State
     State::Wants(Nest::none(alloc))
 }
 
+/// Whether it is a tuple.
 pub fn is_tuple(hole: &Hole) -> bool
     ensures { result ≡ is_tuple hole.now }
 {

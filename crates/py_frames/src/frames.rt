@@ -1,3 +1,4 @@
+//! What is open, and what has been read so far.
 use crate::nest::Nest;
 use crate::places::Places;
 use plain_data::{Boxed, Items, Text};
@@ -6,6 +7,7 @@ use py_tree::{Expr, Op, Operand, Pair, Relation};
 /// A part that has ended.
 #[derive(Drop)]
 pub struct Value {
+    /// What has been read, as a tree.
     pub tree: Expr,
     /// Where it begins. The greater of two places is the earlier.
     pub from: usize,
@@ -85,20 +87,27 @@ pub enum Hole {
     },
 }
 
-/// A part that is open: where it begins, the places of what has ended in it, and what is to be filled.
+/// A part that is open.
 #[derive(Drop)]
 pub struct Frame {
+    /// Where it begins.
     pub from: usize,
+    /// The places of what has ended in it.
     pub under: Places,
+    /// What is to be filled.
     pub hole: Hole,
 }
 
 /// A comparison so far, which may end here or go on.
 #[derive(Drop)]
 pub struct Chain {
+    /// Where it begins.
     pub from: usize,
+    /// The places of what is in it.
     pub under: Places,
+    /// Its first operand.
     pub first: Expr,
+    /// What the operands are compared with, in turn.
     pub rest: Items<Relation>,
 }
 
@@ -109,11 +118,16 @@ pub enum State {
     Wants(Nest<Frame>),
     /// An operand has ended.
     Has(Nest<Frame>, Value),
-    /// After `is None`.
+    /// After `is None` or `is not None`.
     Compared(Nest<Frame>, Chain),
+    /// After `is`.
     AfterIs(Nest<Frame>, Chain),
+    /// After `is not`.
     AfterIsNot(Nest<Frame>, Chain),
+    /// After an operand and `not`, where `in` is to come.
     AfterNot(Nest<Frame>, Chain),
+    /// After `.`, where the name of a method is to come.
     AfterDot(Nest<Frame>, Value),
+    /// After the name of a method, where its arguments are to come.
     AfterMethod(Nest<Frame>, Value, Text),
 }

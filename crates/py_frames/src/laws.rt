@@ -1,6 +1,7 @@
+//! What is true of the machine whatever is read: each law is the contract of a function that does nothing.
 ghost use Rattle.std.specs.Prelude.{◌≡◌, Bool, is_some, ℕ, max, ◌<◌, List, ◌∷◌, length};
 ghost use Rattle.py_token.specs.declared.kinds.Kind.{Kind};
-ghost use Rattle.py_grammar.specs.Expressions.{Expression, Exprs, spell_expression, spell_exprs};
+ghost use Rattle.py_grammar.specs.Expressions.{Exprs, spell_exprs};
 ghost use Rattle.py_grammar.specs.Trees.{tree_exprs};
 ghost use Rattle.py_grammar.specs.Depth.{at_exprs};
 ghost use Rattle.py_grammar.specs.Readings.{Reading, read};

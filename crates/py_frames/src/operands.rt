@@ -1,5 +1,5 @@
 //! One more token where an operand is to come.
-ghost use Rattle.std.specs.Prelude.{◌≡◌, [], ◌∷◌, if◌then◌else◌, true, false, Some, None, IfOk};
+ghost use Rattle.std.specs.Prelude.{◌≡◌, ◌∷◌, if◌then◌else◌, true, false, Some, None};
 ghost use Rattle.py_token.specs.declared.kinds.Kind.TheVariants as t;
 ghost use Rattle.py_frames.specs.declared.frames.Hole.TheVariants as h;
 ghost use Rattle.py_frames.specs.declared.frames.State.TheVariants.{Wants, Has};
@@ -109,6 +109,7 @@ fn symbol(alloc: Global, frames: Nest<Frame>, symbol: Symbol, at: usize) -> Resu
     }
 }
 
+/// A token where an operand is to come.
 pub fn operand(alloc: Global, frames: Nest<Frame>, token: &Kind, at: usize) -> Result<State, Stop>
     ensures { Gives result (operand frames token.now at) }
 {

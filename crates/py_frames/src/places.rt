@@ -49,6 +49,7 @@ fn greatest(places: &[usize]) -> usize
 }
 
 impl Places {
+    /// No depths. Takes no memory.
     pub fn none(alloc: Global) -> Places
         ensures { result ≡ [] }
     {

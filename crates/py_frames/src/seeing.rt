@@ -1,8 +1,7 @@
 //! What has been read, seen as targets: when a `=` comes.
-ghost use Rattle.std.specs.Prelude.{◌≡◌, List, [], ◌∷◌, map, drop, IfOk};
+ghost use Rattle.std.specs.Prelude.{◌≡◌, map, drop, IfOk};
 ghost use Rattle.py_tree.specs.declared.expressions.Target.{Target};
 ghost use Rattle.py_frames.specs.Gives.{Gives};
-ghost use Rattle.py_frames.specs.Targets as seen;
 ghost use Rattle.py_frames.specs.Targets.{target_of, sight_if, sight_after, sight_at, sight};
 
 use crate::chains::{finished, one};
@@ -16,11 +15,14 @@ use py_tree::{Expr, Target};
 use std::alloc::{AllocError, Global};
 use std::mem::drop;
 
-/// Targets, whether a comma is among them, and the places of what is in them.
+/// What has been read, as targets.
 #[derive(Drop)]
 pub struct Sight {
+    /// The targets, in their order.
     pub targets: Items<Target>,
+    /// Whether a comma is among them.
     pub divided: bool,
+    /// The places of what is in them.
     pub under: Places,
 }
 

@@ -3,10 +3,9 @@ ghost use Rattle.std.specs.Prelude.{◌≡◌, [], ◌∷◌, Some, None, true, 
 ghost use Rattle.py_frames.specs.declared.frames.Hole.TheVariants as h;
 ghost use Rattle.py_frames.specs.declared.frames.State.TheVariants.{Wants};
 ghost use Rattle.py_token.specs.declared.kinds.Kind.TheVariants as t;
-ghost use Rattle.py_tree.specs.declared.expressions.Op.TheVariants as o;
 ghost use Rattle.py_frames.specs.Gives.{Gives};
 ghost use Rattle.py_frames.specs.Values.{closes, begun_by};
-ghost use Rattle.py_frames.specs.Steps.{with_both, ends_with, picks, else_in, if_after, chains, calculates, behind, link, linked, joins, after_operand, after_compared, operator, is_what, is_not_what, not_what, dot_what, method_what, step};
+ghost use Rattle.py_frames.specs.Steps.{with_both, ends_with, picks, else_in, if_after, chains, calculates, behind, link, linked, joins, after_compared, operator, is_what, is_not_what, not_what, dot_what, method_what, step};
 
 use crate::brackets::{close_brace, close_bracket, close_parenthesis, colon, comma};
 use crate::chains::{arithmetic, comparison, finished, logic, put, related, relating};

@@ -1,3 +1,4 @@
+//! Why reading stops.
 use std::alloc::AllocError;
 
 /// Why a token isn't read.
@@ -5,6 +6,7 @@ use std::alloc::AllocError;
 pub enum Stop {
     /// No expression goes on with it.
     Refused,
+    /// There is no memory for it.
     Memory,
 }
 

@@ -1,4 +1,3 @@
-use Rattle.std.proofs.Common.{length}
 use Rattle.py_frames.proofs.Sides.{Raised}
 use Rattle.py_frames.proofs.places.raise.Given as goal
 
