@@ -135,12 +135,13 @@ fn finish(alloc: Global, purpose: Purpose, reading: Reading) -> Result<(Stmt, Pl
 fn go_on(simple: Simple, purpose: Purpose, reading: Reading) -> Result<State, Stop>
     ensures { Gives result (goes_on simple purpose (Some reading)) }
 {
-    if matches!(&purpose, Purpose::Deleting) {
-        if !is_narrow(&reading) {
-            return Err(Stop::Refused);
-        }
+    match purpose {
+        Purpose::Deleting => allow(
+            is_narrow(&reading),
+            State::InSimple(simple, Purpose::Deleting, reading),
+        ),
+        other => Ok(State::InSimple(simple, other, reading)),
     }
-    Ok(State::InSimple(simple, purpose, reading))
 }
 
 /// An expression begins.
