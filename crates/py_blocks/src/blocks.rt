@@ -16,6 +16,7 @@ use py_frames::{Places, Stop};
 use py_token::Token;
 use py_tree::{Arm, Def, Stmt};
 use std::alloc::{AllocError, Global};
+use std::mem::drop;
 
 /// How many depths a statement may have below its own.
 const MOST_DEPTHS: usize = 64;
@@ -26,6 +27,7 @@ fn keep(under: &Places, tree: Stmt) -> Stmt
     if under.len() < MOST_DEPTHS {
         tree
     } else {
+        drop(tree);
         Stmt::Pass
     }
 }

@@ -4,7 +4,7 @@ ghost use Rattle.py_blocks.specs.Steps.{on_def, on_def_name, on_params, on_param
 
 use crate::heads::open;
 use crate::names::is_new;
-use crate::simple::named;
+use crate::simple::{allow, named};
 use crate::state::{Begun, Head, State};
 use plain_data::{Items, Text, TextMap};
 use py_frames::{Places, Stop};
@@ -46,12 +46,9 @@ pub fn on_params(
 {
     match token {
         Kind::Name(param) => {
-            if is_new(names, param) {
-                let params = named(params, param.copy(alloc)?)?;
-                Ok(State::HasParams(begun, name, params))
-            } else {
-                Err(Stop::Refused)
-            }
+            let stands = is_new(names, param);
+            let params = named(alloc, params, param)?;
+            allow(stands, State::HasParams(begun, name, params))
         }
         Kind::Symbol(Symbol::CloseParenthesis) => Ok(State::AfterParams(begun, name, params)),
         _ => Err(Stop::Refused),

@@ -135,7 +135,7 @@ pub fn on_variables(
 {
     match token {
         Kind::Name(name) => {
-            let names = named(names, name.copy(alloc)?)?;
+            let names = named(alloc, names, name)?;
             Ok(State::HasVariables(begun_for, names))
         }
         Kind::Keyword(Keyword::In) => {

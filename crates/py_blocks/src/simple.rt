@@ -135,24 +135,39 @@ fn finish(alloc: Global, purpose: Purpose, reading: Reading) -> Result<(Stmt, Pl
 fn go_on(simple: Simple, purpose: Purpose, reading: Reading) -> Result<State, Stop>
     ensures { Gives result (goes_on simple purpose (Some reading)) }
 {
-    if matches!(&purpose, Purpose::Deleting) {
-        if !is_narrow(&reading) {
-            return Err(Stop::Refused);
-        }
+    match purpose {
+        Purpose::Deleting => allow(
+            is_narrow(&reading),
+            State::InSimple(simple, Purpose::Deleting, reading),
+        ),
+        other => Ok(State::InSimple(simple, other, reading)),
     }
-    Ok(State::InSimple(simple, purpose, reading))
+}
+
+/// One more token of its expression.
+fn read_on(
+    alloc: Global,
+    simple: Simple,
+    purpose: Purpose,
+    reading: Reading,
+    token: &Kind,
+    at: usize,
+) -> Result<State, Stop>
+    ensures { Gives result (goes_on simple purpose (expression.step reading token.now at)) }
+{
+    let reading = step(alloc, reading, token, at)?;
+    go_on(simple, purpose, reading)
 }
 
 /// An expression begins.
 pub fn show(alloc: Global, simple: Simple, token: &Kind, at: usize) -> Result<State, Stop>
     ensures { Gives result (goes_on simple Showing (expression.step begun token.now at)) }
 {
-    let reading = step(alloc, begun(alloc), token, at)?;
-    go_on(simple, Purpose::Showing, reading)
+    read_on(alloc, simple, Purpose::Showing, begun(alloc), token, at)
 }
 
 /// A statement that isn't where it may be is refused.
-fn allow(stands: bool, state: State) -> Result<State, Stop>
+pub fn allow(stands: bool, state: State) -> Result<State, Stop>
     ensures { Gives result (if_allowed stands state) }
 {
     if stands {
@@ -244,11 +259,24 @@ fn on_sign(
             Purpose::Showing => assign(alloc, simple, sign, reading),
             _ => Err(Stop::Refused),
         },
-        None => {
-            let reading = step(alloc, reading, &Kind::Symbol(symbol), at)?;
-            go_on(simple, purpose, reading)
-        }
+        None => read_on(alloc, simple, purpose, reading, &Kind::Symbol(symbol), at),
     }
+}
+
+/// Its line ends, and with it the statement.
+fn end_line(
+    alloc: Global,
+    code: &str,
+    tokens: &[Token],
+    simple: Simple,
+    purpose: Purpose,
+    reading: Reading,
+    left: usize,
+) -> Result<State, Stop>
+    ensures { Gives result (machine.ends (left_of code.now tokens.now) left simple (finished purpose reading)) }
+{
+    let (tree, under) = finish(alloc, purpose, reading)?;
+    Ok(end_simple(alloc, code, tokens, left, simple, tree, under)?)
 }
 
 /// One more token of a simple statement with an expression.
@@ -265,15 +293,9 @@ pub fn on_simple(
     ensures { Gives result (on_simple (left_of code.now tokens.now) place.at place.left simple purpose reading token.now) }
 {
     match token {
-        Kind::Newline => {
-            let (tree, under) = finish(alloc, purpose, reading)?;
-            Ok(end_simple(alloc, code, tokens, place.left, simple, tree, under)?)
-        }
+        Kind::Newline => end_line(alloc, code, tokens, simple, purpose, reading, place.left),
         Kind::Symbol(symbol) => on_sign(alloc, simple, purpose, reading, *symbol, place.at),
-        _ => {
-            let reading = step(alloc, reading, token, place.at)?;
-            go_on(simple, purpose, reading)
-        }
+        _ => read_on(alloc, simple, purpose, reading, token, place.at),
     }
 }
 
@@ -309,10 +331,10 @@ pub fn on_word(
 }
 
 /// One more name.
-pub fn named(mut names: Items<Text>, name: Text) -> Result<Items<Text>, AllocError>
-    ensures { IfOk result (λ all. all ≡ names ++ name ∷ []) }
+pub fn named(alloc: Global, mut names: Items<Text>, name: &Text) -> Result<Items<Text>, AllocError>
+    ensures { IfOk result (λ all. all ≡ names ++ name.now ∷ []) }
 {
-    names.push(name)?;
+    names.push(name.copy(alloc)?)?;
     Ok(names)
 }
 
@@ -329,10 +351,13 @@ pub fn on_global(
     match token {
         Kind::Name(name) => {
             let stands = is_new(names, name);
-            let declared = named(declared, name.copy(alloc)?)?;
+            let declared = named(alloc, declared, name)?;
             allow(stands, State::HasGlobal(simple, declared))
         }
-        _ => Err(Stop::Refused),
+        _ => {
+            drop(simple);
+            Err(Stop::Refused)
+        }
     }
 }
 

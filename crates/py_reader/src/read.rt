@@ -1,4 +1,5 @@
-ghost use Rattle.std.specs.Prelude.{◌≡◌, ◌<◌, length, Some, IfOk};
+ghost use Rattle.std.specs.Prelude.{◌≡◌, ◌<◌, ◌-◌, length, Some, IfOk};
+ghost use Rattle.py_blocks.specs.Source.{most};
 ghost use Rattle.py_reader.specs.Gives.{Gives, Answers, Means};
 ghost use Rattle.py_reader.specs.Scans.{read_first, StopsAt, IsRefusal, GivesStatements};
 ghost use Rattle.py_reader.specs.Verdict.{tokens_within, verdict};
@@ -28,6 +29,13 @@ pub fn start_of(tokens: &[Token], number: usize) -> u32
         Some(token) => token.start,
         None => 0,
     }
+}
+
+/// Where the token begins that has this place, counted down from `MOST`.
+fn start_at(tokens: &[Token], place: usize) -> u32
+    ensures { result ≡ start_of tokens.now (most - place) }
+{
+    start_of(tokens, MOST.saturating_sub(place))
 }
 
 fn is_end(kind: &Kind) -> bool
@@ -76,10 +84,9 @@ pub fn refusal_at(
 {
     let held = held_before(alone, alloc, code, tokens, place)?;
     let deep = deepest(alloc, held)?;
-    let least = MOST - place;
+    let least = MOST.saturating_sub(place);
     if least < deep {
-        let number = MOST.saturating_sub(deep);
-        return Ok(SyntaxFault::TooDeep(start_of(tokens, number)));
+        return Ok(SyntaxFault::TooDeep(start_at(tokens, deep)));
     }
     let Reader { state, .. } = held_before(alone, alloc, code, tokens, place)?;
     let token = kind_at(tokens, place);
@@ -104,8 +111,7 @@ pub fn statements(
     };
     let deep = done.under.reach(MAX_DEPTH);
     if 0 < deep {
-        let number = MOST.saturating_sub(deep);
-        let at = start_of(tokens, number);
+        let at = start_at(tokens, deep);
         return Err(ReadError::Fault(SyntaxFault::TooDeep(at)));
     }
     Ok(done.statements)
