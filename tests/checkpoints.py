@@ -348,7 +348,7 @@ def read(data):
 
 
 def reading(data):
-    """The lines that checkpoint_show says of bytes, and its status."""
+    """The lines that history_show says of bytes, and the status that they have from `restore` and `plan`."""
     try:
         it = read(data)
     except Bad as bad:
