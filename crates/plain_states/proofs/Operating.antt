@@ -15,7 +15,6 @@ use Rattle.py_heap.specs.declared.heap.Object.{Object}
 use Rattle.py_heap.specs.declared.heap.Object.TheVariants as object
 use Rattle.py_heap.specs.declared.heap.SequenceKind.{SequenceKind}
 use Rattle.py_heap.specs.declared.heap.SequenceKind.TheVariants as sequences
-use Rattle.py_heap.specs.Sequences.{sequence}
 use Rattle.py_machine.specs.Errors.{overflow_error, division_error}
 use Rattle.py_meaning.specs.Acts.{Act, pure, fail, choose}
 use Rattle.py_meaning.specs.Truth.{object_true, truth_of}
