@@ -94,7 +94,7 @@ pub serve_links-requires-send-E : goal.serve_links-requires-send-E
 serve_links-requires-send-E g c = λ κs within. search (Notebook-send, sendable) depth 6
 
 pub made-requires-clause-few : goal.made-requires-clause-few
-made-requires-clause-few g c =
+made-requires-clause-few g c = λ κs within.
     few_made (map string_bytes c.args.words.now) c.in-Ok-Some-Made.cells
     (some_command _ _ _ _ (IsCommand (map string_bytes c.args.words.now)) c.in-Ok-Some-Made.field-0-is c.in-Ok-Some-Made.field-0-0-is c.in-Ok-Some-Made.ensures.command)
 
