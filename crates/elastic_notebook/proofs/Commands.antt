@@ -1,5 +1,5 @@
 -- What the words of a command say, they say once.
-use Rattle.std.proofs.Common.{◌≡◌, ℕ, codes, List, [], ◌∷◌, get_or, ap, sym, subst, ◌∙◌, refl, inr, arith, Option, Some, None}
+use Rattle.std.proofs.Common.{◌≡◌, ◌≤◌, ℕ, codes, List, [], ◌∷◌, get_or, ap, sym, subst, ◌∙◌, refl, inr, arith, Option, Some, None}
 use Rattle.std.specs.Prelude.{MatchOption}
 use Rattle.graph_model.specs.declared.plan.Weights.{Weights}
 use Rattle.command_words.specs.declared.words.Command.{Command}
@@ -46,6 +46,9 @@ number_of (Serve n) = n
 -- one number of cells, and of links
 pub one_made : (words : List (List ℕ)) (m n : ℕ) → IsCommand words (Made m) → IsCommand words (Made n) → m ≡ n
 one_made words m n a b = ap number_of (one_command words (Made m) (Made n) a b)
+
+pub few_made : (words : List (List ℕ)) (n : ℕ) → IsCommand words (Made n) → n ≤ 4000
+few_made words n is = is.0.1
 
 pub one_serve : (words : List (List ℕ)) (m n : ℕ) → IsCommand words (Serve m) → IsCommand words (Serve n) → m ≡ n
 one_serve words m n a b = ap number_of (one_command words (Serve m) (Serve n) a b)

@@ -20,6 +20,8 @@ const SESSIONS: usize = 256;
 struct RunQueue {
     ready: ArrayQueue<u32, Global>,
     bell: Bell,
+    /// Whether no worker works for the host.
+    is_abandoned: AtomicBool,
 }
 
 /// The sessions of a run, and the run queue of each host. Feeder and workers share it.
@@ -96,7 +98,30 @@ impl<E: Engine + Drop, F: Feed, N: Name> Hosts<E, F, N> {
             self.rest(rt, session);
             return;
         }
+        if queue.is_abandoned.load(Ordering::SeqCst) {
+            self.rest_all(rt, queue);
+            return;
+        }
         queue.bell.ring(rt);
+    }
+
+    /// Says that no worker works for a host. A session that waits for one there, now or later, is left, as any session is that is in
+    /// no run queue.
+    pub fn abandon<R: Wait>(&self, rt: &R, host: u32) {
+        if let Some(queue) = self.run_queues.get(host as usize) {
+            queue.is_abandoned.store(true, Ordering::SeqCst);
+            self.rest_all(rt, queue);
+        }
+    }
+
+    /// Leaves the sessions that are on a run queue.
+    fn rest_all<R: Wait>(&self, rt: &R, queue: &RunQueue) {
+        for _ in rt.forever() {
+            let Some(session) = queue.ready.pop(rt) else {
+                return;
+            };
+            self.rest(rt, session);
+        }
     }
 
     /// The next session for a worker of this host. None once the feeder has closed and no session has wakes.
@@ -200,7 +225,12 @@ fn empty_queues(alloc: Global, hosts: u32) -> Result<Vec<RunQueue>, AllocError> 
     for _ in 0..hosts {
         let ready = ArrayQueue::new(alloc, SESSIONS)?;
         let bell = Bell::new();
-        queues.push(RunQueue { ready, bell })?;
+        let is_abandoned = AtomicBool::new(false);
+        queues.push(RunQueue {
+            ready,
+            bell,
+            is_abandoned,
+        })?;
     }
     Ok(queues)
 }

@@ -1,8 +1,5 @@
 -- The counts of a stream depend on the number of its cells alone.
 use Rattle.std.proofs.Common.{◌≡◌, ℕ, ◌≤◌, List, [], ◌∷◌, Some, refl, sym, ap, ap₂, ◌∙◌, subst}
-use Rattle.std.specs.List.{AllByRecursion}
-use Rattle.graph_model.specs.declared.plan.Certified.{Certified}
-use Rattle.session_core.specs.declared.request.Request.{Request}
 use Rattle.session_core.specs.declared.entry.Entry.{Entry}
 use Rattle.node_intake.specs.Intake.{Node}
 use Rattle.node_run.specs.Journals.{IsJournalOf, AreJournals}

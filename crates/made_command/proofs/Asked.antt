@@ -1,5 +1,5 @@
 -- What the messages of the stream ask.
-use Rattle.std.proofs.Common.{◌≡◌, ℕ, zero, suc, ◌+◌, ◌*◌, ◌≤◌, ◌%◌, ◌/◌, Bool, true, false, List, [], ◌∷◌, ◌++◌, length, length-append, append-nil, decimal, codes, map, Some, Ok, inl, refl, sym, ap, ◌∙◌, subst, arith, le-leb}
+use Rattle.std.proofs.Common.{◌≡◌, ℕ, zero, suc, ◌*◌, ◌≤◌, ◌%◌, ◌/◌, Bool, true, false, List, [], ◌∷◌, ◌++◌, length, length-append, append-nil, decimal, codes, map, Some, Ok, inl, refl, sym, ap, ◌∙◌, subst, arith, le-leb}
 use Rattle.std.specs.Prelude.{◌==◌, filter, if◌then◌else◌}
 use Rattle.std.specs.List.{flat_map, AllZip}
 use Rattle.std.specs.Str.{is_utf8}
@@ -16,7 +16,7 @@ use Rattle.session_core.specs.declared.request.Request.{Request}
 use Rattle.session_core.specs.Asks.{is_control}
 use Rattle.jupyter_messages.specs.declared.message.Message.{Message}
 use Rattle.jupyter_messages.specs.declared.message.MessageKind.TheVariants.{Open, Ask as Asking}
-use Rattle.jupyter_messages.specs.Reading.{member, of_kind, text_of, short_text, required_text, optional_text, optional_bool, optional_object, whole_number, required_number, required_object, required_long_text, header_of, channel_named, channel_of, kernel_named, kernel_of, open_of, execute_of, complete_of, shutdown_of, migrate_of, type_named, channel_for, kind_of, whole_of, message_of, json_in, message_in}
+use Rattle.jupyter_messages.specs.Reading.{member, of_kind, text_of, short_text, required_text, optional_text, optional_bool, optional_object, whole_number, required_number, required_object, required_long_text, header_of, channel_named, channel_of, kernel_named, kernel_of, open_of, execute_of, migrate_of, type_named, channel_for, whole_of, message_of, json_in, message_in}
 use Rattle.reply_frames.specs.Messages.{json as json_of, whole}
 use Rattle.node_intake.specs.Intake.{Taken, Node, most_requests, control_requests}
 use Rattle.node_run.specs.declared.end.RunEnd.TheVariants.{Whole}
@@ -138,6 +138,7 @@ cutting n small = record {
 }
 
 pub node_alone : (n : ℕ) (node : Node) → n ≤ 4000 → IsNodeOf 3 Whole (stream n) (Some []) node → IsAlone n node
+unfolding cutting
 node_alone n node small is =
     let few : length (requests n) ≤ most_requests = omega (arith, requests_few n) in
     node_is 3 Whole (stream n) (Some []) node (cutting n small) is (session n) (sent_asks n small) (omega arith) few

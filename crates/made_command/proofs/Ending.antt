@@ -1,12 +1,9 @@
 -- A source of whole frames that never fails is read to its end.
-use Rattle.std.proofs.Common.{◌≡◌, ◌≢◌, ℕ, zero, suc, ◌+◌, ◌<◌, ◌≤◌, ◌^◌, ◌-◌, ◌⊎◌, inl, inr, List, [], ◌∷◌, ◌++◌, length, map, Option, Some, None, refl, sym, ap, ◌∙◌, subst, append_assoc, append-nil, arith}
+use Rattle.std.proofs.Common.{◌≡◌, ℕ, suc, ◌<◌, inl, inr, List, [], ◌∷◌, ◌++◌, length, map, Some, refl, sym, ap, ◌∙◌, subst, append_assoc, append-nil, arith}
 use Rattle.std.specs.List.{flat_map, AllByRecursion}
-use Rattle.std.proofs.lemmas.List.{length-append}
 use Rattle.nb_outside.specs.Counts.{HasRisen, HasRisenBy}
-use Rattle.jupyter_frames.specs.Framing.{frame, IsBody, IsBegun, IsBad, IsRest, stream as bytes_of}
+use Rattle.jupyter_frames.specs.Framing.{frame, IsBody, IsBad, IsRest, stream as bytes_of}
 use Rattle.jupyter_frames.proofs.Cutting.{one_cutting}
-use Rattle.session_core.specs.declared.entry.Entry.{Entry}
-use Rattle.session_core.specs.Meanings.{Meaning}
 use Rattle.reply_frames.specs.declared.node.NodeError.{NodeError}
 use Rattle.notebook_meaning.specs.Notebooks.{notebooks}
 use Rattle.node_run.specs.declared.end.RunEnd.{RunEnd}

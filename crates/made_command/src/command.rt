@@ -57,7 +57,7 @@ where
     K: Sink,
     G: Gate + Sync,
     R: Threads + Wait + Sync,
-    requires { cells ≤ 4000 }
+    requires few { cells ≤ 4000 }
     ensures told { spec.MadeTold cells result (K.written sink.old) (K.written sink.new) }
     ensures fault { result ≡ 4 → HasRisen (K.faults sink.old) (K.faults sink.new) }
     ensures statuses { (result ≡ 0) ⊎ ((result ≡ 4) ⊎ (result ≡ 5)) }

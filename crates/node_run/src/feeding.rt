@@ -89,6 +89,7 @@ where
 }
 
 /// Runs so many workers of each host, as far as threads can be made, until the feeder has closed and no session waits for a worker.
+/// Sessions of a host for which none can be made are left.
 pub fn run_workers<E, F, G, N, R>(
     rt: &R,
     alloc: Global,
@@ -106,8 +107,13 @@ where
 {
     thread::scope(thread::scope_env(), rt, |scope| {
         for host in 0..hosts {
+            let mut has_worker = false;
             for _ in 0..workers {
-                let _ = scope.spawn(move || worker(rt, alloc, node, host, gate));
+                let spawned = scope.spawn(move || worker(rt, alloc, node, host, gate));
+                has_worker = spawned.is_ok() || has_worker;
+            }
+            if !has_worker {
+                node.abandon(rt, host);
             }
         }
     });

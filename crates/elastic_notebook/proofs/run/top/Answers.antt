@@ -17,7 +17,7 @@ use Rattle.made_command.specs.Counting.{MadeTold}
 use Rattle.elastic_notebook.specs.declared.say.Question.TheVariants as question
 use Rattle.elastic_notebook.specs.Saying.{SaysTold}
 use Rattle.elastic_notebook.specs.Statuses.{IsStatusOf}
-use Rattle.elastic_notebook.proofs.Commands.{no_command, no_made, no_plan, no_restore, no_save, no_serve, one_count, one_made, one_plan, one_save, one_serve, run_status, some_command}
+use Rattle.elastic_notebook.proofs.Commands.{few_made, no_command, no_made, no_plan, no_restore, no_save, no_serve, one_count, one_made, one_plan, one_save, one_serve, run_status, some_command}
 use Rattle.elastic_notebook.proofs.run.top.Goals as goal
 
 pub returns-in-Ok-Some-Run-clause-streams : goal.returns-in-Ok-Some-Run-clause-streams
@@ -92,6 +92,11 @@ run_stream-requires-send-E g c = λ κs within. search (Notebook-send, sendable)
 
 pub serve_links-requires-send-E : goal.serve_links-requires-send-E
 serve_links-requires-send-E g c = λ κs within. search (Notebook-send, sendable) depth 6
+
+pub made-requires-clause-few : goal.made-requires-clause-few
+made-requires-clause-few g c = λ κs within.
+    few_made (map string_bytes c.args.words.now) c.in-Ok-Some-Made.cells
+    (some_command _ _ _ _ (IsCommand (map string_bytes c.args.words.now)) c.in-Ok-Some-Made.field-0-is c.in-Ok-Some-Made.field-0-0-is c.in-Ok-Some-Made.ensures.command)
 
 pub returns-in-Ok-Some-Made-clause-counted : goal.returns-in-Ok-Some-Made-clause-counted
 returns-in-Ok-Some-Made-clause-counted g c = λ cells is.
