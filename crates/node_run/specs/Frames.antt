@@ -1,5 +1,6 @@
 -- The frames of a node: of its errors, and then of each session's journal.
 use Rattle.std.specs.Prelude.{◌≡◌, ℕ, ◌+◌, ◌⊎◌, length, List, [], ◌∷◌, ◌++◌, Option}
+use Rattle.std.specs.List.{flat_map}
 use Rattle.nb_outside.specs.Streams.{Adds}
 use Rattle.session_core.specs.declared.entry.Entry.{Entry}
 use Rattle.reply_frames.specs.declared.node.NodeError.{NodeError}
@@ -17,6 +18,10 @@ error_frames first (e ∷ errors) = frame_of first e ++ error_frames (first + 1)
 unfoldable pub journal_frames : ℕ → ℕ → List Entry → List ℕ
 journal_frames kernel first [] = []
 journal_frames kernel first (e ∷ es) = entry_frames kernel e first ++ journal_frames kernel (first + entry_length e) es
+
+-- parts, one after the other
+abbrev pub parts_together : List (List ℕ) → List ℕ
+parts_together parts = flat_map (λ part. part) parts
 
 -- of each session's journal, numbered from 1
 unfoldable pub session_frames : List Taken → List (List Entry) → List ℕ
@@ -46,12 +51,15 @@ pub record AddsErrorsBefore (old new : Option (List ℕ)) (errors : List NodeErr
   pub parts : errors ≡ before ++ failed ∷ later
   pub adds : Adds old new (error_frames 1 before)
 
-pub record AddsEntriesBefore (old new : Option (List ℕ)) (kernel : ℕ) (entries : List Entry) : Type 0 where
+pub record AddsEntriesFrom (old new : Option (List ℕ)) (kernel first : ℕ) (entries : List Entry) : Type 0 where
   pub before : List Entry
   pub failed : Entry
   pub later : List Entry
   pub parts : entries ≡ before ++ failed ∷ later
-  pub adds : Adds old new (journal_frames kernel 1 before)
+  pub adds : Adds old new (journal_frames kernel first before)
+
+abbrev pub AddsEntriesBefore : Option (List ℕ) → Option (List ℕ) → ℕ → List Entry → Type 0
+AddsEntriesBefore old new kernel entries = AddsEntriesFrom old new kernel 1 entries
 
 -- first those of the journals before, and then those of the entries before it in its own
 pub record AddsJournalsBefore (old new : Option (List ℕ)) (sessions : List Taken) (journals : List (List Entry)) : Type 0 where
