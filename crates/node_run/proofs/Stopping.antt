@@ -71,7 +71,7 @@ sessions_append (s ∷ ss) ts (j ∷ js) ks e =
 written_is : (old now : Option (List ℕ)) (all before rest : List ℕ) → WritesSoFar old now all rest → all ≡ before ++ rest → Adds old now before
 written_is old now all before rest w is = subst (Adds old now) (append_cancel_right w.done before rest (sym w.parts ∙ is)) w.adds
 
-gathered_is : (old mid new : Option (List ℕ)) (all before had rest : List ℕ) → WritesSoFar old mid all (had ++ rest) → all ≡ before ++ rest → Adds mid new had → Adds old new before
+pub gathered_is : (old mid new : Option (List ℕ)) (all before had rest : List ℕ) → WritesSoFar old mid all (had ++ rest) → all ≡ before ++ rest → Adds mid new had → Adds old new before
 gathered_is old mid new all before had rest w is adds = written_is old new all before rest (piece_written old mid new all (had ++ rest) had rest w refl adds) is
 
 -- the fault of one call, as that of another

@@ -4,7 +4,7 @@ ghost use Rattle.std.specs.Prelude.{◌≡◌, ◌+◌, ◌<◌, ◌≤◌, leng
 ghost use Rattle.std.specs.List.{flat_map, sum_by};
 ghost use Rattle.std.specs.Thread.{IsSync};
 ghost use Rattle.reply_frames.specs.Replies.{entry_length};
-ghost use Rattle.node_run.specs.Frames.{journal_frames, parts_together};
+ghost use Rattle.node_run.specs.Frames.{journal_frames, parts_together, IsBatch};
 
 use crate::counting::frame_count;
 use plain_data::Items;
@@ -160,7 +160,7 @@ pub fn make_batch<R: Threads + Sync>(
     first: u64,
     entries: &[Entry],
 ) -> Option<Made>
-    ensures { IfSome result (λ made. (parts_together made.parts.items ≡ journal_frames kernel first entries.now) × (made.next ≡ first + sum_by entry_length entries.now)) }
+    ensures { IfSome result (IsBatch kernel first entries.now) }
 {
     let next = number_after(first, entries)?;
     match render(rt, alloc, kernel, first, entries, HALVINGS) {

@@ -7,7 +7,7 @@ ghost use Rattle.nb_outside.specs.Counts.{HasRisen};
 ghost use Rattle.nb_outside.specs.Streams.{Adds};
 ghost use Rattle.reply_frames.specs.Nodes.{frame_of};
 ghost use Rattle.reply_frames.specs.Replies.{entry_frames, entry_length};
-ghost use Rattle.node_run.specs.Frames.{AddsFront, AddsErrorsBefore, AddsEntriesFrom, AddsEntriesBefore, parts_together, AddsRunsBefore, AddsServedBefore, WritesSoFar, error_frames, journal_frames, run_frames};
+ghost use Rattle.node_run.specs.Frames.{AddsFront, AddsErrorsBefore, AddsEntriesFrom, AddsEntriesBefore, AddsBatchBefore, IsBatch, parts_together, AddsRunsBefore, AddsServedBefore, WritesSoFar, error_frames, journal_frames, run_frames};
 
 use crate::render::{FEW, Made, batch_len, make_batch};
 use crate::streams::write_all;
@@ -220,38 +220,72 @@ fn send_parts<K: Sink>(sink: &mut K, parts: &[Items<u8>]) -> Result<(), WriteFau
 }
 
 /// Writes parts that were made, while threads make the frames of these entries of a kernel's journal, with running numbers from this one
-/// on. Gives them with the next number. None if they aren't counted, or memory doesn't suffice for all at once.
+/// on. None of them if they aren't counted, or memory doesn't suffice for all at once.
 fn write_beside<K: Sink, R: Threads + Sync>(
     rt: &R,
     alloc: Global,
     sink: &mut K,
-    parts: &[Items<u8>],
+    waiting: &[Items<u8>],
     kernel: u128,
     first: u64,
     entries: &[Entry],
-) -> (Result<(), WriteFault>, Option<Made>)
-    ensures ok { OnOk result.0 (Adds (K.written sink.old) (K.written sink.new) (parts_together parts.now)) }
-    ensures err { OnErr result.0 (AddsFront (K.written sink.old) (K.written sink.new) (parts_together parts.now)) }
-    ensures fault { result.0 ≡ Err WriteFault.Sink → HasRisen (K.faults sink.old) (K.faults sink.new) }
-    ensures memory { result.0 ≢ Err WriteFault.OutOfMemory }
+) -> Result<Option<Made>, WriteFault>
+    ensures ok { OnOk result (Adds (K.written sink.old) (K.written sink.new) (parts_together waiting.now)) }
+    ensures made { IfOk result (λ made. IfSome made (IsBatch kernel first entries.now)) }
+    ensures err { OnErr result (AddsFront (K.written sink.old) (K.written sink.new) (parts_together waiting.now)) }
+    ensures fault { result ≡ Err WriteFault.Sink → HasRisen (K.faults sink.old) (K.faults sink.new) }
+    ensures memory { result ≢ Err WriteFault.OutOfMemory }
     ensures faults_stay { K.faults sink.old ≤ K.faults sink.new }
-    ensures made { IfSome result.1 (λ made. (parts_together made.parts.items ≡ journal_frames kernel first entries.now) × (made.next ≡ first + sum_by entry_length entries.now)) }
 {
     let (made, sent) = join_mut(
         rt,
         &mut || -> Option<Made>
             requires { IsSync R.row }
-            ensures { IfSome result (λ made. (parts_together made.parts.items ≡ journal_frames kernel first entries.entry.now) × (made.next ≡ first + sum_by entry_length entries.entry.now)) }
+            ensures { IfSome result (IsBatch kernel first entries.entry.now) }
         { make_batch(rt, alloc, kernel, first, entries) },
         &mut || -> Result<(), WriteFault>
-            ensures ok { OnOk result (Adds (K.written sink.entry.now) (K.written sink.exit.now) (parts_together parts.entry.now)) }
-            ensures err { OnErr result (AddsFront (K.written sink.entry.now) (K.written sink.exit.now) (parts_together parts.entry.now)) }
+            ensures ok { OnOk result (Adds (K.written sink.entry.now) (K.written sink.exit.now) (parts_together waiting.entry.now)) }
+            ensures err { OnErr result (AddsFront (K.written sink.entry.now) (K.written sink.exit.now) (parts_together waiting.entry.now)) }
             ensures fault { result ≡ Err WriteFault.Sink → HasRisen (K.faults sink.entry.now) (K.faults sink.exit.now) }
             ensures memory { result ≢ Err WriteFault.OutOfMemory }
             ensures faults_stay { K.faults sink.entry.now ≤ K.faults sink.exit.now }
-        { send_parts(sink, parts) },
+        { send_parts(sink, waiting) },
     );
-    (sent, made)
+    match sent {
+        Ok(()) => Ok(made),
+        Err(fault) => Err(fault),
+    }
+}
+
+/// Writes parts that were made, and gives those of these entries of a kernel's journal, with running numbers from this one on. If
+/// memory doesn't suffice for all at once, these entries are told one after the other, and no parts are given.
+fn write_next<K: Sink, R: Threads + Sync>(
+    rt: &R,
+    alloc: Global,
+    sink: &mut K,
+    waiting: &[Items<u8>],
+    kernel: u128,
+    first: u64,
+    entries: &[Entry],
+) -> Result<Made, WriteFault>
+    ensures ok { IfOk result (λ made. WritesSoFar (K.written sink.old) (K.written sink.new) (parts_together waiting.now ++ journal_frames kernel first entries.now) (parts_together made.parts.items)) }
+    ensures next { IfOk result (λ made. made.next ≡ first + sum_by entry_length entries.now) }
+    ensures err { OnErr result (AddsFront (K.written sink.old) (K.written sink.new) (parts_together waiting.now ++ journal_frames kernel first entries.now)) }
+    ensures fault { result ≡ Err WriteFault.Sink → HasRisen (K.faults sink.old) (K.faults sink.new) }
+    ensures memory { result ≡ Err WriteFault.OutOfMemory → AddsBatchBefore (K.written sink.old) (K.written sink.new) (parts_together waiting.now) kernel first entries.now }
+    ensures faults_stay { K.faults sink.old ≤ K.faults sink.new }
+{
+    match write_beside(rt, alloc, sink, waiting, kernel, first, entries) {
+        Ok(Some(made)) => Ok(made),
+        Ok(None) => match write_in_turn(alloc, sink, kernel, first, entries) {
+            Ok(next) => Ok(Made {
+                parts: Vec::new(alloc),
+                next,
+            }),
+            Err(fault) => Err(fault),
+        },
+        Err(fault) => Err(fault),
+    }
 }
 
 /// Writes the frames of a kernel's journal, numbered from 1: those of a batch of entries while threads make those of the next.
@@ -273,25 +307,16 @@ fn write_batches<K: Sink, R: Threads + Sync>(
     let mut rest = entries;
     while !rest.is_empty() {
         let (batch, more) = rest.split_at(batch_len(rest));
-        let (sent, made) = write_beside(
-            rt, alloc, sink, parts.as_slice(), kernel, running, batch,
-        );
-        match sent {
-            Ok(()) => {}
+        match write_next(rt, alloc, sink, parts.as_slice(), kernel, running, batch) {
+            Ok(made) => {
+                let Made {
+                    parts: next_parts,
+                    next,
+                } = made;
+                parts = next_parts;
+                running = next;
+            }
             Err(fault) => return Err(fault),
-        }
-        match made {
-            Some(made) => {
-                parts = made.parts;
-                running = made.next;
-            }
-            None => {
-                parts = Vec::new(alloc);
-                match write_in_turn(alloc, sink, kernel, running, batch) {
-                    Ok(after) => running = after,
-                    Err(fault) => return Err(fault),
-                }
-            }
         }
         rest = more;
     }

@@ -1,12 +1,13 @@
-use Rattle.std.proofs.Common.{subst, arith, ◌∙◌, sym, ap}
-use Rattle.nb_outside.specs.Streams.{Adds}
-use Rattle.node_run.specs.Frames.{AddsFront, parts_together}
-use Rattle.node_run.proofs.Batching.{halves, none_told, more_told, all_told, front_told, before_told, none_waits, waited_told, waited_front, next_waits}
+use Rattle.std.proofs.Common.{◌≡◌, ◌++◌, [], ap, ◌∙◌, arith}
+use Rattle.std.specs.List.{sum_by}
+use Rattle.reply_frames.specs.Replies.{entry_length}
+use Rattle.node_run.specs.Frames.{journal_frames, parts_together, AddsFront, WritesSoFar}
+use Rattle.node_run.proofs.Batching.{halves, none_batched, more_batched, all_batched, front_batched, next_front, stops_in_batch}
+use Rattle.node_run.proofs.Stopping.{fault_alike}
 use Rattle.node_run.proofs.write.write_batches.Goals as goal
 
 pub loop-rest-init : goal.loop-rest-init
-loop-rest-init g c =
-    let written = g.K.Sink.written c.args.sink.now in (
-      none_waits written written c.args.kernel 1 c.args.entries.now c.args.entries.now c.new-parts.result.items c.new-parts.ensures.items (none_told written c.args.kernel c.args.entries.now),
-      omega arith,
-    )
+loop-rest-init g c = (
+  none_batched (g.K.Sink.written c.args.sink.now) c.args.kernel c.args.entries.now c.new-parts.result.items c.new-parts.ensures.items,
+  omega arith,
+)
