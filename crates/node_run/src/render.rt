@@ -41,7 +41,9 @@ fn bytes_of(entry: &Entry) -> usize {
                 Some(text) => text.len(),
                 None => 0,
             };
-            code.saturating_add(printed.len()).saturating_add(text).saturating_add(ROUND)
+            code.saturating_add(printed.len())
+                .saturating_add(text)
+                .saturating_add(ROUND)
         }
         _ => ROUND,
     }

@@ -169,13 +169,7 @@ impl<'a, E: Engine + Drop, Q: Feeds, N: Name, R: Wait> Service<'a, E, Q, N, R> {
             (λ _. HeedsFront N.queues hosts self.old.framer self.old.node piece.now self.new.node) }
     {
         match self.framer.feed(alloc, piece) {
-            Ok(()) => match take_frames(
-                rt,
-                alloc,
-                hosts,
-                &mut self.framer,
-                &mut self.node,
-            ) {
+            Ok(()) => match take_frames(rt, alloc, hosts, &mut self.framer, &mut self.node) {
                 Ok(true) => Ok(Heard::More),
                 Ok(false) => Ok(Heard::Ended(IntakeEnd::End)),
                 Err(error) => Err(error),
