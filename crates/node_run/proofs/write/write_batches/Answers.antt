@@ -19,7 +19,7 @@ loop-rest-preserved g c =
     let new = g.K.Sink.written c.write_next.new.sink in
     let batch = c.split_at.result.0.now in
     let cut = halves c.batch_len.result c.loop-rest.rest.now batch c.split_at.result.1.now c.split_at.ensures.front c.split_at.ensures.back in
-    let step = subst (λ ps. WritesSoFar mid new (parts_together ps ++ journal_frames c.args.kernel c.loop-rest.running batch) (parts_together c.in-Ok.made.parts.items)) c.as_slice.ensures c.in-Ok.ensures.ok in (
+    let step = subst (λ ps. WritesSoFar mid new (parts_together ps ++ journal_frames c.args.kernel c.loop-rest.running batch) (parts_together c.in-Ok.made.parts.items)) c.as_slice.ensures.value c.in-Ok.ensures.ok in (
       more_batched (g.K.Sink.written c.args.sink.now) mid new c.args.kernel c.loop-rest.running c.in-Ok.made.next c.args.entries.now c.loop-rest.rest.now batch c.split_at.result.1.now c.loop-rest.parts.items
           c.in-Ok.made.parts.items c.loop-rest.invariant.0 cut c.in-Ok.ensures.next step,
       omega (arith, c.in-Ok.ensures.faults_stay, c.loop-rest.invariant.1),
@@ -32,7 +32,7 @@ returns-in-Err-clause-err g c =
     let batch = c.split_at.result.0.now in
     let cut = halves c.batch_len.result c.loop-rest.rest.now batch c.split_at.result.1.now c.split_at.ensures.front c.split_at.ensures.back in
     next_front (g.K.Sink.written c.args.sink.now) mid new c.args.kernel c.loop-rest.running c.args.entries.now c.loop-rest.rest.now batch c.split_at.result.1.now c.loop-rest.parts.items c.loop-rest.invariant.0 cut
-    (subst (λ ps. AddsFront mid new (parts_together ps ++ journal_frames c.args.kernel c.loop-rest.running batch)) c.as_slice.ensures c.in-Err.ensures.err)
+    (subst (λ ps. AddsFront mid new (parts_together ps ++ journal_frames c.args.kernel c.loop-rest.running batch)) c.as_slice.ensures.value c.in-Err.ensures.err)
 
 pub returns-in-Err-clause-memory : goal.returns-in-Err-clause-memory
 returns-in-Err-clause-memory g c = λ is.
@@ -41,7 +41,7 @@ returns-in-Err-clause-memory g c = λ is.
     let batch = c.split_at.result.0.now in
     let cut = halves c.batch_len.result c.loop-rest.rest.now batch c.split_at.result.1.now c.split_at.ensures.front c.split_at.ensures.back in
     stops_in_batch (g.K.Sink.written c.args.sink.now) mid new c.args.kernel c.loop-rest.running c.args.entries.now c.loop-rest.rest.now batch c.split_at.result.1.now c.loop-rest.parts.items c.loop-rest.invariant.0 cut
-    (subst (λ ps. AddsBatchBefore mid new (parts_together ps) c.args.kernel c.loop-rest.running batch) c.as_slice.ensures (c.in-Err.ensures.memory (fault_alike _ _ is)))
+    (subst (λ ps. AddsBatchBefore mid new (parts_together ps) c.args.kernel c.loop-rest.running batch) c.as_slice.ensures.value (c.in-Err.ensures.memory (fault_alike _ _ is)))
 
 pub returns-clause-ok : goal.returns-clause-ok
 returns-clause-ok g c =
@@ -49,11 +49,11 @@ returns-clause-ok g c =
     let new = g.K.Sink.written c.send_parts.new.sink in
     let none : c.loop-rest.rest.now ≡ [] = none_left c.loop-rest.rest.now (omega arith) in
     map_ok c.send_parts.result c.send_parts.ensures.ok (λ adds. all_batched (g.K.Sink.written c.args.sink.now) mid new c.args.kernel c.loop-rest.running c.args.entries.now c.loop-rest.rest.now c.loop-rest.parts.items
-    c.loop-rest.invariant.0 none (subst (λ ps. Adds mid new (parts_together ps)) c.as_slice-2.ensures adds))
+    c.loop-rest.invariant.0 none (subst (λ ps. Adds mid new (parts_together ps)) c.as_slice-2.ensures.value adds))
 
 pub returns-clause-err : goal.returns-clause-err
 returns-clause-err g c =
     let mid = g.K.Sink.written c.loop-rest.sink in
     let new = g.K.Sink.written c.send_parts.new.sink in
     map_err c.send_parts.result c.send_parts.ensures.err (λ front. front_batched (g.K.Sink.written c.args.sink.now) mid new c.args.kernel c.loop-rest.running c.args.entries.now c.loop-rest.rest.now c.loop-rest.parts.items
-    c.loop-rest.invariant.0 (subst (λ ps. AddsFront mid new (parts_together ps)) c.as_slice-2.ensures front))
+    c.loop-rest.invariant.0 (subst (λ ps. AddsFront mid new (parts_together ps)) c.as_slice-2.ensures.value front))
