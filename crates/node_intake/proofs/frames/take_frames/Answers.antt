@@ -10,7 +10,7 @@ use Rattle.node_intake.proofs.frames.take_frames.Goals as goal
 pub returns-clause-took : goal.returns-clause-took
 returns-clause-took g c = λ bytes t.
     let read = c.in_ok-all.ensures ∙ ap (map message_in) c.as_slice.ensures.value in
-    many_more c.args.hosts bytes c.in_ok-bodies.value.0.items c.args.framer.now c.cut_off.new.framer (StandsFor g.D.Desk.holds c.args.node.now) (StandsFor g.D.Desk.holds c.take_all.new.self)
+    many_more c.args.hosts bytes c.in_ok-bodies.bodies.items c.args.framer.now c.cut_off.new.framer (StandsFor g.D.Desk.holds c.args.node.now) (StandsFor g.D.Desk.holds c.take_all.new.self)
     c.in_ok-bodies.ensures.cut
     (λ node stands. subst (λ ms. StandsFor g.D.Desk.holds c.take_all.new.self (with_messages c.args.hosts node ms)) read (c.in_ok-take_all.ensures.node node stands)) t
 
@@ -32,5 +32,5 @@ pub returns-in_err-take_all-clause-err : goal.returns-in_err-take_all-clause-err
 returns-in_err-take_all-clause-err g c = on_err c.from_residual-in_err-take_all.result (λ bytes so.
     let read = c.in_ok-all.ensures ∙ ap (map message_in) c.as_slice.ensures.value in
     let some = c.in_err-take_all.ensures.err in
-    some_more c.args.hosts bytes c.in_ok-bodies.value.0.items some.front some.later c.args.framer.now c.cut_off.new.framer (StandsFor g.D.Desk.holds c.args.node.now) (StandsFor g.D.Desk.holds c.take_all.new.self)
+    some_more c.args.hosts bytes c.in_ok-bodies.bodies.items some.front some.later c.args.framer.now c.cut_off.new.framer (StandsFor g.D.Desk.holds c.args.node.now) (StandsFor g.D.Desk.holds c.take_all.new.self)
     c.in_ok-bodies.ensures.cut (sym read ∙ some.parts) some.becomes so)

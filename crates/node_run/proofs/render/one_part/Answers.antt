@@ -3,4 +3,4 @@ use Rattle.node_run.proofs.Batching.{one_together}
 use Rattle.node_run.proofs.render.one_part.Goals as goal
 
 pub returns : goal.returns
-returns c = one_together c.render_in_turn.result c.new-parts.result.items c.push.new.self.items c.new-parts.ensures.items c.in_ok-push.ensures.items ∙ c.in_ok-bytes.ensures
+returns c = one_together _ c.new-parts.result.items c.push.new.self.items c.new-parts.ensures.items c.in_ok-push.ensures.items ∙ c.in_ok-bytes.ensures
