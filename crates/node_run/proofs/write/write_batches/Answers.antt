@@ -1,4 +1,4 @@
-use Rattle.std.proofs.Common.{◌≡◌, ◌++◌, [], subst, arith}
+use Rattle.std.proofs.Common.{◌≡◌, ◌++◌, [], subst, true-eqb, arith}
 use Rattle.nb_outside.specs.Streams.{Adds}
 use Rattle.node_run.specs.Frames.{journal_frames, parts_together, AddsFront, AddsBatchBefore, WritesSoFar}
 use Rattle.node_run.proofs.Streaming.{map_ok, map_err}
@@ -47,7 +47,7 @@ pub returns-clause-ok : goal.returns-clause-ok
 returns-clause-ok g c =
     let mid = g.K.Sink.written c.loop-rest.sink in
     let new = g.K.Sink.written c.send_parts.new.sink in
-    let none : c.loop-rest.rest.now ≡ [] = none_left c.loop-rest.rest.now (omega arith) in
+    let none : c.loop-rest.rest.now ≡ [] = none_left c.loop-rest.rest.now (true-eqb _ 0 c.loop-rest-test.ensures) in
     map_ok c.send_parts.result c.send_parts.ensures.ok (λ adds. all_batched (g.K.Sink.written c.args.sink.now) mid new c.args.kernel c.loop-rest.running c.args.entries.now c.loop-rest.rest.now c.loop-rest.parts.items
     c.loop-rest.invariant.0 none (subst (λ ps. Adds mid new (parts_together ps)) c.as_slice-2.ensures.value adds))
 

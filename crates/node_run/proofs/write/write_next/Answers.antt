@@ -10,6 +10,9 @@ returns-in-Ok-Some-clause-ok g c =
     made_waits (g.K.Sink.written c.args.sink.now) (g.K.Sink.written c.write_beside.new.sink) (parts_together c.args.waiting.now) (journal_frames c.args.kernel c.args.first c.args.entries.now)
     (parts_together c.in-Ok-Some.made.parts.items) c.in-Ok-Some.ensures.ok batch.0
 
+pub returns-in-Ok-Some-clause-next : goal.returns-in-Ok-Some-clause-next
+returns-in-Ok-Some-clause-next g c = let batch = rw c.in-Ok-Some.field-0-is at c.in-Ok-Some.ensures.made in batch.1
+
 pub returns-in-Ok-clause-ok : goal.returns-in-Ok-clause-ok
 returns-in-Ok-clause-ok g c =
     none_waits (g.K.Sink.written c.args.sink.now) (g.K.Sink.written c.write_beside.new.sink) (g.K.Sink.written c.write_in_turn.new.sink) (parts_together c.args.waiting.now)
