@@ -37,7 +37,7 @@ returns-in-Ok-flush-clause-ok g c =
     (piece_written (g.K.Sink.written c.args.sink.now) (g.K.Sink.written c.loop-entry.sink) (g.K.Sink.written c.flush.new.sink) _ (c.loop-entry.gathered ++ rest) c.loop-entry.gathered rest c.loop-entry.invariant.0 refl c.in-Ok-flush.ensures.ok)
     (entry_past c.args.kernel c.loop-entry.running c.loop-entry.entry-index c.args.entries.now c.loop-entry-test.false)
 
-pub returns-in-Err-flush-clause-err : goal.returns-in-Err-flush-clause-err
-returns-in-Err-flush-clause-err g c =
+pub returns-clause-err : goal.returns-clause-err
+returns-clause-err g c =
     let rest = journal_frames c.args.kernel c.loop-entry.running (drop c.loop-entry.entry-index c.args.entries.now) in
     front_written (g.K.Sink.written c.args.sink.now) (g.K.Sink.written c.loop-entry.sink) (g.K.Sink.written c.flush.new.sink) (journal_frames c.args.kernel c.args.first c.args.entries.now) (c.loop-entry.gathered ++ rest) c.loop-entry.gathered rest c.loop-entry.invariant.0 refl c.in-Err-flush.ensures.err

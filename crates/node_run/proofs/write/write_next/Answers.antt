@@ -1,3 +1,4 @@
+use Rattle.std.proofs.Common.{ap}
 use Rattle.node_run.specs.Frames.{journal_frames, parts_together}
 use Rattle.node_run.proofs.Streaming.{front_first, front_second}
 use Rattle.node_run.proofs.Stopping.{fault_alike}
@@ -16,7 +17,7 @@ returns-in-Ok-Some-clause-next g c = let batch = rw c.in-Ok-Some.field-0-is at c
 pub returns-in-Ok-clause-ok : goal.returns-in-Ok-clause-ok
 returns-in-Ok-clause-ok g c =
     none_waits (g.K.Sink.written c.args.sink.now) (g.K.Sink.written c.write_beside.new.sink) (g.K.Sink.written c.write_in_turn.new.sink) (parts_together c.args.waiting.now)
-    (journal_frames c.args.kernel c.args.first c.args.entries.now) _ c.in-Ok-None.ensures.ok c.in-Ok.ensures.ok c.new.ensures.items
+    (journal_frames c.args.kernel c.args.first c.args.entries.now) (parts_together c.new.result.items) c.in-Ok-None.ensures.ok c.in-Ok.ensures.ok (ap parts_together c.new.ensures.items)
 
 pub returns-in-Err-clause-err : goal.returns-in-Err-clause-err
 returns-in-Err-clause-err g c =
