@@ -78,12 +78,34 @@ static ROWS: [Row; 3] = [
     },
 ];
 
-/// A draw of a cell with four of them fails, or none does: what the feed gives, and what is written then. What was bound before the draw is
-/// copied, for 1,000 each; later names have no value.
-static FAILING: [(&[Drawn], &[(&str, usize)]); 5] = [
-    (
-        &[Drawn::Failed],
-        &[
+/// A cell that draws four times, a move, and every name.
+static FOUR_DRAWS: [Asked; 7] = [
+    Asked::Open,
+    Asked::Cell("a = draw()\\nb = draw()\\nc = draw()\\nd = draw()"),
+    Asked::Move([1000, 0, 0, 0]),
+    Asked::Cell("a"),
+    Asked::Cell("b"),
+    Asked::Cell("c"),
+    Asked::Cell("d"),
+];
+
+const OS_ERROR: &str = "[\"OSError: feed\"]";
+
+const NO_A: &str = "[\"NameError: name 'a' is not defined\"]";
+
+const NO_B: &str = "[\"NameError: name 'b' is not defined\"]";
+
+const NO_C: &str = "[\"NameError: name 'c' is not defined\"]";
+
+const NO_D: &str = "[\"NameError: name 'd' is not defined\"]";
+
+/// Each draw fails in turn, and then one that isn't made. What was bound before it is copied, for 1,000 each; later names have no value.
+static FAILING: [Row; 5] = [
+    Row {
+        shows: "the first draw fails",
+        draws: &[Drawn::Failed, Drawn::Word(11)],
+        asked: &FOUR_DRAWS,
+        texts: &[
             (OS_ERROR, 2),
             (
                 "{\"copied\":0,\"cost\":0,\"flow\":0,\"from\":0,\"objects\":0,\"rerun\":0,\"status\":\"ok\",\"to\":1}",
@@ -95,25 +117,35 @@ static FAILING: [(&[Drawn], &[(&str, usize)]); 5] = [
             (NO_C, 2),
             (NO_D, 2),
         ],
-    ),
-    (
-        &[Drawn::Word(7), Drawn::Failed],
-        &[
+    },
+    Row {
+        shows: "the second draw fails",
+        draws: &[Drawn::Word(7), Drawn::Failed, Drawn::Word(11)],
+        asked: &FOUR_DRAWS,
+        texts: &[
             (OS_ERROR, 2),
             (
                 "{\"copied\":1,\"cost\":1000,\"flow\":1000,\"from\":0,\"objects\":0,\"rerun\":0,\"status\":\"ok\",\"to\":1}",
                 1,
             ),
             ("\"text/plain\":\"7\"", 1),
+            ("text/plain", 1),
             (NO_A, 0),
             (NO_B, 2),
             (NO_C, 2),
             (NO_D, 2),
         ],
-    ),
-    (
-        &[Drawn::Word(7), Drawn::Word(8), Drawn::Failed],
-        &[
+    },
+    Row {
+        shows: "the third draw fails",
+        draws: &[
+            Drawn::Word(7),
+            Drawn::Word(8),
+            Drawn::Failed,
+            Drawn::Word(11),
+        ],
+        asked: &FOUR_DRAWS,
+        texts: &[
             (OS_ERROR, 2),
             (
                 "{\"copied\":2,\"cost\":2000,\"flow\":2000,\"from\":0,\"objects\":0,\"rerun\":0,\"status\":\"ok\",\"to\":1}",
@@ -121,14 +153,24 @@ static FAILING: [(&[Drawn], &[(&str, usize)]); 5] = [
             ),
             ("\"text/plain\":\"7\"", 1),
             ("\"text/plain\":\"8\"", 1),
+            ("text/plain", 2),
+            (NO_A, 0),
             (NO_B, 0),
             (NO_C, 2),
             (NO_D, 2),
         ],
-    ),
-    (
-        &[Drawn::Word(7), Drawn::Word(8), Drawn::Word(9), Drawn::Failed, Drawn::Word(10)],
-        &[
+    },
+    Row {
+        shows: "the fourth draw fails",
+        draws: &[
+            Drawn::Word(7),
+            Drawn::Word(8),
+            Drawn::Word(9),
+            Drawn::Failed,
+            Drawn::Word(11),
+        ],
+        asked: &FOUR_DRAWS,
+        texts: &[
             (OS_ERROR, 2),
             (
                 "{\"copied\":3,\"cost\":3000,\"flow\":3000,\"from\":0,\"objects\":0,\"rerun\":0,\"status\":\"ok\",\"to\":1}",
@@ -137,13 +179,23 @@ static FAILING: [(&[Drawn], &[(&str, usize)]); 5] = [
             ("\"text/plain\":\"7\"", 1),
             ("\"text/plain\":\"8\"", 1),
             ("\"text/plain\":\"9\"", 1),
+            ("text/plain", 3),
+            (NO_A, 0),
+            (NO_B, 0),
             (NO_C, 0),
             (NO_D, 2),
         ],
-    ),
-    (
-        &[Drawn::Word(7), Drawn::Word(8), Drawn::Word(9), Drawn::Word(10)],
-        &[
+    },
+    Row {
+        shows: "no draw fails",
+        draws: &[
+            Drawn::Word(7),
+            Drawn::Word(8),
+            Drawn::Word(9),
+            Drawn::Word(10),
+        ],
+        asked: &FOUR_DRAWS,
+        texts: &[
             (OS_ERROR, 0),
             (
                 "{\"copied\":4,\"cost\":4000,\"flow\":4000,\"from\":0,\"objects\":0,\"rerun\":0,\"status\":\"ok\",\"to\":1}",
@@ -153,33 +205,22 @@ static FAILING: [(&[Drawn], &[(&str, usize)]); 5] = [
             ("\"text/plain\":\"8\"", 1),
             ("\"text/plain\":\"9\"", 1),
             ("\"text/plain\":\"10\"", 1),
-            ("NameError", 0),
+            ("text/plain", 4),
+            (NO_A, 0),
+            (NO_B, 0),
+            (NO_C, 0),
+            (NO_D, 0),
         ],
-    ),
+    },
 ];
 
-const OS_ERROR: &str = "[\"OSError: feed\"]";
-const NO_A: &str = "[\"NameError: name 'a' is not defined\"]";
-const NO_B: &str = "[\"NameError: name 'b' is not defined\"]";
-const NO_C: &str = "[\"NameError: name 'c' is not defined\"]";
-const NO_D: &str = "[\"NameError: name 'd' is not defined\"]";
-
 #[test]
-fn a_cell_whose_kth_draw_fails_then_a_move_and_every_name(rt: HostRuntime) -> Result<(), Fail> {
-    let asked = [
-        Asked::Open,
-        Asked::Cell("a = draw()\\nb = draw()\\nc = draw()\\nd = draw()"),
-        Asked::Move([1000, 0, 0, 0]),
-        Asked::Cell("a"),
-        Asked::Cell("b"),
-        Asked::Cell("c"),
-        Asked::Cell("d"),
-    ];
-    let input = frames_of(rt.alloc(), &asked)?;
+fn a_cell_whose_kth_draw_fails_moves_with_what_it_bound(rt: HostRuntime) -> Result<(), Fail> {
+    let input = frames_of(rt.alloc(), &FOUR_DRAWS)?;
     let words = ["run", "--hosts", "3", "--workers=2"];
-    for (draws, texts) in &FAILING {
-        let found = wrong(&rt, &words, input.as_slice(), draws, texts)?;
-        assert_eq!(rt; found.as_str(), "", "{} draws", draws.len());
+    for row in &FAILING {
+        let found = wrong(&rt, &words, input.as_slice(), row.draws, row.texts)?;
+        assert_eq!(rt; found.as_str(), "", "{}", row.shows);
     }
     Ok(())
 }

@@ -24,14 +24,12 @@ static ALIASES: [Asked; 6] = [
     Asked::Cell("a"),
 ];
 
-/// How many bytes are written of these frames.
-const OF_ALIASES: usize = 11_293;
-
 /// How many whole frames there are in the first so many bytes of `TWO_CELLS`.
 fn whole_frames(alloc: Global, given: usize) -> Result<usize, AllocError> {
     let mut whole = 0usize;
-    for count in 1..=TWO_CELLS.len() {
-        if frames_of(alloc, &TWO_CELLS[..count])?.len() <= given {
+    for count in 1..=3usize {
+        let first = TWO_CELLS.get(..count).unwrap_or(&TWO_CELLS[..]);
+        if frames_of(alloc, first)?.len() <= given {
             whole = count;
         }
     }
@@ -47,12 +45,15 @@ fn a_source_whose_kth_read_fails(rt: HostRuntime) -> Result<(), Fail> {
     for most in [1, 7, 65_536] {
         let reads = input.len().div_ceil(most).saturating_add(1);
         for read in 0..=reads {
-            let fails = read as u64 + 1;
-            let (status, written) =
-                answered_reading(&rt, &["run"], input.as_slice(), most, fails)?;
+            let fails = (read as u64).saturating_add(1);
+            let (status, written) = answered_reading(&rt, &["run"], input.as_slice(), most, fails)?;
             let frames = whole_frames(alloc, most.saturating_mul(read))?;
             let length = OF_TWO_CELLS.get(frames).copied();
-            assert_eq!(rt; status, if read < reads { 3 } else { 0 }, "read {read} of {most}");
+            assert_eq!(rt;
+                status,
+                if read < reads { 3 } else { 0 },
+                "read {read} of {most}"
+            );
             assert_eq!(rt; Some(written.len()), length, "read {read} of {most}");
             assert!(rt; all.as_slice().starts_with(written.as_slice()));
         }
@@ -65,18 +66,27 @@ fn a_source_whose_kth_read_fails(rt: HostRuntime) -> Result<(), Fail> {
 fn a_sink_whose_kth_write_fails(rt: HostRuntime) -> Result<(), Fail> {
     let alloc = rt.alloc();
     let words = ["run", "--hosts", "2"];
-    for (asked, length) in [(&TWO_CELLS[..], OF_TWO_CELLS[3]), (&ALIASES, OF_ALIASES)] {
+    for (asked, length) in [(&TWO_CELLS[..], 5605), (&ALIASES[..], 11_293)] {
         let input = frames_of(alloc, asked)?;
         let (_, all) = answered(&rt, &words, input.as_slice(), &[], &[])?;
         assert_eq!(rt; all.len(), length);
         for most in [1, 100, 65_536] {
             let writes = length.div_ceil(most);
             for write in 0..=writes {
-                let fails = write as u64 + 1;
-                let (status, written) =
-                    answered_writing(&rt, &words, input.as_slice(), most, fails)?;
+                let fails = (write as u64).saturating_add(1);
+                let (status, written) = answered_writing(
+                    &rt,
+                    &words,
+                    input.as_slice(),
+                    most,
+                    fails,
+                )?;
                 let taken = most.saturating_mul(write).min(length);
-                assert_eq!(rt; status, if write < writes { 4 } else { 0 }, "write {write} of {most}");
+                assert_eq!(rt;
+                    status,
+                    if write < writes { 4 } else { 0 },
+                    "write {write} of {most}"
+                );
                 assert_eq!(rt; written.len(), taken, "write {write} of {most}");
                 assert!(rt; all.as_slice().starts_with(written.as_slice()));
             }

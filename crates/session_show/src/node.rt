@@ -38,10 +38,7 @@ fn push_ask(alloc: Global, out: &mut Vec<u8>, ask: &Ask) -> Result<(), AllocErro
         Ask::Migrate { to, weights } => {
             let content = format!(in alloc;
                 "{{\"to\":{to},\"copy_base\":{},\"per_byte\":{},\"run_base\":{},\"per_step\":{}}}",
-                weights.copy_base,
-                weights.per_byte,
-                weights.run_base,
-                weights.per_step
+                weights.copy_base, weights.per_byte, weights.run_base, weights.per_step
             )?;
             push_message(alloc, out, "migrate_request", content.as_str())
         }
