@@ -89,54 +89,49 @@ static FOUR_DRAWS: [Asked; 7] = [
     Asked::Cell("d"),
 ];
 
-const OS_ERROR: &str = "[\"OSError: feed\"]";
-
-const NO_A: &str = "[\"NameError: name 'a' is not defined\"]";
-
-const NO_B: &str = "[\"NameError: name 'b' is not defined\"]";
-
-const NO_C: &str = "[\"NameError: name 'c' is not defined\"]";
-
-const NO_D: &str = "[\"NameError: name 'd' is not defined\"]";
+/// Which of the four draws fails, what the feed gives, and what is written, and how often.
+struct Failing {
+    shows: &'static str,
+    draws: &'static [Drawn],
+    texts: &'static [(&'static str, usize)],
+}
 
 /// Each draw fails in turn, and then one that isn't made. What was bound before it is copied, for 1,000 each; later names have no value.
-static FAILING: [Row; 5] = [
-    Row {
+static FAILING: [Failing; 5] = [
+    Failing {
         shows: "the first draw fails",
         draws: &[Drawn::Failed, Drawn::Word(11)],
-        asked: &FOUR_DRAWS,
         texts: &[
-            (OS_ERROR, 2),
+            ("[\"OSError: feed\"]", 2),
             (
                 "{\"copied\":0,\"cost\":0,\"flow\":0,\"from\":0,\"objects\":0,\"rerun\":0,\"status\":\"ok\",\"to\":1}",
                 1,
             ),
             ("text/plain", 0),
-            (NO_A, 2),
-            (NO_B, 2),
-            (NO_C, 2),
-            (NO_D, 2),
+            ("[\"NameError: name 'a' is not defined\"]", 2),
+            ("[\"NameError: name 'b' is not defined\"]", 2),
+            ("[\"NameError: name 'c' is not defined\"]", 2),
+            ("[\"NameError: name 'd' is not defined\"]", 2),
         ],
     },
-    Row {
+    Failing {
         shows: "the second draw fails",
         draws: &[Drawn::Word(7), Drawn::Failed, Drawn::Word(11)],
-        asked: &FOUR_DRAWS,
         texts: &[
-            (OS_ERROR, 2),
+            ("[\"OSError: feed\"]", 2),
             (
                 "{\"copied\":1,\"cost\":1000,\"flow\":1000,\"from\":0,\"objects\":0,\"rerun\":0,\"status\":\"ok\",\"to\":1}",
                 1,
             ),
             ("\"text/plain\":\"7\"", 1),
             ("text/plain", 1),
-            (NO_A, 0),
-            (NO_B, 2),
-            (NO_C, 2),
-            (NO_D, 2),
+            ("[\"NameError: name 'a' is not defined\"]", 0),
+            ("[\"NameError: name 'b' is not defined\"]", 2),
+            ("[\"NameError: name 'c' is not defined\"]", 2),
+            ("[\"NameError: name 'd' is not defined\"]", 2),
         ],
     },
-    Row {
+    Failing {
         shows: "the third draw fails",
         draws: &[
             Drawn::Word(7),
@@ -144,9 +139,8 @@ static FAILING: [Row; 5] = [
             Drawn::Failed,
             Drawn::Word(11),
         ],
-        asked: &FOUR_DRAWS,
         texts: &[
-            (OS_ERROR, 2),
+            ("[\"OSError: feed\"]", 2),
             (
                 "{\"copied\":2,\"cost\":2000,\"flow\":2000,\"from\":0,\"objects\":0,\"rerun\":0,\"status\":\"ok\",\"to\":1}",
                 1,
@@ -154,13 +148,13 @@ static FAILING: [Row; 5] = [
             ("\"text/plain\":\"7\"", 1),
             ("\"text/plain\":\"8\"", 1),
             ("text/plain", 2),
-            (NO_A, 0),
-            (NO_B, 0),
-            (NO_C, 2),
-            (NO_D, 2),
+            ("[\"NameError: name 'a' is not defined\"]", 0),
+            ("[\"NameError: name 'b' is not defined\"]", 0),
+            ("[\"NameError: name 'c' is not defined\"]", 2),
+            ("[\"NameError: name 'd' is not defined\"]", 2),
         ],
     },
-    Row {
+    Failing {
         shows: "the fourth draw fails",
         draws: &[
             Drawn::Word(7),
@@ -169,9 +163,8 @@ static FAILING: [Row; 5] = [
             Drawn::Failed,
             Drawn::Word(11),
         ],
-        asked: &FOUR_DRAWS,
         texts: &[
-            (OS_ERROR, 2),
+            ("[\"OSError: feed\"]", 2),
             (
                 "{\"copied\":3,\"cost\":3000,\"flow\":3000,\"from\":0,\"objects\":0,\"rerun\":0,\"status\":\"ok\",\"to\":1}",
                 1,
@@ -180,13 +173,13 @@ static FAILING: [Row; 5] = [
             ("\"text/plain\":\"8\"", 1),
             ("\"text/plain\":\"9\"", 1),
             ("text/plain", 3),
-            (NO_A, 0),
-            (NO_B, 0),
-            (NO_C, 0),
-            (NO_D, 2),
+            ("[\"NameError: name 'a' is not defined\"]", 0),
+            ("[\"NameError: name 'b' is not defined\"]", 0),
+            ("[\"NameError: name 'c' is not defined\"]", 0),
+            ("[\"NameError: name 'd' is not defined\"]", 2),
         ],
     },
-    Row {
+    Failing {
         shows: "no draw fails",
         draws: &[
             Drawn::Word(7),
@@ -194,9 +187,8 @@ static FAILING: [Row; 5] = [
             Drawn::Word(9),
             Drawn::Word(10),
         ],
-        asked: &FOUR_DRAWS,
         texts: &[
-            (OS_ERROR, 0),
+            ("[\"OSError: feed\"]", 0),
             (
                 "{\"copied\":4,\"cost\":4000,\"flow\":4000,\"from\":0,\"objects\":0,\"rerun\":0,\"status\":\"ok\",\"to\":1}",
                 1,
@@ -206,10 +198,10 @@ static FAILING: [Row; 5] = [
             ("\"text/plain\":\"9\"", 1),
             ("\"text/plain\":\"10\"", 1),
             ("text/plain", 4),
-            (NO_A, 0),
-            (NO_B, 0),
-            (NO_C, 0),
-            (NO_D, 0),
+            ("[\"NameError: name 'a' is not defined\"]", 0),
+            ("[\"NameError: name 'b' is not defined\"]", 0),
+            ("[\"NameError: name 'c' is not defined\"]", 0),
+            ("[\"NameError: name 'd' is not defined\"]", 0),
         ],
     },
 ];
