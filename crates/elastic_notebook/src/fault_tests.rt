@@ -43,7 +43,7 @@ fn a_source_whose_kth_read_fails(rt: HostRuntime) -> Result<(), Fail> {
     let input = frames_of(alloc, &TWO_CELLS)?;
     let (_, all) = answered(&rt, &["run"], input.as_slice(), &[], &[])?;
     for most in [1, 7, 65_536] {
-        let reads = input.len().div_ceil(most).saturating_add(1);
+        let reads = input.len().div_ceil(most.max(1)).saturating_add(1);
         for read in 0..=reads {
             let fails = (read as u64).saturating_add(1);
             let (status, written) = answered_reading(&rt, &["run"], input.as_slice(), most, fails)?;
@@ -71,7 +71,7 @@ fn a_sink_whose_kth_write_fails(rt: HostRuntime) -> Result<(), Fail> {
         let (_, all) = answered(&rt, &words, input.as_slice(), &[], &[])?;
         assert_eq!(rt; all.len(), length);
         for most in [1, 100, 65_536] {
-            let writes = length.div_ceil(most);
+            let writes = length.div_ceil(most.max(1));
             for write in 0..=writes {
                 let fails = (write as u64).saturating_add(1);
                 let (status, written) = answered_writing(
