@@ -1,5 +1,5 @@
 -- A dead session stays dead.
-use Rattle.std.proofs.Common.{◌≡◌, ℕ, Bool, true, false, ◌||◌, List, [], ◌∷◌, ◌++◌, refl, sym, subst}
+use Rattle.std.proofs.Common.{◌≡◌, ℕ, Bool, true, false, ◌||◌, List, [], ◌∷◌, ◌++◌, refl, subst}
 use Rattle.std.specs.List.{AllByRecursion}
 use Rattle.graph_model.specs.declared.plan.Certified.{Certified}
 use Rattle.graph_model.specs.declared.plan.Weights.{Weights}
