@@ -36,7 +36,15 @@ fn whole_frames(alloc: Global, given: usize) -> Result<usize, AllocError> {
     Ok(whole)
 }
 
-/// Each read fails in turn, also the one that meets the end, and then one that isn't made.
+/// Of reads and writes of one byte, which are thousands, each one with a number that this divides is to fail, and the last ones.
+const STEP: usize = 211;
+
+/// Whether that call, of so many that a run makes, is to fail in a run.
+fn is_tried(most: usize, call: usize, calls: usize) -> bool {
+    1 < most || call % STEP == 0 || calls <= call.saturating_add(2)
+}
+
+/// Each read fails in turn, also the one that meets the end, and then one that isn't made; of those of one byte some.
 #[test]
 fn a_source_whose_kth_read_fails(rt: HostRuntime) -> Result<(), Fail> {
     let alloc = rt.alloc();
@@ -45,6 +53,9 @@ fn a_source_whose_kth_read_fails(rt: HostRuntime) -> Result<(), Fail> {
     for most in [1, 7, 65_536] {
         let reads = input.len().div_ceil(most.max(1)).saturating_add(1);
         for read in 0..=reads {
+            if !is_tried(most, read, reads) {
+                continue;
+            }
             let fails = (read as u64).saturating_add(1);
             let (status, written) = answered_reading(&rt, &["run"], input.as_slice(), most, fails)?;
             let frames = whole_frames(alloc, most.saturating_mul(read))?;
@@ -61,14 +72,6 @@ fn a_source_whose_kth_read_fails(rt: HostRuntime) -> Result<(), Fail> {
     Ok(())
 }
 
-/// Of writes of one byte, which are thousands, each one with a number that this divides is to fail, and the last ones.
-const STEP: usize = 97;
-
-/// Whether that write, of so many before it that are made, is to fail in a run.
-fn is_tried(most: usize, write: usize, writes: usize) -> bool {
-    1 < most || write % STEP == 0 || writes <= write.saturating_add(2)
-}
-
 /// Each write fails in turn, and then one that isn't made; of those of one byte some.
 #[test]
 fn a_sink_whose_kth_write_fails(rt: HostRuntime) -> Result<(), Fail> {
@@ -78,7 +81,7 @@ fn a_sink_whose_kth_write_fails(rt: HostRuntime) -> Result<(), Fail> {
         let input = frames_of(alloc, asked)?;
         let (_, all) = answered(&rt, &words, input.as_slice(), &[], &[])?;
         assert_eq!(rt; all.len(), length);
-        for most in [1, 100, 65_536] {
+        for most in [1, 250, 65_536] {
             let writes = length.div_ceil(most.max(1));
             for write in 0..=writes {
                 if !is_tried(most, write, writes) {
