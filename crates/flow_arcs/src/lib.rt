@@ -14,20 +14,16 @@
 //! is found.
 #![tactic(auto)]
 
-mod chains;
 mod check;
-mod ends;
-mod fast;
 mod flow;
+mod levels;
+mod links;
 mod lists;
 mod network;
 mod pairs;
-mod push;
-mod ranks;
 mod search;
 mod send;
 mod solve;
-mod turns;
 
 pub use check::{FlowFault, check_flow};
 pub use flow::{ArcFlow, Cut};
