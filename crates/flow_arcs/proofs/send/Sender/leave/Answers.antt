@@ -1,7 +1,7 @@
 use Rattle.std.proofs.Common.{subst, arith}
 use Rattle.flow_arcs.specs.Ways.{IsSending}
 use Rattle.flow_arcs.proofs.Partners.{partner_rests, pairs_length}
-use Rattle.flow_arcs.proofs.Ways.{left, left_carries, left_source, way_node, way_fits}
+use Rattle.flow_arcs.proofs.Ways.{left, left_carries, way_node, way_fits}
 use Rattle.flow_arcs.proofs.send.Sender.leave.Goals as goal
 
 pub shut-requires : goal.shut-requires
@@ -30,7 +30,7 @@ pub returns-in-Some-clause-sending : goal.returns-in-Some-clause-sending
 returns-in-Some-clause-sending c =
     let h = subst (λ xs. IsSending c.args.net.now c.args.self.now.rest.items c.args.self.now.level.items c.args.self.now.turn.items c.args.self.now.last xs) c.in-Some.ensures c.requires.sending in
     rw c.push.ensures
-    (left c.args.net.now c.args.self.now.rest.items c.args.self.now.level.items c.shut.new.level.items c.args.self.now.turn.items c.args.self.now.last c.in-Some.stop c.pop.new.self 4294967295 h c.shut.ensures)
+    (left c.args.net.now c.args.self.now.rest.items c.args.self.now.level.items c.shut.new.level.items c.args.self.now.turn.items c.args.self.now.last c.in-Some.stop c.pop.new.self 0 h c.shut.ensures)
 
 pub returns-in-Some-clause-carried : goal.returns-in-Some-clause-carried
 returns-in-Some-clause-carried c =
@@ -40,6 +40,5 @@ returns-in-Some-clause-carried c =
 
 pub returns-in-None-clause-sending : goal.returns-in-None-clause-sending
 returns-in-None-clause-sending c =
-    let h = subst (λ xs. IsSending c.args.net.now c.args.self.now.rest.items c.args.self.now.level.items c.args.self.now.turn.items c.args.self.now.last xs) c.in-None.ensures.0 c.requires.sending in
     rw c.in-None.ensures.1
-    (left_source c.args.net.now c.args.self.now.rest.items c.args.self.now.level.items c.shut.new.level.items c.args.self.now.turn.items c.args.self.now.last 4294967295 h c.shut.ensures)
+    (subst (λ xs. IsSending c.args.net.now c.args.self.now.rest.items c.args.self.now.level.items c.args.self.now.turn.items c.args.self.now.last xs) c.in-None.ensures.0 c.requires.sending)
