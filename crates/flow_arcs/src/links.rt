@@ -1,6 +1,6 @@
 ghost use Rattle.std.specs.Prelude.{◌≡◌, ◌<◌, ◌^◌, ℕ, length, slice_index, IfOk, OnOk};
 ghost use Rattle.flow_model.specs.Flows.{IsNet};
-ghost use Rattle.flow_arcs.specs.Pairs.{heads, tails};
+ghost use Rattle.flow_arcs.specs.Pairs.{heads, tails, IsPaired};
 ghost use Rattle.flow_arcs.specs.Lists.{AreListsOf};
 ghost use Rattle.flow_arcs.specs.Ways.{IsLinks};
 
@@ -32,11 +32,15 @@ fn heads_of(alloc: Global, arcs: &[Arc]) -> Result<Vec<u32>, AllocError>
 
 impl Links {
     /// The directed arcs, which are in no list yet.
+    #[tactic(auto, using(crate::proofs::Partners::length_heads))]
     pub fn new(alloc: Global, net: &Network) -> Result<Links, AllocError>
-        ensures { IfOk result (λ links. links.to.items ≡ heads net.now.arcs) }
+        ensures net { IsNet net.now }
+        ensures few { length (heads net.now.arcs) < 2 ^ 32 }
+        ensures ends { IfOk result (λ links. links.to.items ≡ heads net.now.arcs) }
     {
+        let arcs = net.arcs();
         Ok(Links {
-            to: heads_of(alloc, net.arcs())?,
+            to: heads_of(alloc, arcs)?,
             first: Vec::new(alloc),
             next: Vec::new(alloc),
         })
@@ -47,7 +51,7 @@ impl Links {
         requires few { length (heads net.now.arcs) < 2 ^ 32 }
         requires net { IsNet net.now }
         requires ends { self.old.to.items ≡ heads net.now.arcs }
-        requires rests { length rest.now ≡ length (heads net.now.arcs) }
+        requires paired { IsPaired net.now.arcs rest.now }
         ensures links { OnOk result (IsLinks net.now self.new.to.items self.new.first.items self.new.next.items) }
         ensures lists { OnOk result (AreListsOf (λ e. 0 < slice_index rest.now e) (tails net.now.arcs) self.new.first.items self.new.next.items) }
     {

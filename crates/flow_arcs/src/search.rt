@@ -47,7 +47,7 @@ impl Search {
     ) -> Result<(), AllocError>
         requires net { IsNet net.now }
         requires links { IsLinks net.now links.now.to.items links.now.first.items links.now.next.items }
-        requires rests { length rest.now ≡ length (heads net.now.arcs) }
+        requires paired { IsPaired net.now.arcs rest.now }
         requires search { IsSearch net.now rest.now self.old.level.items self.old.by.items self.old.order.items }
         requires reached { 0 < slice_index self.old.level.items node }
         requires arc { arc < length (heads net.now.arcs) }
@@ -77,7 +77,7 @@ impl Search {
         requires net { IsNet net.now }
         requires links { IsLinks net.now links.now.to.items links.now.first.items links.now.next.items }
         requires lists { AreListsOf (λ e. 0 < slice_index rest.now e) (tails net.now.arcs) links.now.first.items links.now.next.items }
-        requires rests { length rest.now ≡ length (heads net.now.arcs) }
+        requires paired { IsPaired net.now.arcs rest.now }
         requires search { IsSearch net.now rest.now self.old.level.items self.old.by.items self.old.order.items }
         requires reached { 0 < slice_index self.old.level.items node }
         ensures search { OnOk result (IsSearch net.now rest.now self.new.level.items self.new.by.items self.new.order.items) }
@@ -125,8 +125,9 @@ pub fn search_levels(
     requires net { IsNet net.now }
     requires links { IsLinks net.now links.now.to.items links.now.first.items links.now.next.items }
     requires lists { AreListsOf (λ e. 0 < slice_index rest.now e) (tails net.now.arcs) links.now.first.items links.now.next.items }
-    requires rests { length rest.now ≡ length (heads net.now.arcs) }
+    requires paired { IsPaired net.now.arcs rest.now }
     ensures search { IfOk result (λ it. IsSearch net.now rest.now it.level.items it.by.items it.order.items) }
+    ensures levels { IfOk result (λ it. length it.level.items ≡ net.now.nodes) }
     ensures closed { IfOk result (λ it. slice_index it.level.items 1 ≡ 0 → IsClosed net.now.arcs rest.now it.level.items) }
 {
     let mut search = Search::new(alloc, net, rest)?;

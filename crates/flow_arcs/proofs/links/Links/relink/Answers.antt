@@ -3,7 +3,7 @@ use Rattle.std.proofs.lemmas.List.{get_or_read, length-set}
 use Rattle.flow_model.specs.Flows.{Net, IsNet}
 use Rattle.flow_arcs.specs.Pairs.{heads, tails, partner}
 use Rattle.flow_arcs.specs.Lists.{AreListsOf}
-use Rattle.flow_arcs.proofs.Partners.{partner_below, tail_partner, length_tails}
+use Rattle.flow_arcs.proofs.Partners.{pairs_length, partner_below, tail_partner, length_tails}
 use Rattle.flow_arcs.proofs.Listing.{relinked, passed, all_linked}
 use Rattle.flow_arcs.proofs.Ways.{tails_below}
 use Rattle.flow_arcs.proofs.links.Links.relink.Goals as goal
@@ -24,13 +24,13 @@ within net to first e p node n h l q r f =
 
 pub partner-requires : goal.partner-requires
 partner-requires c =
-    let b = partner_below c.args.net.now.arcs c.loop-arc.arc (let t = c.loop-arc-test.true in let r = c.requires.rests in omega arith) in
+    let b = partner_below c.args.net.now.arcs c.loop-arc.arc (let t = c.loop-arc-test.true in let r = pairs_length c.args.net.now.arcs c.args.rest.now c.requires.paired in omega arith) in
     let f = c.requires.few in
     omega arith
 
 pub index-requires : goal.index-requires
 index-requires c =
-    let b = partner_below c.args.net.now.arcs c.loop-arc.arc (let t = c.loop-arc-test.true in let r = c.requires.rests in omega arith) in
+    let b = partner_below c.args.net.now.arcs c.loop-arc.arc (let t = c.loop-arc-test.true in let r = pairs_length c.args.net.now.arcs c.args.rest.now c.requires.paired in omega arith) in
     let e = c.partner.ensures in
     let s = ap length c.requires.ends in
     omega (arith, c.args.self.now.to.ok.0)
@@ -38,18 +38,18 @@ index-requires c =
 pub index-requires-in-loop-arc : goal.index-requires-in-loop-arc
 index-requires-in-loop-arc c =
     let w = within c.args.net.now c.args.self.now.to.items c.loop-arc.first.items c.loop-arc.arc c.partner.result c.index.result.now c.requires.net c.requires.ends
-    (let t = c.loop-arc-test.true in let r = c.requires.rests in omega arith) c.partner.ensures c.index.ensures c.loop-arc.invariant.firsts in
+    (let t = c.loop-arc-test.true in let r = pairs_length c.args.net.now.arcs c.args.rest.now c.requires.paired in omega arith) c.partner.ensures c.index.ensures c.loop-arc.invariant.firsts in
     omega (arith, c.loop-arc.first.ok.0)
 
 pub index_mut-requires : goal.index_mut-requires
 index_mut-requires c =
     let w = within c.args.net.now c.args.self.now.to.items c.loop-arc.first.items c.loop-arc.arc c.partner.result c.index.result.now c.requires.net c.requires.ends
-    (let t = c.loop-arc-test.true in let r = c.requires.rests in omega arith) c.partner.ensures c.index.ensures c.loop-arc.invariant.firsts in
+    (let t = c.loop-arc-test.true in let r = pairs_length c.args.net.now.arcs c.args.rest.now c.requires.paired in omega arith) c.partner.ensures c.index.ensures c.loop-arc.invariant.firsts in
     omega (arith, c.loop-arc.first.ok.0)
 
 pub loop-arc-preserved : goal.loop-arc-preserved
 loop-arc-preserved c =
-    let b : c.loop-arc.arc < length (heads c.args.net.now.arcs) = (let t = c.loop-arc-test.true in let r = c.requires.rests in omega arith) in
+    let b : c.loop-arc.arc < length (heads c.args.net.now.arcs) = (let t = c.loop-arc-test.true in let r = pairs_length c.args.net.now.arcs c.args.rest.now c.requires.paired in omega arith) in
     let v = leaves c.args.net.now c.args.self.now.to.items c.loop-arc.arc c.partner.result c.index.result.now c.requires.ends b c.partner.ensures c.index.ensures in
     let w = within c.args.net.now c.args.self.now.to.items c.loop-arc.first.items c.loop-arc.arc c.partner.result c.index.result.now c.requires.net c.requires.ends b c.partner.ensures c.index.ensures c.loop-arc.invariant.firsts in
     let t : c.loop-arc.arc < length (tails c.args.net.now.arcs) = (let l = length_tails c.args.net.now.arcs in omega arith) in
@@ -70,9 +70,9 @@ loop-arc-preserved c =
 pub returns-clause-links : goal.returns-clause-links
 returns-clause-links c =
     (all_linked c.args.net.now (λ e. 0 < get_or c.args.rest.now e 0) c.args.self.now.to.items c.loop-arc.first.items c.loop-arc.next.items c.loop-arc.arc c.requires.ends c.loop-arc.invariant.firsts
-    (let t = length_tails c.args.net.now.arcs in let f = c.loop-arc-test.false in let r = c.requires.rests in omega arith) c.loop-arc.invariant.lists).0
+    (let t = length_tails c.args.net.now.arcs in let f = c.loop-arc-test.false in let r = pairs_length c.args.net.now.arcs c.args.rest.now c.requires.paired in omega arith) c.loop-arc.invariant.lists).0
 
 pub returns-clause-lists : goal.returns-clause-lists
 returns-clause-lists c =
     (all_linked c.args.net.now (λ e. 0 < get_or c.args.rest.now e 0) c.args.self.now.to.items c.loop-arc.first.items c.loop-arc.next.items c.loop-arc.arc c.requires.ends c.loop-arc.invariant.firsts
-    (let t = length_tails c.args.net.now.arcs in let f = c.loop-arc-test.false in let r = c.requires.rests in omega arith) c.loop-arc.invariant.lists).1
+    (let t = length_tails c.args.net.now.arcs in let f = c.loop-arc-test.false in let r = pairs_length c.args.net.now.arcs c.args.rest.now c.requires.paired in omega arith) c.loop-arc.invariant.lists).1
