@@ -1,0 +1,153 @@
+//! What has been read, seen as targets: when a `=` comes.
+ghost use Rattle.std.specs.Prelude.{◌≡◌, map, drop, IfOk};
+ghost use Rattle.py_tree.specs.declared.expressions.Target.{Target};
+ghost use Rattle.py_frames.specs.Gives.{Gives};
+ghost use Rattle.py_frames.specs.Targets.{target_of, sight_if, sight_after, sight_at, sight};
+
+use crate::chains::{finished, one};
+use crate::closing::{all_with, closes, join};
+use crate::frames::{Frame, Hole, State, Value};
+use crate::nest::Nest;
+use crate::places::Places;
+use crate::stop::Stop;
+use plain_data::{Items, Text};
+use py_tree::{Expr, Target};
+use std::alloc::{AllocError, Global};
+use std::mem::drop;
+
+/// What has been read, as targets.
+#[derive(Drop)]
+pub struct Sight {
+    /// The targets, in their order.
+    pub targets: Items<Target>,
+    /// Whether a comma is among them.
+    pub divided: bool,
+    /// The places of what is in them.
+    pub under: Places,
+}
+
+#[tactic(auto, using(crate::proofs::Seen::name_target, crate::proofs::Seen::item_target))]
+fn target(alloc: Global, tree: Expr) -> Result<Target, AllocError>
+    ensures { IfOk result (λ target. target ≡ target_of tree) }
+{
+    Ok(match tree {
+        Expr::Name(name) => Target::Name(name),
+        Expr::Index { value, at } => Target::Item {
+            value: value.into_inner(),
+            at: at.into_inner(),
+        },
+        other => {
+            drop(other);
+            Target::Name(Text::new(alloc, "")?)
+        }
+    })
+}
+
+fn all_targets(alloc: Global, trees: Items<Expr>) -> Result<Items<Target>, AllocError>
+    ensures { IfOk result (λ targets. targets ≡ map target_of trees) }
+{
+    let mut targets = Items::new(alloc);
+    for tree in trees.into_vec() {
+        targets.push(target(alloc, tree)?)?;
+    }
+    Ok(targets)
+}
+
+fn saw(
+    alloc: Global,
+    divided: bool,
+    may: bool,
+    trees: Items<Expr>,
+    under: Places,
+) -> Result<Sight, Stop>
+    ensures { Gives result (sight_if divided may trees under) }
+{
+    if !may {
+        return Err(Stop::Refused);
+    }
+    let targets = all_targets(alloc, trees)?;
+    Ok(Sight {
+        targets,
+        divided,
+        under,
+    })
+}
+
+/// The last target.
+fn last(alloc: Global, mut frames: Nest<Frame>, value: Value) -> Result<Sight, Stop>
+    ensures { Gives result (sight_after frames value) }
+{
+    let Value {
+        tree,
+        from,
+        under,
+        target,
+    } = value;
+    let Some(frame) = frames.pop() else {
+        return saw(alloc, false, target, one(alloc, tree)?, under);
+    };
+    if frames.top().is_some() {
+        drop(frame);
+        return Err(Stop::Refused);
+    }
+    let Frame {
+        under: left,
+        hole,
+        ..
+    } = frame;
+    match hole {
+        Hole::Tuple { before, targets } => {
+            let all = all_with(before, tree)?;
+            let places = join(left, from, under)?.below();
+            saw(alloc, true, targets && target, all, places)
+        }
+        other => {
+            drop(other);
+            Err(Stop::Refused)
+        }
+    }
+}
+
+/// After a comma.
+fn last_at(alloc: Global, mut frames: Nest<Frame>) -> Result<Sight, Stop>
+    ensures { Gives result (sight_at frames) }
+{
+    let Some(frame) = frames.pop() else {
+        return Err(Stop::Refused);
+    };
+    if frames.top().is_some() {
+        drop(frame);
+        return Err(Stop::Refused);
+    }
+    let Frame {
+        under: left,
+        hole,
+        ..
+    } = frame;
+    match hole {
+        Hole::Tuple { before, targets } => saw(alloc, true, targets, before, left.below()),
+        other => {
+            drop(other);
+            Err(Stop::Refused)
+        }
+    }
+}
+
+/// The targets that have been read. They are refused where they are none.
+pub fn see(alloc: Global, state: State) -> Result<Sight, Stop>
+    ensures { Gives result (sight state) }
+{
+    match state {
+        State::Wants(frames) => last_at(alloc, frames),
+        State::Has(frames, value) => {
+            let (frames, value) = closes(alloc, 2, frames, value)?;
+            last(alloc, frames, value)
+        }
+        State::Compared(frames, chain) => {
+            let value = finished(alloc, chain)?;
+            let (frames, value) = closes(alloc, 2, frames, value)?;
+            last(alloc, frames, value)
+        }
+        _ => Err(Stop::Refused),
+    }
+}
