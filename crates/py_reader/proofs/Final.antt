@@ -2,6 +2,8 @@
 use Rattle.std.proofs.Common.{◌≡◌, ℕ, zero, suc, ◌-◌, ◌<◌, ◌≤◌, Bool, true, false, nat_lt, if◌then◌else◌, List, [], ◌∷◌, ◌++◌, length, take, drop, slice_get, Option, Some, None, Result, Ok, Err, refl, ap, ◌∙◌, sym, subst, append-nil, arith}
 use Rattle.std.proofs.lemmas.Bool.{lt-ltb, le-ltb}
 use Rattle.std.proofs.lemmas.List.{take_all}
+use Rattle.std.proofs.lemmas.Result.{err_from_is_err_and}
+use Rattle.std.specs.Prelude.{IsErrAnd}
 use Rattle.py_token.specs.declared.kinds.Kind.{Kind}
 use Rattle.py_token.specs.declared.kinds.Token.{Token}
 use Rattle.py_token.specs.declared.faults.TokenError.{TokenError}
@@ -60,6 +62,10 @@ good_tokens code tokens l e = within_short code l ∙ ap with_tokens e
 pub bad_tokens : (code : List ℕ) (error : TokenError) → length code ≤ 262144 → token_gives.Fails error (tokens_of code) → Refuses (of_token error) (tokens_within code)
 bad_tokens code token.OutOfMemory l f = tt
 bad_tokens code (token.Fault fault) l f = within_short code l ∙ ap with_tokens f
+
+-- what `?` hands on
+pub handed_on : {A : Type 0} (result : Result A ReadError) (error : ReadError) → IsErrAnd result (λ e. e ≡ error) → Err error ≡ result
+handed_on result error h = let p = err_from_is_err_and result h in sym (p.1 ∙ ap Err p.2)
 
 -- a fault of them is the verdict
 pub early_refuses : {A : Type 0} (alone : Bool) (whole : List Token → m.State → Result A SyntaxFault) (error : ReadError) (o : Result (List Token) SyntaxFault) → Refuses error o → Refuses error (of_tokens alone whole o)
