@@ -1,5 +1,5 @@
 -- What the program finds of the tokens of a code is the verdict on it.
-use Rattle.std.proofs.Common.{◌≡◌, ℕ, zero, suc, ◌-◌, ◌<◌, ◌≤◌, Bool, true, false, nat_lt, if◌then◌else◌, List, [], ◌∷◌, ◌++◌, length, take, drop, slice_get, Option, Some, None, Result, Ok, Err, refl, ap, ◌∙◌, sym, subst, append-nil, arith}
+use Rattle.std.proofs.Common.{◌≡◌, ℕ, zero, suc, ◌-◌, ◌<◌, ◌≤◌, Bool, true, false, nat_lt, if◌then◌else◌, List, [], ◌∷◌, ◌++◌, length, take, drop, slice_get, Option, Some, Result, Ok, Err, refl, ap, ◌∙◌, sym, subst, append-nil, arith}
 use Rattle.std.proofs.lemmas.Bool.{lt-ltb, le-ltb}
 use Rattle.std.proofs.lemmas.List.{take_all}
 use Rattle.std.proofs.lemmas.Result.{err_from_is_err_and}
@@ -14,7 +14,6 @@ use Rattle.py_token.specs.Gives as token_gives
 use Rattle.py_token.specs.Lines.{tokens_of}
 use Rattle.py_tree.specs.declared.statements.Stmt.{Stmt}
 use Rattle.py_tree.specs.declared.statements.Def.{Def}
-use Rattle.py_tree.specs.declared.statements.Tree.{Tree}
 use Rattle.py_grammar.specs.declared.constructs.Construct.{Construct}
 use Rattle.py_grammar.specs.Outside as forms
 use Rattle.py_grammar.specs.States as m
@@ -31,7 +30,7 @@ use Rattle.py_blocks.specs.declared.state.Done.{Done}
 use Rattle.py_blocks.specs.declared.state.Reader.{Reader}
 use Rattle.py_blocks.specs.declared.state.State as held_of
 use Rattle.py_blocks.specs.declared.state.State.TheVariants as h
-use Rattle.py_blocks.specs.Follows.{forms_step, forms_run, from_start}
+use Rattle.py_blocks.specs.Follows.{forms_run, from_start}
 use Rattle.py_blocks.specs.Forced.{forced_now}
 use Rattle.py_blocks.specs.Held.{held_state}
 use Rattle.py_blocks.specs.Outside.{outside}
@@ -40,14 +39,13 @@ use Rattle.py_blocks.specs.Telling.{deepest}
 use Rattle.py_blocks.proofs.Beyond.{outside-same}
 use Rattle.py_blocks.proofs.Cells.{reads-cells}
 use Rattle.py_reader.specs.declared.fault.SyntaxFault.{SyntaxFault}
-use Rattle.py_reader.specs.declared.fault.SyntaxFault.TheVariants.{TooLong, Token as BadToken, TooDeep}
+use Rattle.py_reader.specs.declared.fault.SyntaxFault.TheVariants.{TooLong, TooDeep}
 use Rattle.py_reader.specs.declared.fault.ReadError.{ReadError}
 use Rattle.py_reader.specs.declared.fault.ReadError.TheVariants.{OutOfMemory, Fault}
-use Rattle.py_reader.specs.Gives as gives
-use Rattle.py_reader.specs.Gives.{of_token, Refuses, Answers, Gives}
+use Rattle.py_reader.specs.Gives.{of_token, Refuses, Answers}
 use Rattle.py_reader.specs.Scans.{read_first, StopsAt, IsRefusal, GivesStatements, AreFunction, GivesFunction}
 use Rattle.py_reader.specs.Verdicts.{start_of, refusal}
-use Rattle.py_reader.specs.Verdict.{with_tokens, tokens_within, deepest_of, deep_fault, nested, unless_deep, stopped, stop_fault, of_end, of_tokens, run_from, of_cell, verdict}
+use Rattle.py_reader.specs.Verdict.{with_tokens, tokens_within, deepest_of, deep_fault, nested, unless_deep, stopped, of_end, of_tokens, of_cell, verdict}
 use Rattle.py_reader.specs.DefinitionVerdict.{of_alone, verdict_alone}
 use Rattle.py_reader.proofs.Deep.{agrees, cell-agrees, placed-at, positive, short}
 use Rattle.py_reader.proofs.Ended.{all_done}

@@ -1,5 +1,5 @@
 -- The verdict says what it says in the words of the grammar.
-use Rattle.std.proofs.Common.{◌≡◌, ℕ, suc, ◌-◌, ◌<◌, ◌≤◌, Bool, true, false, nat_lt, if◌then◌else◌, List, [], length, take, drop, slice_get, Some, None, Result, Ok, Err, refl, ap, ◌∙◌, sym, subst, arith}
+use Rattle.std.proofs.Common.{◌≡◌, ℕ, suc, ◌-◌, ◌≤◌, Bool, true, false, nat_lt, if◌then◌else◌, List, [], length, take, drop, slice_get, Some, None, Result, Ok, Err, refl, ap, ◌∙◌, sym, subst, arith}
 use Rattle.std.proofs.lemmas.Bool.{ltb-true, ltb-false}
 use Rattle.std.proofs.lemmas.Option.{slice_get_within}
 use Rattle.py_token.specs.declared.kinds.Kind.{Kind}
@@ -21,7 +21,7 @@ use Rattle.py_reader.specs.declared.fault.SyntaxFault.TheVariants.{TooDeep}
 use Rattle.py_reader.specs.declared.fault.ReadError.{ReadError}
 use Rattle.py_reader.specs.declared.fault.ReadError.TheVariants.{OutOfMemory, Fault}
 use Rattle.py_reader.specs.Verdicts.{start_of, refusal, of_cell as cell_deep, of_open, Verdict, too_long, bad_token, too_deep, refused, whole}
-use Rattle.py_reader.specs.Verdict.{deepest_of, deep_fault, nested, unless_deep, stop_fault, of_cell, verdict}
+use Rattle.py_reader.specs.Verdict.{deepest_of, deep_fault, nested, stop_fault, of_cell, verdict}
 use Rattle.py_reader.specs.Gives as gives
 use Rattle.py_reader.proofs.Deep.{tells, cell-tells}
 use Rattle.py_reader.proofs.Ended.{all_done}

@@ -1,5 +1,5 @@
 -- Reading tokens one after the other, beside the machine on forms.
-use Rattle.std.proofs.Common.{◌≡◌, ℕ, suc, ◌+◌, ◌-◌, ◌<◌, ◌≤◌, Bool, true, false, List, [], ◌∷◌, ◌++◌, length, take, drop, slice_get, slice_index_or, Option, Some, None, refl, ap, ◌∙◌, sym, subst, append-nil, take-append-drop, take-take, arith}
+use Rattle.std.proofs.Common.{◌≡◌, ℕ, suc, ◌+◌, ◌-◌, ◌<◌, ◌≤◌, Bool, true, false, List, [], ◌∷◌, ◌++◌, length, take, drop, slice_get, slice_index_or, Option, Some, None, refl, ap, ◌∙◌, sym, subst, take-append-drop, take-take, arith}
 use Rattle.std.specs.Option.{option_map}
 use Rattle.std.proofs.lemmas.List.{take_more, length-take}
 use Rattle.std.proofs.lemmas.Option.{slice_get_within, get_or_from_slice_get, slice_get-map, slice_get-get_or}
@@ -14,7 +14,7 @@ use Rattle.py_frames.specs.declared.stop.Stop.TheVariants as stop_of
 use Rattle.py_frames.specs.Gives as gives
 use Rattle.py_blocks.specs.declared.state.Reader.{Reader}
 use Rattle.py_blocks.specs.Blocks.{Texts}
-use Rattle.py_blocks.specs.Follows.{forms_step, forms_run, run, from_start, reader_at, Hears, Follows}
+use Rattle.py_blocks.specs.Follows.{forms_step, forms_run, run, from_start, reader_at, Follows}
 use Rattle.py_blocks.specs.Source.{most, left_of}
 use Rattle.py_blocks.specs.Steps.{Names, step, start}
 use Rattle.py_blocks.proofs.Following.{run-follows}

@@ -1,6 +1,5 @@
 -- What a text is read as, if it is to be one function alone: its definition, or the fault that it is refused for.
 use Rattle.std.specs.Prelude.{◌≡◌, ℕ, ◌<◌, ◌≤◌, false, List, length, take, Option, Some, None, Result, Ok, Err}
-use Rattle.py_token.specs.declared.kinds.Kind.{Kind}
 use Rattle.py_token.specs.declared.kinds.Token.{Token}
 use Rattle.py_token.specs.declared.faults.TokenFault.{TokenFault}
 use Rattle.py_token.specs.Cuts.{kinds}
