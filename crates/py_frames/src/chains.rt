@@ -46,6 +46,30 @@ fn begin_logic(
     put(frames, Frame { from, under, hole })
 }
 
+/// The innermost part is a chain of `and` or of `or`: it goes on, or one begins in it.
+fn logic_after(
+    alloc: Global,
+    and: bool,
+    frames: Nest<Frame>,
+    value: Value,
+    from: usize,
+    under: Places,
+    same: bool,
+    before: Items<Expr>,
+) -> Result<Nest<Frame>, AllocError>
+    ensures { IfOk result (λ all. all ≡ logic and (record { from = from; under = under; hole = h.Logic same before } ∷ frames) value) }
+{
+    if same != and {
+        let hole = Hole::Logic { and: same, before };
+        let frames = put(frames, Frame { from, under, hole })?;
+        return begin_logic(alloc, and, frames, value);
+    }
+    let before = all_with(before, value.tree)?;
+    let under = join(under, value.from, value.under)?;
+    let hole = Hole::Logic { and, before };
+    put(frames, Frame { from, under, hole })
+}
+
 /// `and` or `or` after what comes before it.
 pub fn logic(
     alloc: Global,
@@ -59,23 +83,12 @@ pub fn logic(
         None => begin_logic(alloc, and, frames, value),
         Some(Frame { from, under, hole }) => match hole {
             Hole::Logic { and: same, before } => {
-                if same == and {
-                    let Value {
-                        tree,
-                        from: inner,
-                        under: below,
-                        ..
-                    } = value;
-                    let before = all_with(before, tree)?;
-                    let under = join(under, inner, below)?;
-                    let hole = Hole::Logic { and, before };
-                    put(frames, Frame { from, under, hole })
-                } else {
-                    let hole = Hole::Logic { and: same, before };
-                    begin_logic(alloc, and, put(frames, Frame { from, under, hole })?, value)
-                }
+                logic_after(alloc, and, frames, value, from, under, same, before)
             }
-            hole => begin_logic(alloc, and, put(frames, Frame { from, under, hole })?, value),
+            hole => {
+                let frames = put(frames, Frame { from, under, hole })?;
+                begin_logic(alloc, and, frames, value)
+            }
         },
     }
 }
@@ -196,6 +209,31 @@ fn begin_comparison(
     ))
 }
 
+/// The innermost part is a comparison, which goes on.
+fn comparison_after(
+    frames: Nest<Frame>,
+    value: Value,
+    from: usize,
+    under: Places,
+    first: Expr,
+    rest: Items<Relation>,
+    op: Op,
+) -> Result<(Nest<Frame>, Chain), AllocError>
+    ensures { IfOk result (λ it. it ≡ compared (record { from = from; under = under; hole = h.Compare first rest op } ∷ frames) value) }
+{
+    let rest = relate(rest, op, value.tree)?;
+    let under = join(under, value.from, value.under)?;
+    Ok((
+        frames,
+        Chain {
+            from,
+            under,
+            first,
+            rest,
+        },
+    ))
+}
+
 /// The comparison that this is the last operand of so far.
 pub fn comparison(
     alloc: Global,
@@ -208,25 +246,12 @@ pub fn comparison(
         None => begin_comparison(alloc, frames, value),
         Some(Frame { from, under, hole }) => match hole {
             Hole::Compare { first, rest, op } => {
-                let Value {
-                    tree,
-                    from: inner,
-                    under: below,
-                    ..
-                } = value;
-                let under = join(under, inner, below)?;
-                let rest = relate(rest, op, tree)?;
-                Ok((
-                    frames,
-                    Chain {
-                        from,
-                        under,
-                        first,
-                        rest,
-                    },
-                ))
+                comparison_after(frames, value, from, under, first, rest, op)
             }
-            hole => begin_comparison(alloc, put(frames, Frame { from, under, hole })?, value),
+            hole => {
+                let frames = put(frames, Frame { from, under, hole })?;
+                begin_comparison(alloc, frames, value)
+            }
         },
     }
 }

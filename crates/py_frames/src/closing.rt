@@ -2,6 +2,7 @@
 ghost use Rattle.std.specs.Prelude.{◌≡◌, [], ◌∷◌, ◌++◌, true, false, if◌then◌else◌, IfOk, Some, None};
 ghost use Rattle.py_tree.specs.declared.expressions.Expr.TheVariants as e;
 ghost use Rattle.py_tree.specs.declared.expressions.Relation.TheVariants.{With};
+ghost use Rattle.py_frames.specs.declared.frames.Hole.TheVariants as h;
 ghost use Rattle.py_frames.specs.Values.{beside, kept, made, level, filled, emptied, is_index, close, shut, closes};
 
 use crate::frames::{Frame, Hole, Value};
@@ -94,14 +95,34 @@ fn conditional(alloc: Global, yes: Expr, test: Expr, no: Expr) -> Result<Expr, A
     })
 }
 
-/// `a < b is None`
-fn compare(alloc: Global, first: Expr, rest: Items<Relation>) -> Result<Expr, AllocError>
-    ensures { IfOk result (λ whole. whole ≡ e.Compare first rest) }
+/// `a or b`, or `a and b`
+fn reason(and: bool, before: Items<Expr>, last: Expr) -> Result<Expr, AllocError>
+    ensures { IfOk result (λ whole. whole ≡ filled (h.Logic and before) last) }
 {
-    Ok(Expr::Compare {
-        first: Boxed::new(alloc, first)?,
-        rest,
-    })
+    let all = all_with(before, last)?;
+    Ok(if and { Expr::And(all) } else { Expr::Or(all) })
+}
+
+/// `not a`
+fn negate(alloc: Global, value: Expr) -> Result<Expr, AllocError>
+    ensures { IfOk result (λ whole. whole ≡ e.Not value) }
+{
+    Ok(Expr::Not(Boxed::new(alloc, value)?))
+}
+
+/// `a < b is None < c`
+fn compare(
+    alloc: Global,
+    first: Expr,
+    rest: Items<Relation>,
+    op: Op,
+    last: Expr,
+) -> Result<Expr, AllocError>
+    ensures { IfOk result (λ whole. whole ≡ filled (h.Compare first rest op) last) }
+{
+    let rest = relate(rest, op, last)?;
+    let first = Boxed::new(alloc, first)?;
+    Ok(Expr::Compare { first, rest })
 }
 
 /// `a + b - c`, or `a * b // c`
@@ -110,9 +131,12 @@ fn calculate(
     product: bool,
     first: Expr,
     rest: Items<Operand>,
+    op: Op,
+    last: Expr,
 ) -> Result<Expr, AllocError>
-    ensures { IfOk result (λ whole. whole ≡ (if product then e.Product first rest else e.Sum first rest)) }
+    ensures { IfOk result (λ whole. whole ≡ filled (h.Arithmetic product first rest op) last) }
 {
+    let rest = operate(rest, op, last)?;
     let first = Boxed::new(alloc, first)?;
     Ok(if product {
         Expr::Product { first, rest }
@@ -178,32 +202,85 @@ fn slice(
     })
 }
 
+/// `a, b`
+fn tuple_of(before: Items<Expr>, last: Expr) -> Result<Expr, AllocError>
+    ensures { IfOk result (λ whole. whole ≡ e.TupleOf (before ++ last ∷ [])) }
+{
+    Ok(Expr::TupleOf(all_with(before, last)?))
+}
+
+/// `[a, b]`
+fn list_of(before: Items<Expr>, last: Expr) -> Result<Expr, AllocError>
+    ensures { IfOk result (λ whole. whole ≡ e.ListOf (before ++ last ∷ [])) }
+{
+    Ok(Expr::ListOf(all_with(before, last)?))
+}
+
+/// `{a: b, c: d}`
+fn dict_of(before: Items<Pair>, key: Expr, last: Expr) -> Result<Expr, AllocError>
+    ensures { IfOk result (λ whole. whole ≡ filled (h.Pair before key) last) }
+{
+    Ok(Expr::DictOf(pair(before, key, last)?))
+}
+
+/// `a(b, c)`, with its last argument
+fn call_with(alloc: Global, callee: Expr, args: Items<Expr>, last: Expr) -> Result<Expr, AllocError>
+    ensures { IfOk result (λ whole. whole ≡ e.Call callee (args ++ last ∷ [])) }
+{
+    let args = all_with(args, last)?;
+    call(alloc, callee, args)
+}
+
+/// `a.name(b, c)`, with its last argument
+fn method_with(
+    alloc: Global,
+    value: Expr,
+    name: Text,
+    args: Items<Expr>,
+    last: Expr,
+) -> Result<Expr, AllocError>
+    ensures { IfOk result (λ whole. whole ≡ e.Method value name (args ++ last ∷ [])) }
+{
+    let args = all_with(args, last)?;
+    method(alloc, value, name, args)
+}
+
+/// `a[b:c]`, with its end
+fn slice_to(
+    alloc: Global,
+    value: Expr,
+    from: Option<Boxed<Expr>>,
+    to: Expr,
+) -> Result<Expr, AllocError>
+    ensures { IfOk result (λ whole. whole ≡ e.Slice value from (Some to)) }
+{
+    let to = Boxed::new(alloc, to)?;
+    slice(alloc, value, from, Some(to))
+}
+
 /// The tree with its hole filled.
 fn fill(alloc: Global, hole: Hole, tree: Expr) -> Result<Expr, AllocError>
     ensures { IfOk result (λ whole. whole ≡ filled hole tree) }
 {
     match hole {
         Hole::Chooses { yes, test } => conditional(alloc, yes, test, tree),
-        Hole::Logic { and, before } => {
-            let all = all_with(before, tree)?;
-            Ok(if and { Expr::And(all) } else { Expr::Or(all) })
-        }
-        Hole::Not => Ok(Expr::Not(Boxed::new(alloc, tree)?)),
-        Hole::Compare { first, rest, op } => compare(alloc, first, relate(rest, op, tree)?),
+        Hole::Logic { and, before } => reason(and, before, tree),
+        Hole::Not => negate(alloc, tree),
+        Hole::Compare { first, rest, op } => compare(alloc, first, rest, op, tree),
         Hole::Arithmetic {
             product,
             first,
             rest,
             op,
-        } => calculate(alloc, product, first, operate(rest, op, tree)?),
+        } => calculate(alloc, product, first, rest, op, tree),
         Hole::Sign { minus } => sign(alloc, minus, tree),
-        Hole::Tuple { before, .. } => Ok(Expr::TupleOf(all_with(before, tree)?)),
-        Hole::Display(before) => Ok(Expr::ListOf(all_with(before, tree)?)),
-        Hole::Call { callee, args } => call(alloc, callee, all_with(args, tree)?),
-        Hole::Method { value, name, args } => method(alloc, value, name, all_with(args, tree)?),
+        Hole::Tuple { before, .. } => tuple_of(before, tree),
+        Hole::Display(before) => list_of(before, tree),
+        Hole::Call { callee, args } => call_with(alloc, callee, args, tree),
+        Hole::Method { value, name, args } => method_with(alloc, value, name, args, tree),
         Hole::Index(value) => item(alloc, value, tree),
-        Hole::Slice { value, start } => slice(alloc, value, start, Some(Boxed::new(alloc, tree)?)),
-        Hole::Pair { before, key } => Ok(Expr::DictOf(pair(before, key, tree)?)),
+        Hole::Slice { value, start } => slice_to(alloc, value, start, tree),
+        Hole::Pair { before, key } => dict_of(before, key, tree),
         Hole::Picks(_) | Hole::Group | Hole::Dict(_) => Ok(tree),
     }
 }

@@ -1,12 +1,13 @@
 //! Which construct outside the grammar a token begins behind what has been read.
 ghost use Rattle.std.specs.Prelude.{◌≡◌, IfOk};
 ghost use Rattle.py_grammar.specs.Outside.{not_none, not_none_or_not, no_call};
+ghost use Rattle.py_frames.specs.Values.{closes, finished};
 ghost use Rattle.py_frames.specs.Constructs.{among, in_braces, behind_hole, behind_top, construct, lone, lone_tuple, may_end};
 
 use crate::chains::finished;
 use crate::closing::closes;
 use crate::endings::is_tuple;
-use crate::frames::{Frame, Hole, State, Value};
+use crate::frames::{Chain, Frame, Hole, State, Value};
 use crate::nest::Nest;
 use py_grammar::Construct;
 use py_token::{Keyword, Kind, Symbol};
@@ -109,11 +110,30 @@ fn is_lone(frames: &Nest<Frame>) -> bool
 }
 
 /// Behind an expression that has ended.
-fn behind(frames: Nest<Frame>, value: Value, token: &Kind) -> (bool, Option<Construct>)
-    ensures { result ≡ (lone frames, behind_top frames token.now) }
+fn behind(
+    alloc: Global,
+    frames: Nest<Frame>,
+    value: Value,
+    token: &Kind,
+) -> Result<(bool, Option<Construct>), AllocError>
+    ensures { IfOk result (λ found. found ≡ (lone (closes 2 frames value).0, behind_top (closes 2 frames value).0 token.now)) }
 {
+    let (frames, value) = closes(alloc, 2, frames, value)?;
     drop(value);
-    (is_lone(&frames), behind_top(&frames, token))
+    Ok((is_lone(&frames), behind_top(&frames, token)))
+}
+
+/// Behind a comparison.
+fn behind_compared(
+    alloc: Global,
+    frames: Nest<Frame>,
+    chain: Chain,
+    token: &Kind,
+) -> Result<(bool, Option<Construct>), AllocError>
+    ensures { IfOk result (λ found. found ≡ (lone (closes 2 frames (finished chain)).0, behind_top (closes 2 frames (finished chain)).0 token.now)) }
+{
+    let value = finished(alloc, chain)?;
+    behind(alloc, frames, value, token)
 }
 
 /// Whether what has been read may end, and the construct outside the grammar that the token begins behind it, if any.
@@ -126,14 +146,8 @@ pub fn construct(
 {
     match state {
         State::Wants(frames) => Ok((is_lone_tuple(&frames), None)),
-        State::Has(frames, value) => {
-            let (frames, value) = closes(alloc, 2, frames, value)?;
-            Ok(behind(frames, value, token))
-        }
-        State::Compared(frames, chain) => {
-            let (frames, value) = closes(alloc, 2, frames, finished(alloc, chain)?)?;
-            Ok(behind(frames, value, token))
-        }
+        State::Has(frames, value) => behind(alloc, frames, value, token),
+        State::Compared(frames, chain) => behind_compared(alloc, frames, chain, token),
         State::AfterIs(_, _) => Ok((false, not_none_or_not(token))),
         State::AfterIsNot(_, _) => Ok((false, not_none(token))),
         State::AfterMethod(_, _, _) => Ok((false, no_call(token))),

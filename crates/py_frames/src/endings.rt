@@ -2,13 +2,15 @@
 ghost use Rattle.std.specs.Prelude.{◌≡◌, []};
 ghost use Rattle.py_frames.specs.declared.frames.State.TheVariants.{Wants};
 ghost use Rattle.py_frames.specs.Gives.{Gives};
+ghost use Rattle.py_frames.specs.Steps.{with_both};
+ghost use Rattle.py_frames.specs.Values.{closes, finished};
 ghost use Rattle.py_frames.specs.Ends.{ended, ended_after, ended_at, is_bracket, is_tuple, enclosed_or, outermost, is_narrow, is_one, is_undivided, is_begun, colon_or_end, ends_or_goes, shuts_or_goes};
 
 use crate::brackets::colon;
 use crate::chains::{finished, put};
 use crate::closing::{close, closes, shut};
 use crate::empty_brackets::shut_start;
-use crate::frames::{Frame, Hole, State, Value};
+use crate::frames::{Chain, Frame, Hole, State, Value};
 use crate::nest::Nest;
 use crate::stop::Stop;
 use std::alloc::Global;
@@ -63,21 +65,30 @@ fn whole_at(alloc: Global, mut frames: Nest<Frame>) -> Result<Value, Stop>
     Err(Stop::Refused)
 }
 
+/// As `end`, after a part that has ended.
+fn end_after(alloc: Global, frames: Nest<Frame>, value: Value) -> Result<Value, Stop>
+    ensures { Gives result (with_both (closes 2 frames value) ended_after) }
+{
+    let (frames, value) = closes(alloc, 2, frames, value)?;
+    whole(alloc, frames, value)
+}
+
+/// As `end`, after a comparison.
+fn end_compared(alloc: Global, frames: Nest<Frame>, chain: Chain) -> Result<Value, Stop>
+    ensures { Gives result (with_both (closes 2 frames (finished chain)) ended_after) }
+{
+    let value = finished(alloc, chain)?;
+    end_after(alloc, frames, value)
+}
+
 /// What has been read, as a whole. It is refused where it may not end.
 pub fn end(alloc: Global, state: State) -> Result<Value, Stop>
     ensures { Gives result (ended state) }
 {
     match state {
         State::Wants(frames) => whole_at(alloc, frames),
-        State::Has(frames, value) => {
-            let (frames, value) = closes(alloc, 2, frames, value)?;
-            whole(alloc, frames, value)
-        }
-        State::Compared(frames, chain) => {
-            let value = finished(alloc, chain)?;
-            let (frames, value) = closes(alloc, 2, frames, value)?;
-            whole(alloc, frames, value)
-        }
+        State::Has(frames, value) => end_after(alloc, frames, value),
+        State::Compared(frames, chain) => end_compared(alloc, frames, chain),
         _ => Err(Stop::Refused),
     }
 }
@@ -125,21 +136,30 @@ fn goes_or_shuts(alloc: Global, mut frames: Nest<Frame>) -> Result<Colon, Stop>
     Ok(Colon::Goes(shut_start(frames)?))
 }
 
+/// As `colon_or_end`, after a part that has ended.
+fn colon_after(alloc: Global, frames: Nest<Frame>, value: Value) -> Result<Colon, Stop>
+    ensures { Gives result (with_both (closes 2 frames value) ends_or_goes) }
+{
+    let (frames, value) = closes(alloc, 2, frames, value)?;
+    goes_or_ends(alloc, frames, value)
+}
+
+/// As `colon_or_end`, after a comparison.
+fn colon_compared(alloc: Global, frames: Nest<Frame>, chain: Chain) -> Result<Colon, Stop>
+    ensures { Gives result (with_both (closes 2 frames (finished chain)) ends_or_goes) }
+{
+    let value = finished(alloc, chain)?;
+    colon_after(alloc, frames, value)
+}
+
 /// A `:` behind what has been read. It belongs to the bracket that is open, and else ends what has been read.
 pub fn colon_or_end(alloc: Global, state: State) -> Result<Colon, Stop>
     ensures { Gives result (colon_or_end state) }
 {
     match state {
         State::Wants(frames) => goes_or_shuts(alloc, frames),
-        State::Has(frames, value) => {
-            let (frames, value) = closes(alloc, 2, frames, value)?;
-            goes_or_ends(alloc, frames, value)
-        }
-        State::Compared(frames, chain) => {
-            let value = finished(alloc, chain)?;
-            let (frames, value) = closes(alloc, 2, frames, value)?;
-            goes_or_ends(alloc, frames, value)
-        }
+        State::Has(frames, value) => colon_after(alloc, frames, value),
+        State::Compared(frames, chain) => colon_compared(alloc, frames, chain),
         _ => Err(Stop::Refused),
     }
 }

@@ -2,11 +2,13 @@
 ghost use Rattle.std.specs.Prelude.{◌≡◌, map, drop, IfOk};
 ghost use Rattle.py_tree.specs.declared.expressions.Target.{Target};
 ghost use Rattle.py_frames.specs.Gives.{Gives};
+ghost use Rattle.py_frames.specs.Steps.{with_both};
+ghost use Rattle.py_frames.specs.Values.{closes, finished};
 ghost use Rattle.py_frames.specs.Targets.{target_of, sight_if, sight_after, sight_at, sight};
 
 use crate::chains::{finished, one};
 use crate::closing::{all_with, closes, join};
-use crate::frames::{Frame, Hole, State, Value};
+use crate::frames::{Chain, Frame, Hole, State, Value};
 use crate::nest::Nest;
 use crate::places::Places;
 use crate::stop::Stop;
@@ -133,21 +135,30 @@ fn last_at(alloc: Global, mut frames: Nest<Frame>) -> Result<Sight, Stop>
     }
 }
 
+/// As `see`, after a part that has ended.
+fn see_after(alloc: Global, frames: Nest<Frame>, value: Value) -> Result<Sight, Stop>
+    ensures { Gives result (with_both (closes 2 frames value) sight_after) }
+{
+    let (frames, value) = closes(alloc, 2, frames, value)?;
+    last(alloc, frames, value)
+}
+
+/// As `see`, after a comparison.
+fn see_compared(alloc: Global, frames: Nest<Frame>, chain: Chain) -> Result<Sight, Stop>
+    ensures { Gives result (with_both (closes 2 frames (finished chain)) sight_after) }
+{
+    let value = finished(alloc, chain)?;
+    see_after(alloc, frames, value)
+}
+
 /// The targets that have been read. They are refused where they are none.
 pub fn see(alloc: Global, state: State) -> Result<Sight, Stop>
     ensures { Gives result (sight state) }
 {
     match state {
         State::Wants(frames) => last_at(alloc, frames),
-        State::Has(frames, value) => {
-            let (frames, value) = closes(alloc, 2, frames, value)?;
-            last(alloc, frames, value)
-        }
-        State::Compared(frames, chain) => {
-            let value = finished(alloc, chain)?;
-            let (frames, value) = closes(alloc, 2, frames, value)?;
-            last(alloc, frames, value)
-        }
+        State::Has(frames, value) => see_after(alloc, frames, value),
+        State::Compared(frames, chain) => see_compared(alloc, frames, chain),
         _ => Err(Stop::Refused),
     }
 }

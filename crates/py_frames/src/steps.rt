@@ -5,7 +5,7 @@ ghost use Rattle.py_frames.specs.declared.frames.State.TheVariants.{Wants};
 ghost use Rattle.py_token.specs.declared.kinds.Kind.TheVariants as t;
 ghost use Rattle.py_frames.specs.Gives.{Gives};
 ghost use Rattle.py_frames.specs.Values.{closes, begun_by};
-ghost use Rattle.py_frames.specs.Steps.{with_both, ends_with, picks, else_in, if_after, chains, calculates, behind, link, linked, joins, after_compared, operator, is_what, is_not_what, not_what, dot_what, method_what, step};
+ghost use Rattle.py_frames.specs.Steps.{with_both, ends_with, close_parenthesis_in, close_bracket_in, close_brace_in, comma_after, colon_in, picks, else_in, if_after, chains, calculates, behind, link, linked, joins, after_compared, operator, is_what, is_not_what, not_what, dot_what, method_what, step};
 
 use crate::brackets::{close_brace, close_bracket, close_parenthesis, colon, comma};
 use crate::chains::{arithmetic, comparison, finished, logic, put, related, relating};
@@ -130,6 +130,76 @@ fn chain(alloc: Global, and: bool, frames: Nest<Frame>, value: Value) -> Result<
     Ok(State::Wants(frames))
 }
 
+/// `and` or `or` after an expression.
+fn chain_after(
+    alloc: Global,
+    least: u8,
+    and: bool,
+    frames: Nest<Frame>,
+    value: Value,
+) -> Result<State, Stop>
+    ensures { Gives result (with_both (closes least frames value) (chains and)) }
+{
+    let (frames, value) = closes(alloc, least, frames, value)?;
+    chain(alloc, and, frames, value)
+}
+
+/// `if` after an expression.
+fn choice_after(alloc: Global, frames: Nest<Frame>, value: Value) -> Result<State, Stop>
+    ensures { Gives result (with_both (closes 3 frames value) if_after) }
+{
+    let (frames, value) = closes(alloc, 3, frames, value)?;
+    begin_choice(alloc, frames, value)
+}
+
+/// `else` after an expression.
+fn else_after(alloc: Global, frames: Nest<Frame>, value: Value) -> Result<State, Stop>
+    ensures { Gives result (with_both (closes 3 frames value) (λ gs w. ends_with gs w else_in)) }
+{
+    let (frames, value) = closes(alloc, 3, frames, value)?;
+    choose(frames, value)
+}
+
+/// `)` after an expression.
+fn parenthesis_after(alloc: Global, frames: Nest<Frame>, value: Value) -> Result<State, Stop>
+    ensures { Gives result (with_both (closes 2 frames value) (λ gs w. ends_with gs w close_parenthesis_in)) }
+{
+    let (frames, value) = closes(alloc, 2, frames, value)?;
+    close_parenthesis(alloc, frames, value)
+}
+
+/// `]` after an expression.
+fn bracket_after(alloc: Global, frames: Nest<Frame>, value: Value) -> Result<State, Stop>
+    ensures { Gives result (with_both (closes 2 frames value) (λ gs w. ends_with gs w close_bracket_in)) }
+{
+    let (frames, value) = closes(alloc, 2, frames, value)?;
+    close_bracket(alloc, frames, value)
+}
+
+/// `}` after an expression.
+fn brace_after(alloc: Global, frames: Nest<Frame>, value: Value) -> Result<State, Stop>
+    ensures { Gives result (with_both (closes 2 frames value) (λ gs w. ends_with gs w close_brace_in)) }
+{
+    let (frames, value) = closes(alloc, 2, frames, value)?;
+    close_brace(alloc, frames, value)
+}
+
+/// `,` after an expression.
+fn comma_after(alloc: Global, frames: Nest<Frame>, value: Value) -> Result<State, Stop>
+    ensures { Gives result (with_both (closes 2 frames value) comma_after) }
+{
+    let (frames, value) = closes(alloc, 2, frames, value)?;
+    comma(alloc, frames, value)
+}
+
+/// `:` after an expression.
+fn colon_after(alloc: Global, frames: Nest<Frame>, value: Value) -> Result<State, Stop>
+    ensures { Gives result (with_both (closes 2 frames value) (λ gs w. ends_with gs w colon_in)) }
+{
+    let (frames, value) = closes(alloc, 2, frames, value)?;
+    colon(frames, value, alloc)
+}
+
 /// `and`, `or`, `if` or `else` after an expression.
 fn behind_word(
     alloc: Global,
@@ -140,22 +210,10 @@ fn behind_word(
     ensures { Gives result (behind frames value (t.Keyword word)) }
 {
     match word {
-        Keyword::And => {
-            let (frames, value) = closes(alloc, 5, frames, value)?;
-            chain(alloc, true, frames, value)
-        }
-        Keyword::Or => {
-            let (frames, value) = closes(alloc, 4, frames, value)?;
-            chain(alloc, false, frames, value)
-        }
-        Keyword::If => {
-            let (frames, value) = closes(alloc, 3, frames, value)?;
-            begin_choice(alloc, frames, value)
-        }
-        Keyword::Else => {
-            let (frames, value) = closes(alloc, 3, frames, value)?;
-            choose(frames, value)
-        }
+        Keyword::And => chain_after(alloc, 5, true, frames, value),
+        Keyword::Or => chain_after(alloc, 4, false, frames, value),
+        Keyword::If => choice_after(alloc, frames, value),
+        Keyword::Else => else_after(alloc, frames, value),
         _ => Err(Stop::Refused),
     }
 }
@@ -166,26 +224,11 @@ fn behind(alloc: Global, frames: Nest<Frame>, value: Value, token: &Kind) -> Res
 {
     match token {
         Kind::Keyword(word) => behind_word(alloc, frames, value, *word),
-        Kind::Symbol(Symbol::CloseParenthesis) => {
-            let (frames, value) = closes(alloc, 2, frames, value)?;
-            close_parenthesis(alloc, frames, value)
-        }
-        Kind::Symbol(Symbol::CloseBracket) => {
-            let (frames, value) = closes(alloc, 2, frames, value)?;
-            close_bracket(alloc, frames, value)
-        }
-        Kind::Symbol(Symbol::CloseBrace) => {
-            let (frames, value) = closes(alloc, 2, frames, value)?;
-            close_brace(alloc, frames, value)
-        }
-        Kind::Symbol(Symbol::Comma) => {
-            let (frames, value) = closes(alloc, 2, frames, value)?;
-            comma(alloc, frames, value)
-        }
-        Kind::Symbol(Symbol::Colon) => {
-            let (frames, value) = closes(alloc, 2, frames, value)?;
-            colon(frames, value, alloc)
-        }
+        Kind::Symbol(Symbol::CloseParenthesis) => parenthesis_after(alloc, frames, value),
+        Kind::Symbol(Symbol::CloseBracket) => bracket_after(alloc, frames, value),
+        Kind::Symbol(Symbol::CloseBrace) => brace_after(alloc, frames, value),
+        Kind::Symbol(Symbol::Comma) => comma_after(alloc, frames, value),
+        Kind::Symbol(Symbol::Colon) => colon_after(alloc, frames, value),
         _ => Err(Stop::Refused),
     }
 }
