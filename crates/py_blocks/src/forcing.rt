@@ -11,7 +11,7 @@ use crate::blocks::{places, settle};
 use crate::state::{
     Begun, Branches, Done, Last, Outer, Purpose, Reader, Simple, Spot, State, Test,
 };
-use plain_data::Stack;
+use plain_data::{Items, Stack, Text};
 use py_frames::{Places, Sight, State as Reading, forced_of};
 use std::alloc::{AllocError, Global};
 use std::mem::drop;
@@ -149,29 +149,83 @@ fn in_branches(outers: Stack<Outer>, before: Done, branches: Branches) -> Result
     enclose(outers, after(before, whole))
 }
 
+/// In a statement of one word.
+fn in_word(alloc: Global, simple: Simple) -> Result<Places, AllocError>
+    ensures { IfOk result (λ all. all ≡ machine.in_simple simple []) }
+{
+    in_simple(simple, Places::none(alloc))
+}
+
+/// In a `global` with these names.
+fn in_global(alloc: Global, simple: Simple, names: Items<Text>) -> Result<Places, AllocError>
+    ensures { IfOk result (λ all. all ≡ machine.in_simple simple []) }
+{
+    drop(names);
+    in_word(alloc, simple)
+}
+
+/// In a simple statement with an expression.
+fn in_expression(
+    alloc: Global,
+    simple: Simple,
+    purpose: Purpose,
+    reading: Reading,
+) -> Result<Places, AllocError>
+    ensures { IfOk result (λ all. all ≡ machine.in_simple simple (in_purpose purpose reading)) }
+{
+    let inner = in_purpose(alloc, purpose, reading)?;
+    in_simple(simple, inner)
+}
+
+/// In a head of names alone.
+fn in_names(alloc: Global, begun: Begun, names: Items<Text>) -> Result<Places, AllocError>
+    ensures { IfOk result (λ all. all ≡ in_begun begun []) }
+{
+    drop(names);
+    in_begun(begun, Places::none(alloc))
+}
+
+/// In the head of a function.
+fn in_function(
+    alloc: Global,
+    begun: Begun,
+    name: Text,
+    params: Items<Text>,
+) -> Result<Places, AllocError>
+    ensures { IfOk result (λ all. all ≡ in_begun begun []) }
+{
+    drop(name);
+    in_names(alloc, begun, params)
+}
+
+/// After a head.
+fn behind_head(alloc: Global, outers: Stack<Outer>, outer: Outer) -> Result<Places, AllocError>
+    ensures { IfOk result (λ all. all ≡ enclose (outer ∷ outers) []) }
+{
+    in_block(outers, outer, Places::none(alloc))
+}
+
 /// The places of what has been read, whatever comes.
 pub fn forced_now(alloc: Global, state: State) -> Result<Places, AllocError>
     ensures { IfOk result (λ all. all ≡ forced_now state) }
 {
     match state {
         State::Line(outers, done, last) => on_line(alloc, outers, done, last),
-        State::InSimple(simple, purpose, reading) => {
-            in_simple(simple, in_purpose(alloc, purpose, reading)?)
-        }
-        State::AfterWord(simple, _) => in_simple(simple, Places::none(alloc)),
-        State::InGlobal(simple, _) => in_simple(simple, Places::none(alloc)),
-        State::HasGlobal(simple, _) => in_simple(simple, Places::none(alloc)),
+        State::InSimple(simple, purpose, reading) => in_expression(alloc, simple, purpose, reading),
+        State::AfterWord(simple, _) => in_word(alloc, simple),
+        State::InGlobal(simple, names) => in_global(alloc, simple, names),
+        State::HasGlobal(simple, names) => in_global(alloc, simple, names),
         State::InTest(test, reading) => in_test(alloc, test, reading),
-        State::InVariables(begun, _) => in_begun(begun, Places::none(alloc)),
-        State::HasVariables(begun, _) => in_begun(begun, Places::none(alloc)),
+        State::InVariables(begun, names) => in_names(alloc, begun, names),
+        State::HasVariables(begun, names) => in_names(alloc, begun, names),
         State::AfterElse(outers, before, branches) => in_branches(outers, before, branches),
-        State::AfterDef(begun) => in_begun(begun, Places::none(alloc)),
-        State::AfterDefName(begun, _) => in_begun(begun, Places::none(alloc)),
-        State::InParams(begun, _, _) => in_begun(begun, Places::none(alloc)),
-        State::HasParams(begun, _, _) => in_begun(begun, Places::none(alloc)),
-        State::AfterParams(begun, _, _) => in_begun(begun, Places::none(alloc)),
-        State::AfterColon(outers, outer) => in_block(outers, outer, Places::none(alloc)),
-        State::AfterNewline(outers, outer) => in_block(outers, outer, Places::none(alloc)),
+        State::AfterDef(begun) => in_names(alloc, begun, Items::new(alloc)),
+        State::AfterDefName(begun, name) => in_function(alloc, begun, name, Items::new(alloc)),
+        State::InParams(begun, name, params) => in_function(alloc, begun, name, params),
+        State::HasParams(begun, name, params) => in_function(alloc, begun, name, params),
+        State::AfterParams(begun, name, params) => in_function(alloc, begun, name, params),
+        State::AfterColon(outers, outer) => behind_head(alloc, outers, outer),
+        State::AfterNewline(outers, outer) => behind_head(alloc, outers, outer),
         State::End(done) => Ok(ended(done)),
     }
 }
