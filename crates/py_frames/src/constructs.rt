@@ -148,9 +148,12 @@ pub fn construct(
         State::Wants(frames) => Ok((is_lone_tuple(&frames), None)),
         State::Has(frames, value) => behind(alloc, frames, value, token),
         State::Compared(frames, chain) => behind_compared(alloc, frames, chain, token),
-        State::AfterIs(_, _) => Ok((false, not_none_or_not(token))),
-        State::AfterIsNot(_, _) => Ok((false, not_none(token))),
-        State::AfterMethod(_, _, _) => Ok((false, no_call(token))),
-        _ => Ok((false, None)),
+        State::AfterIs(_frames, _chain) => Ok((false, not_none_or_not(token))),
+        State::AfterIsNot(_frames, _chain) => Ok((false, not_none(token))),
+        State::AfterMethod(_frames, _value, _name) => Ok((false, no_call(token))),
+        other => {
+            drop(other);
+            Ok((false, None))
+        }
     }
 }

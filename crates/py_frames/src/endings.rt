@@ -89,7 +89,10 @@ pub fn end(alloc: Global, state: State) -> Result<Value, Stop>
         State::Wants(frames) => whole_at(alloc, frames),
         State::Has(frames, value) => end_after(alloc, frames, value),
         State::Compared(frames, chain) => end_compared(alloc, frames, chain),
-        _ => Err(Stop::Refused),
+        other => {
+            drop(other);
+            Err(Stop::Refused)
+        }
     }
 }
 
@@ -160,7 +163,10 @@ pub fn colon_or_end(alloc: Global, state: State) -> Result<Colon, Stop>
         State::Wants(frames) => goes_or_shuts(alloc, frames),
         State::Has(frames, value) => colon_after(alloc, frames, value),
         State::Compared(frames, chain) => colon_compared(alloc, frames, chain),
-        _ => Err(Stop::Refused),
+        other => {
+            drop(other);
+            Err(Stop::Refused)
+        }
     }
 }
 

@@ -159,6 +159,9 @@ pub fn see(alloc: Global, state: State) -> Result<Sight, Stop>
         State::Wants(frames) => last_at(alloc, frames),
         State::Has(frames, value) => see_after(alloc, frames, value),
         State::Compared(frames, chain) => see_compared(alloc, frames, chain),
-        _ => Err(Stop::Refused),
+        other => {
+            drop(other);
+            Err(Stop::Refused)
+        }
     }
 }
