@@ -1,19 +1,17 @@
 -- A function of a cell is what its text alone is read as.
-use Rattle.std.proofs.Common.{◌≡◌, ℕ, ◌+◌, ◌-◌, ◌≤◌, true, false, List, [], ◌∷◌, ◌++◌, length, drop, Some, None, Ok, Err, refl, sym, ap, ◌∙◌, subst, arith, append_assoc, length-take, length-drop, IsUtf8}
+use Rattle.std.proofs.Common.{◌≡◌, ℕ, ◌+◌, ◌-◌, ◌≤◌, true, false, List, [], ◌∷◌, ◌++◌, length, drop, Ok, Err, sym, ap, ◌∙◌, subst, arith, append_assoc, length-take, length-drop, IsUtf8}
 use Rattle.std.specs.Prelude.{slice_range, nat_lt, if◌then◌else◌}
-use Rattle.std.specs.List.{Contains}
 use Rattle.std.proofs.lemmas.Bool.Decides.{nat_tests}
 use Rattle.py_token.specs.declared.kinds.Kind.{Kind}
 use Rattle.py_token.specs.declared.kinds.Kind.TheVariants as t
 use Rattle.py_token.specs.declared.kinds.Token.{Token}
 use Rattle.py_token.specs.Lines.{tokens_of}
 use Rattle.py_token.proofs.Covers.{covers}
-use Rattle.py_tree.specs.declared.statements.Def.{Def}
 use Rattle.py_grammar.specs.Words.{def_word}
-use Rattle.py_grammar.specs.Statements.{Params, Block, Statement, compound, define, statements_one, Cell, spell_statement, outside_all, statement_stands}
+use Rattle.py_grammar.specs.Statements.{Params, Block, Statement, compound, define, spell_statement, outside_all, statement_stands}
 use Rattle.py_grammar.proofs.Whole.{one_cell}
 use Rattle.py_grammar.specs.Alone.{alone, IsDefinition}
-use Rattle.py_grammar.specs.Depth.{in_cell, at_statement, IsTooDeep}
+use Rattle.py_grammar.specs.Depth.{IsTooDeep}
 use Rattle.py_grammar.specs.States.{done}
 use Rattle.py_blocks.specs.Source.{source_of}
 use Rattle.py_reader.specs.declared.fault.SyntaxFault.TheVariants.{NoParse}

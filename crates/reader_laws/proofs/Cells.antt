@@ -15,7 +15,7 @@ use Rattle.py_tree.specs.declared.statements.Arm.{Arm}
 use Rattle.py_grammar.specs.Statements.{Params, Block, Statement, simple, compound, choose, otherwise, while_true, for_each, define, Statements, statements_one, statements_more, Cell, IsCell, spell_block, spell_statement, spell_statements, outside_all, inside, hear, statement_stands, statements_stand}
 use Rattle.py_grammar.specs.Trees.{tree_params, tree_block, tree_statement, tree_top, tree_cell}
 use Rattle.py_grammar.specs.Alone.{alone}
-use Rattle.py_grammar.specs.Depth.{in_cell, at_statement, in_statements, IsTooDeep}
+use Rattle.py_grammar.specs.Depth.{at_statement, in_statements, IsTooDeep}
 use Rattle.py_blocks.specs.Source.{source_of}
 use Rattle.py_laws.specs.Allowed.{AreAllowed}
 use Rattle.py_reader.specs.Verdicts.{Verdict}

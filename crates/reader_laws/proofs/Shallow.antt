@@ -1,7 +1,7 @@
 -- Whether a form has parts at a depth doesn't depend on what comes after it.
 use Rattle.std.proofs.Common.{◌≡◌, ℕ, zero, suc, List, [], ◌∷◌, ◌++◌, refl}
 use Rattle.py_token.specs.declared.kinds.Kind.{Kind}
-use Rattle.py_grammar.specs.Expressions.{Expression, plain, conditional, Ors, ors_one, ors_more, Ands, ands_one, ands_more, Negation, compared, negated, Compares, compares_one, compares_more, compares_none, compares_not_none, Sums, sums_one, sums_more, Products, products_one, products_more, Signed, unsigned, signed, Primary, group, display, dict, call, index, slice, Exprs, single, tuple, tuple_comma, Callee, function, method, Bound, unbounded, bounded, Args, no_args, args, args_comma, Elements, elements_one, elements_more, Entries, no_entries, entries, entries_comma, Pairs, pairs_one, pairs_more}
+use Rattle.py_grammar.specs.Expressions.{Expression, plain, conditional, Ors, ors_one, ors_more, Ands, ands_one, ands_more, Negation, compared, negated, Compares, compares_one, compares_more, compares_none, compares_not_none, Sums, sums_one, sums_more, Products, products_one, products_more, Signed, unsigned, signed, Primary, name, number, text, nothing, truth, falsity, empty, group, display, dict, call, index, slice, Exprs, single, tuple, tuple_comma, Callee, function, method, Bound, unbounded, bounded, Args, no_args, args, args_comma, Elements, elements_one, elements_more, Entries, no_entries, entries, entries_comma, Pairs, pairs_one, pairs_more}
 use Rattle.py_grammar.specs.Statements.{Target, to_name, to_item, Places, places_one, places_more, Targets, targets, targets_comma, Simple, word, return_, give, declare, delete, assign, augment, show, Statement, simple, compound, Head, choose, otherwise, while_true, for_each, define, Condition, if_true, else_if, Branches, branches, Block, inline, indented, Statements, statements_one, statements_more}
 use Rattle.py_grammar.specs.Depth.{at_expression, at_ors, in_ors, at_ands, in_ands, at_negation, at_compares, in_compares, at_sums, in_sums, at_products, in_products, at_signed, at_primary, at_exprs, in_callee, in_bound, in_args, in_elements, in_entries, in_pairs, in_target, in_places, in_targets, in_simple, at_simple, at_statement, in_head, in_condition, in_branches, in_block, in_statements}
 
@@ -90,14 +90,32 @@ mutual
   sign (signed s a) (suc d) rest other e = sign a d rest other e
 
   primary : (x : Primary) (d : ℕ) (rest other : List Kind) → at_primary x rest d ≡ [] → at_primary x other d ≡ []
+  primary (name m) zero rest other e = cc
+  primary (name m) (suc d) rest other e = refl
+  primary (number m) zero rest other e = cc
+  primary (number m) (suc d) rest other e = refl
+  primary (text m) zero rest other e = cc
+  primary (text m) (suc d) rest other e = refl
+  primary nothing zero rest other e = cc
+  primary nothing (suc d) rest other e = refl
+  primary truth zero rest other e = cc
+  primary truth (suc d) rest other e = refl
+  primary falsity zero rest other e = cc
+  primary falsity (suc d) rest other e = refl
+  primary empty zero rest other e = cc
+  primary empty (suc d) rest other e = refl
+  primary (group a) zero rest other e = cc
   primary (group a) (suc d) rest other e = exprs a d _ _ e
+  primary (display a) zero rest other e = cc
   primary (display a) (suc d) rest other e = given a d _ _ e
+  primary (dict a) zero rest other e = cc
   primary (dict a) (suc d) rest other e = entered a d _ _ e
+  primary (call f a) zero rest other e = cc
   primary (call f a) (suc d) rest other e = both _ _ _ _ (callee f d _ _) (given a d _ _) e
+  primary (index p a) zero rest other e = cc
   primary (index p a) (suc d) rest other e = both _ _ _ _ (primary p d _ _) (expression a d _ _) e
+  primary (slice p a b) zero rest other e = cc
   primary (slice p a b) (suc d) rest other e = both _ _ _ _ (both _ _ _ _ (primary p d _ _) (bound a d _ _)) (bound b d _ _) e
-  primary _ (suc d) rest other e = refl
-  primary _ zero rest other e = cc
 
   exprs : (x : Exprs) (d : ℕ) (rest other : List Kind) → at_exprs x rest d ≡ [] → at_exprs x other d ≡ []
   exprs (single a) d rest other e = expression a d rest other e
