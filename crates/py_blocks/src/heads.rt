@@ -1,6 +1,8 @@
 //! The head of a compound statement with an expression, and where its block begins.
 ghost use Rattle.std.specs.Prelude.{◌≡◌, [], Some, None};
 ghost use Rattle.py_frames.specs.Gives.{Gives};
+ghost use Rattle.py_frames.specs.Steps as expression;
+ghost use Rattle.py_frames.specs.Ends as endings;
 ghost use Rattle.py_frames.specs.declared.endings.Colon.TheVariants.{Ends};
 ghost use Rattle.py_blocks.specs.Steps.{opens, headed, fits, test_goes_on, colon_behind, on_test, variables_end, on_variables, on_variable, on_else, on_newline};
 
@@ -89,6 +91,30 @@ fn end_test(test: Test, value: Value) -> Result<State, Stop>
     Ok(open(begun, under, headed(lead, tree)))
 }
 
+/// A `:` behind its expression.
+fn on_colon(alloc: Global, test: Test, reading: Reading) -> Result<State, Stop>
+    ensures { Gives result (colon_behind test (endings.colon_or_end reading)) }
+{
+    match colon_or_end(alloc, reading)? {
+        Colon::Goes(reading) => go_on(test, reading),
+        Colon::Ends(value) => end_test(test, value),
+    }
+}
+
+/// One more token of its expression.
+fn go_on_with(
+    alloc: Global,
+    test: Test,
+    reading: Reading,
+    token: &Kind,
+    at: usize,
+) -> Result<State, Stop>
+    ensures { Gives result (test_goes_on test (expression.step reading token.now at)) }
+{
+    let reading = step(alloc, reading, token, at)?;
+    go_on(test, reading)
+}
+
 /// One more token of a head with an expression. A `:` in a bracket belongs to it, and one outside all brackets ends the
 /// head.
 pub fn on_test(
@@ -101,14 +127,8 @@ pub fn on_test(
     ensures { Gives result (on_test at test reading token.now) }
 {
     match token {
-        Kind::Symbol(Symbol::Colon) => match colon_or_end(alloc, reading)? {
-            Colon::Goes(reading) => go_on(test, reading),
-            Colon::Ends(value) => end_test(test, value),
-        },
-        _ => {
-            let reading = step(alloc, reading, token, at)?;
-            go_on(test, reading)
-        }
+        Kind::Symbol(Symbol::Colon) => on_colon(alloc, test, reading),
+        _ => go_on_with(alloc, test, reading, token, at),
     }
 }
 

@@ -2,8 +2,10 @@
 ghost use Rattle.std.specs.Prelude.{◌≡◌, Some};
 ghost use Rattle.py_frames.specs.Gives.{Gives};
 ghost use Rattle.py_blocks.specs.Source.{left_of};
-ghost use Rattle.py_blocks.specs.Blocks.{settled};
-ghost use Rattle.py_blocks.specs.Steps.{test_at, elif_at, else_at, def_at, dedent_at, end_at, begins_line, on_line_word, on_line, on_colon, is_nothing, is_def, is_end, may_come, on_any_line};
+ghost use Rattle.py_frames.specs.Steps as expression;
+ghost use Rattle.py_blocks.specs.declared.state.Purpose.TheVariants.{Showing};
+ghost use Rattle.py_blocks.specs.Blocks.{settled, closed};
+ghost use Rattle.py_blocks.specs.Steps.{begun, own, goes_on, test_at, elif_at, else_at, def_at, dedent_at, end_at, begins_line, on_line_word, on_line, on_colon, is_nothing, is_def, is_end, may_come, on_any_line};
 
 use crate::blocks::{close, settle};
 use crate::simple::{begin, begin_word, show};
@@ -20,6 +22,23 @@ fn is_nothing(last: &Last) -> bool
         Last::Nothing => true,
         _ => false,
     }
+}
+
+/// The innermost block ends.
+fn end_block(
+    alloc: Global,
+    code: &str,
+    tokens: &[Token],
+    left: usize,
+    outers: Stack<Outer>,
+    outer: Outer,
+    done: Done,
+    last: Last,
+) -> Result<State, Stop>
+    ensures { Gives result (Some (closed (left_of code.now tokens.now) left outers outer (settled done last))) }
+{
+    let body = settle(alloc, done, last)?;
+    Ok(close(alloc, code, tokens, left, outers, outer, body)?)
 }
 
 /// A block ends.
@@ -40,8 +59,7 @@ fn dedent(
     if is_nothing(&last) {
         return Err(Stop::Refused);
     }
-    let body = settle(alloc, done, last)?;
-    Ok(close(alloc, code, tokens, left, outers, outer, body)?)
+    end_block(alloc, code, tokens, left, outers, outer, done, last)
 }
 
 /// A head with an expression begins.
@@ -181,6 +199,34 @@ fn end(outers: Stack<Outer>, done: Done) -> Result<State, Stop>
     }
 }
 
+/// The code ends.
+fn end_all(alloc: Global, outers: Stack<Outer>, done: Done, last: Last) -> Result<State, Stop>
+    ensures { Gives result (end_at outers (settled done last)) }
+{
+    let done = settle(alloc, done, last)?;
+    end(outers, done)
+}
+
+/// A statement begins that is an expression, or targets.
+fn begin_showing(
+    alloc: Global,
+    outers: Stack<Outer>,
+    done: Done,
+    last: Last,
+    token: &Kind,
+    at: usize,
+) -> Result<State, Stop>
+    ensures { Gives result (goes_on (own at outers (settled done last)) Showing (expression.step begun token.now at)) }
+{
+    let done = settle(alloc, done, last)?;
+    let simple = Simple {
+        outers,
+        spot: Spot::Own(done),
+        from: at,
+    };
+    show(alloc, simple, token, at)
+}
+
 /// The first token of a line.
 fn on_line(
     alloc: Global,
@@ -197,18 +243,8 @@ fn on_line(
     match token {
         Kind::Keyword(word) => on_line_word(alloc, outers, done, last, *word, place.at),
         Kind::Dedent => dedent(alloc, code, tokens, place.left, outers, done, last),
-        Kind::End => {
-            let done = settle(alloc, done, last)?;
-            end(outers, done)
-        }
-        _ => {
-            let simple = Simple {
-                outers,
-                spot: Spot::Own(settle(alloc, done, last)?),
-                from: place.at,
-            };
-            show(alloc, simple, token, place.at)
-        }
+        Kind::End => end_all(alloc, outers, done, last),
+        _ => begin_showing(alloc, outers, done, last, token, place.at),
     }
 }
 

@@ -226,20 +226,30 @@ fn assignment(symbol: Symbol) -> Option<Sign>
     }
 }
 
+/// Targets are assigned to by `=`.
+fn assign_all(alloc: Global, simple: Simple, reading: Reading) -> Result<State, Stop>
+    ensures { Gives result (assigns simple (targets.sight reading)) }
+{
+    let targets = see(alloc, reading)?;
+    Ok(State::InSimple(simple, Purpose::Assigning(targets), begun(alloc)))
+}
+
+/// A target is assigned to by `+=`, or by another sign with an operator.
+fn augment(alloc: Global, simple: Simple, op: Op, reading: Reading) -> Result<State, Stop>
+    ensures { Gives result (augments simple op (placed (targets.sight reading))) }
+{
+    let (target, under) = place(alloc, reading)?;
+    let purpose = Purpose::Augmenting { target, op, under };
+    Ok(State::InSimple(simple, purpose, begun(alloc)))
+}
+
 /// Targets are assigned to: a value is to come.
 fn assign(alloc: Global, simple: Simple, sign: Sign, reading: Reading) -> Result<State, Stop>
     ensures { Gives result (signed simple sign reading) }
 {
     match sign {
-        Sign::Assign => {
-            let targets = see(alloc, reading)?;
-            Ok(State::InSimple(simple, Purpose::Assigning(targets), begun(alloc)))
-        }
-        Sign::Augment(op) => {
-            let (target, under) = place(alloc, reading)?;
-            let purpose = Purpose::Augmenting { target, op, under };
-            Ok(State::InSimple(simple, purpose, begun(alloc)))
-        }
+        Sign::Assign => assign_all(alloc, simple, reading),
+        Sign::Augment(op) => augment(alloc, simple, op, reading),
     }
 }
 
@@ -257,7 +267,10 @@ fn on_sign(
     match assignment(symbol) {
         Some(sign) => match purpose {
             Purpose::Showing => assign(alloc, simple, sign, reading),
-            _ => Err(Stop::Refused),
+            other => {
+                drop(other);
+                Err(Stop::Refused)
+            }
         },
         None => read_on(alloc, simple, purpose, reading, &Kind::Symbol(symbol), at),
     }

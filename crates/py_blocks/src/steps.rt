@@ -16,6 +16,7 @@ use plain_data::{Stack, TextMap};
 use py_frames::Stop;
 use py_token::{Kind, Token};
 use std::alloc::Global;
+use std::mem::drop;
 
 /// Before the first token. Takes no memory.
 pub fn start(alloc: Global) -> Reader
@@ -49,7 +50,10 @@ fn function_moves(
         State::InParams(begun, name, params) => on_params(alloc, begun, name, params, names, token),
         State::HasParams(begun, name, params) => on_param(begun, name, params, token),
         State::AfterParams(begun, name, params) => on_params_end(alloc, begun, name, params, token),
-        _ => Err(Stop::Refused),
+        other => {
+            drop(other);
+            Err(Stop::Refused)
+        }
     }
 }
 
