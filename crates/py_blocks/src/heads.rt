@@ -16,6 +16,7 @@ use py_frames::{
 use py_token::{Keyword, Kind, Symbol};
 use py_tree::Expr;
 use std::alloc::Global;
+use std::mem::drop;
 
 /// The `:` of a head: its block is to come.
 pub fn open(begun: Begun, under: Places, head: Head) -> State
@@ -61,13 +62,22 @@ fn fits(lead: &Lead, reading: &Reading) -> bool
     }
 }
 
+/// Whether it may go on so.
+fn is_fit(test: &Test, reading: &Reading) -> bool
+    ensures { result ≡ fits test.now.lead reading.now }
+{
+    fits(&test.lead, reading)
+}
+
 /// Its expression goes on.
 fn go_on(test: Test, reading: Reading) -> Result<State, Stop>
     ensures { Gives result (test_goes_on test (Some reading)) }
 {
-    if fits(&test.lead, &reading) {
+    if is_fit(&test, &reading) {
         Ok(State::InTest(test, reading))
     } else {
+        drop(test);
+        drop(reading);
         Err(Stop::Refused)
     }
 }

@@ -253,6 +253,42 @@ fn assign(alloc: Global, simple: Simple, sign: Sign, reading: Reading) -> Result
     }
 }
 
+/// Targets are assigned to, if the statement was an expression so far.
+fn assign_if_showing(
+    alloc: Global,
+    simple: Simple,
+    purpose: Purpose,
+    reading: Reading,
+    sign: Sign,
+) -> Result<State, Stop>
+    ensures { Gives result (if_showing purpose (signed simple sign reading)) }
+{
+    match purpose {
+        Purpose::Showing => assign(alloc, simple, sign, reading),
+        other => {
+            drop(other);
+            drop(simple);
+            drop(reading);
+            Err(Stop::Refused)
+        }
+    }
+}
+
+/// A symbol that is no such sign.
+fn read_symbol(
+    alloc: Global,
+    simple: Simple,
+    purpose: Purpose,
+    reading: Reading,
+    symbol: Symbol,
+    at: usize,
+) -> Result<State, Stop>
+    ensures { Gives result (sign_behind at simple purpose reading symbol None) }
+{
+    let token = Kind::Symbol(symbol);
+    read_on(alloc, simple, purpose, reading, &token, at)
+}
+
 /// A sign behind what has been read.
 fn on_sign(
     alloc: Global,
@@ -265,14 +301,8 @@ fn on_sign(
     ensures { Gives result (sign_behind at simple purpose reading symbol (machine.assignment symbol)) }
 {
     match assignment(symbol) {
-        Some(sign) => match purpose {
-            Purpose::Showing => assign(alloc, simple, sign, reading),
-            other => {
-                drop(other);
-                Err(Stop::Refused)
-            }
-        },
-        None => read_on(alloc, simple, purpose, reading, &Kind::Symbol(symbol), at),
+        Some(sign) => assign_if_showing(alloc, simple, purpose, reading, sign),
+        None => read_symbol(alloc, simple, purpose, reading, symbol, at),
     }
 }
 
