@@ -1,7 +1,7 @@
 //! Chains that begin and go on.
-ghost use Rattle.std.specs.Prelude.{◌≡◌, [], ◌∷◌, IfOk, Some, None};
+ghost use Rattle.std.specs.Prelude.{◌≡◌, [], ◌∷◌, ◌++◌, IfOk, Some, None};
 ghost use Rattle.py_frames.specs.declared.frames.Hole.TheVariants as h;
-ghost use Rattle.py_frames.specs.Values.{compared_from, begun_by, logic, arithmetic_in, arithmetic, compared, relating, related, finished, made};
+ghost use Rattle.py_frames.specs.Values.{beside, compared_from, begun_by, logic, arithmetic_in, arithmetic, compared, relating, related, finished, made};
 
 use crate::closing::{all_with, join, made, operate, places, relate};
 use crate::frames::{Chain, Frame, Hole, Value};
@@ -46,6 +46,29 @@ fn begin_logic(
     put(frames, Frame { from, under, hole })
 }
 
+/// A chain of `and` or of `or` goes on.
+fn logic_more(
+    and: bool,
+    frames: Nest<Frame>,
+    value: Value,
+    from: usize,
+    under: Places,
+    before: Items<Expr>,
+) -> Result<Nest<Frame>, AllocError>
+    ensures { IfOk result (λ all. all ≡ record { from = from; under = beside under (value.from ∷ value.under); hole = h.Logic and (before ++ value.tree ∷ []) } ∷ frames) }
+{
+    let Value {
+        tree,
+        from: inner,
+        under: below,
+        ..
+    } = value;
+    let before = all_with(before, tree)?;
+    let under = join(under, inner, below)?;
+    let hole = Hole::Logic { and, before };
+    put(frames, Frame { from, under, hole })
+}
+
 /// The innermost part is a chain of `and` or of `or`: it goes on, or one begins in it.
 fn logic_after(
     alloc: Global,
@@ -64,10 +87,7 @@ fn logic_after(
         let frames = put(frames, Frame { from, under, hole })?;
         return begin_logic(alloc, and, frames, value);
     }
-    let before = all_with(before, value.tree)?;
-    let under = join(under, value.from, value.under)?;
-    let hole = Hole::Logic { and, before };
-    put(frames, Frame { from, under, hole })
+    logic_more(and, frames, value, from, under, before)
 }
 
 /// `and` or `or` after what comes before it.
@@ -118,6 +138,37 @@ fn begin_arithmetic(
     put(frames, Frame { from, under, hole })
 }
 
+/// A sum or a product goes on.
+fn arithmetic_more(
+    product: bool,
+    op: Op,
+    frames: Nest<Frame>,
+    value: Value,
+    from: usize,
+    under: Places,
+    first: Expr,
+    rest: Items<Operand>,
+    before: Op,
+) -> Result<Nest<Frame>, AllocError>
+    ensures { IfOk result (λ all. all ≡ record { from = from; under = beside under (value.from ∷ value.under); hole = h.Arithmetic product first (rest ++ record { op = before; value = value.tree } ∷ []) op } ∷ frames) }
+{
+    let Value {
+        tree,
+        from: inner,
+        under: below,
+        ..
+    } = value;
+    let rest = operate(rest, before, tree)?;
+    let under = join(under, inner, below)?;
+    let hole = Hole::Arithmetic {
+        product,
+        first,
+        rest,
+        op,
+    };
+    put(frames, Frame { from, under, hole })
+}
+
 /// The innermost part is a sum or a product: it goes on, or one begins in it.
 fn arithmetic_after(
     alloc: Global,
@@ -144,15 +195,7 @@ fn arithmetic_after(
         let frames = put(frames, Frame { from, under, hole })?;
         return begin_arithmetic(alloc, product, op, frames, value);
     }
-    let rest = operate(rest, before, value.tree)?;
-    let under = join(under, value.from, value.under)?;
-    let hole = Hole::Arithmetic {
-        product,
-        first,
-        rest,
-        op,
-    };
-    put(frames, Frame { from, under, hole })
+    arithmetic_more(product, op, frames, value, from, under, first, rest, before)
 }
 
 /// A sign of a sum or of a product after what comes before it.
@@ -221,8 +264,14 @@ fn comparison_after(
 ) -> Result<(Nest<Frame>, Chain), AllocError>
     ensures { IfOk result (λ it. it ≡ compared (record { from = from; under = under; hole = h.Compare first rest op } ∷ frames) value) }
 {
-    let rest = relate(rest, op, value.tree)?;
-    let under = join(under, value.from, value.under)?;
+    let Value {
+        tree,
+        from: inner,
+        under: below,
+        ..
+    } = value;
+    let rest = relate(rest, op, tree)?;
+    let under = join(under, inner, below)?;
     Ok((
         frames,
         Chain {

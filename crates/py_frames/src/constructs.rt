@@ -109,6 +109,16 @@ fn is_lone(frames: &Nest<Frame>) -> bool
     }
 }
 
+/// Behind the parts that are left open.
+fn behind_in(frames: Nest<Frame>, value: Value, token: &Kind) -> (bool, Option<Construct>)
+    ensures { result ≡ (lone frames, behind_top frames token.now) }
+{
+    drop(value);
+    let found = (is_lone(&frames), behind_top(&frames, token));
+    drop(frames);
+    found
+}
+
 /// Behind an expression that has ended.
 fn behind(
     alloc: Global,
@@ -119,8 +129,7 @@ fn behind(
     ensures { IfOk result (λ found. found ≡ (lone (closes 2 frames value).0, behind_top (closes 2 frames value).0 token.now)) }
 {
     let (frames, value) = closes(alloc, 2, frames, value)?;
-    drop(value);
-    Ok((is_lone(&frames), behind_top(&frames, token)))
+    Ok(behind_in(frames, value, token))
 }
 
 /// Behind a comparison.

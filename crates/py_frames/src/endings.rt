@@ -1,10 +1,13 @@
 //! What has been read, when it is to end.
-ghost use Rattle.std.specs.Prelude.{◌≡◌, []};
+ghost use Rattle.std.specs.Prelude.{◌≡◌, [], Some, None, true};
+ghost use Rattle.py_frames.specs.declared.frames.Hole.TheVariants as h;
+ghost use Rattle.py_frames.specs.declared.endings.Colon.TheVariants.{Ends};
 ghost use Rattle.py_frames.specs.declared.frames.State.TheVariants.{Wants};
 ghost use Rattle.py_frames.specs.Gives.{Gives};
-ghost use Rattle.py_frames.specs.Steps.{with_both};
-ghost use Rattle.py_frames.specs.Values.{closes, finished};
-ghost use Rattle.py_frames.specs.Ends.{ended, ended_after, ended_at, is_bracket, is_tuple, enclosed_or, outermost, is_narrow, is_one, is_undivided, is_begun, colon_or_end, ends_or_goes, shuts_or_goes};
+ghost use Rattle.py_frames.specs.Steps.{with_both, colon_in};
+ghost use Rattle.py_frames.specs.Forced.{is_nil};
+ghost use Rattle.py_frames.specs.Values.{closes, finished, close};
+ghost use Rattle.py_frames.specs.Ends.{either_of, ended, ended_in, ended_after, ended_at, is_bracket, is_tuple, enclosed_or, outermost, is_narrow, is_one, is_undivided, is_begun, colon_or_end, ends_or_goes, shuts_or_goes};
 
 use crate::brackets::colon;
 use crate::chains::{finished, put};
@@ -33,6 +36,24 @@ pub fn is_tuple(hole: &Hole) -> bool
     }
 }
 
+/// Whether nothing is open.
+pub fn is_empty(frames: &Nest<Frame>) -> bool
+    ensures { result ≡ is_nil frames.now }
+{
+    match frames.top() {
+        None => true,
+        Some(_) => false,
+    }
+}
+
+/// A tuple ends with its last.
+fn end_tuple(alloc: Global, frame: Frame, value: Value) -> Result<Value, Stop>
+    ensures { Gives result (Some (close frame value)) }
+{
+    let value = close(alloc, frame, value)?;
+    Ok(value)
+}
+
 /// The last part, which may be that of a tuple.
 fn whole(alloc: Global, mut frames: Nest<Frame>, value: Value) -> Result<Value, Stop>
     ensures { Gives result (ended_after frames value) }
@@ -41,11 +62,14 @@ fn whole(alloc: Global, mut frames: Nest<Frame>, value: Value) -> Result<Value, 
         return Ok(value);
     };
     if is_tuple(&frame.hole) {
-        if frames.top().is_none() {
-            return Ok(close(alloc, frame, value)?);
+        if is_empty(&frames) {
+            drop(frames);
+            return end_tuple(alloc, frame, value);
         }
     }
+    drop(frames);
     drop(frame);
+    drop(value);
     Err(Stop::Refused)
 }
 
@@ -103,6 +127,37 @@ pub enum Colon {
     Ends(Value),
 }
 
+/// What has been read ends with a tuple.
+fn ends_with_tuple(alloc: Global, frame: Frame, value: Value) -> Result<Colon, Stop>
+    ensures { Gives result (Some (Ends (close frame value))) }
+{
+    let value = close(alloc, frame, value)?;
+    Ok(Colon::Ends(value))
+}
+
+/// A tuple ends with its last, if nothing is round it.
+fn tuple_ends(alloc: Global, frames: Nest<Frame>, frame: Frame, value: Value) -> Result<Colon, Stop>
+    ensures { Gives result (either_of (ended_in (h.Tuple [] true) frame frames value) None) }
+{
+    if is_empty(&frames) {
+        drop(frames);
+        return ends_with_tuple(alloc, frame, value);
+    }
+    drop(frames);
+    drop(frame);
+    drop(value);
+    Err(Stop::Refused)
+}
+
+/// A part goes on after this one and a `:`.
+fn goes(alloc: Global, frames: Nest<Frame>, frame: Frame, value: Value) -> Result<Colon, Stop>
+    ensures { Gives result (either_of None (colon_in frame.hole frame frames value)) }
+{
+    let frames = put(frames, frame)?;
+    let state = colon(frames, value, alloc)?;
+    Ok(Colon::Goes(state))
+}
+
 /// After a part that has ended.
 fn goes_or_ends(alloc: Global, mut frames: Nest<Frame>, value: Value) -> Result<Colon, Stop>
     ensures { Gives result (ends_or_goes frames value) }
@@ -111,14 +166,9 @@ fn goes_or_ends(alloc: Global, mut frames: Nest<Frame>, value: Value) -> Result<
         return Ok(Colon::Ends(value));
     };
     if is_tuple(&frame.hole) {
-        if frames.top().is_none() {
-            return Ok(Colon::Ends(close(alloc, frame, value)?));
-        }
-        drop(frame);
-        return Err(Stop::Refused);
+        return tuple_ends(alloc, frames, frame, value);
     }
-    let frames = put(frames, frame)?;
-    Ok(Colon::Goes(colon(frames, value, alloc)?))
+    goes(alloc, frames, frame, value)
 }
 
 /// Where an operand is to come.

@@ -1,13 +1,14 @@
 //! What has been read, seen as targets: when a `=` comes.
-ghost use Rattle.std.specs.Prelude.{◌≡◌, map, drop, IfOk};
+ghost use Rattle.std.specs.Prelude.{◌≡◌, ◌&&◌, ◌++◌, [], ◌∷◌, true, false, map, drop, IfOk};
 ghost use Rattle.py_tree.specs.declared.expressions.Target.{Target};
 ghost use Rattle.py_frames.specs.Gives.{Gives};
 ghost use Rattle.py_frames.specs.Steps.{with_both};
-ghost use Rattle.py_frames.specs.Values.{closes, finished};
-ghost use Rattle.py_frames.specs.Targets.{target_of, sight_if, sight_after, sight_at, sight};
+ghost use Rattle.py_frames.specs.Values.{closes, finished, beside};
+ghost use Rattle.py_frames.specs.Targets.{target_of, sight_if, sight_in, sight_after, sight_at, sight};
 
 use crate::chains::{finished, one};
 use crate::closing::{all_with, closes, join};
+use crate::endings::is_empty;
 use crate::frames::{Chain, Frame, Hole, State, Value};
 use crate::nest::Nest;
 use crate::places::Places;
@@ -75,9 +76,29 @@ fn saw(
     })
 }
 
-/// The last target.
-fn last(alloc: Global, mut frames: Nest<Frame>, value: Value) -> Result<Sight, Stop>
-    ensures { Gives result (sight_after frames value) }
+/// The only target.
+fn only(alloc: Global, value: Value) -> Result<Sight, Stop>
+    ensures { Gives result (sight_if false value.target (value.tree ∷ []) value.under) }
+{
+    let Value {
+        tree,
+        under,
+        target,
+        ..
+    } = value;
+    let trees = one(alloc, tree)?;
+    saw(alloc, false, target, trees, under)
+}
+
+/// The last target of several.
+fn last_of(
+    alloc: Global,
+    left: Places,
+    before: Items<Expr>,
+    targets: bool,
+    value: Value,
+) -> Result<Sight, Stop>
+    ensures { Gives result (sight_if true (targets && value.target) (before ++ value.tree ∷ []) (drop 1 (beside left (value.from ∷ value.under)))) }
 {
     let Value {
         tree,
@@ -85,29 +106,46 @@ fn last(alloc: Global, mut frames: Nest<Frame>, value: Value) -> Result<Sight, S
         under,
         target,
     } = value;
-    let Some(frame) = frames.pop() else {
-        return saw(alloc, false, target, one(alloc, tree)?, under);
-    };
-    if frames.top().is_some() {
-        drop(frame);
-        return Err(Stop::Refused);
-    }
+    let all = all_with(before, tree)?;
+    let places = join(left, from, under)?.below();
+    saw(alloc, true, targets && target, all, places)
+}
+
+/// The last target, in this part and no other.
+fn last_in(alloc: Global, frame: Frame, value: Value) -> Result<Sight, Stop>
+    ensures { Gives result (sight_in frame.hole frame [] value) }
+{
     let Frame {
         under: left,
         hole,
         ..
     } = frame;
     match hole {
-        Hole::Tuple { before, targets } => {
-            let all = all_with(before, tree)?;
-            let places = join(left, from, under)?.below();
-            saw(alloc, true, targets && target, all, places)
-        }
+        Hole::Tuple { before, targets } => last_of(alloc, left, before, targets, value),
         other => {
             drop(other);
+            drop(left);
+            drop(value);
             Err(Stop::Refused)
         }
     }
+}
+
+/// The last target.
+fn last(alloc: Global, mut frames: Nest<Frame>, value: Value) -> Result<Sight, Stop>
+    ensures { Gives result (sight_after frames value) }
+{
+    let Some(frame) = frames.pop() else {
+        return only(alloc, value);
+    };
+    if is_empty(&frames) {
+        drop(frames);
+        return last_in(alloc, frame, value);
+    }
+    drop(frames);
+    drop(frame);
+    drop(value);
+    Err(Stop::Refused)
 }
 
 /// After a comma.
