@@ -14,7 +14,7 @@ use crate::state::{Around, Branches, Done, Head, Last, Outer, Simple, Spot, Stat
 use plain_data::{Items, Shared, Stack, Text};
 use py_frames::{Places, Stop};
 use py_token::Token;
-use py_tree::{Arm, Def, Stmt};
+use py_tree::{Arm, Def, Expr, Stmt};
 use std::alloc::{AllocError, Global};
 use std::mem::drop;
 
@@ -76,7 +76,7 @@ pub fn settle(alloc: Global, done: Done, last: Last) -> Result<Done, AllocError>
             };
             add(done, tree, from, under)
         }
-        _ => Ok(done),
+        Last::Nothing | Last::Other => Ok(done),
     }
 }
 
@@ -145,6 +145,20 @@ fn define(
     Ok(Stmt::Function(Shared::new(alloc, def)?))
 }
 
+/// An `if` of these branches and one more, with nothing else.
+fn branch(
+    alloc: Global,
+    mut arms: Items<Arm>,
+    test: Expr,
+    body: Items<Stmt>,
+) -> Result<Stmt, AllocError>
+    ensures { IfOk result (λ tree. tree ≡ s.If (arms ++ record { test = test; body = body } ∷ []) []) }
+{
+    arms.push(Arm { test, body })?;
+    let other = Items::new(alloc);
+    Ok(Stmt::If { arms, other })
+}
+
 /// What a head and its block make.
 fn statement(
     alloc: Global,
@@ -157,28 +171,24 @@ fn statement(
 ) -> Result<Stmt, AllocError>
     ensures { IfOk result (λ tree. tree ≡ machine.statement_of (left_of code.now tokens.now) from left head body) }
 {
-    Ok(match head {
-        Head::Branch { mut arms, test } => {
-            arms.push(Arm { test, body })?;
-            let other = Items::new(alloc);
-            Stmt::If { arms, other }
-        }
-        Head::Else(arms) => Stmt::If { arms, other: body },
-        Head::While(test) => Stmt::While { test, body },
+    match head {
+        Head::Branch { arms, test } => branch(alloc, arms, test, body),
+        Head::Else(arms) => Ok(Stmt::If { arms, other: body }),
+        Head::While(test) => Ok(Stmt::While { test, body }),
         Head::For {
             names,
             comma,
             iterable,
-        } => Stmt::For {
+        } => Ok(Stmt::For {
             names,
             comma,
             iterable,
             body,
-        },
-        Head::Function { name, params } => {
-            define(alloc, code, tokens, from, left, name, params, body)?
-        }
-    })
+        }),
+        Head::Function { name, params } => define(
+            alloc, code, tokens, from, left, name, params, body,
+        ),
+    }
 }
 
 /// A block ends, and with it its statement, or its branch.
@@ -220,6 +230,24 @@ pub fn close(
     }
 }
 
+/// A simple statement ends after the `:` of a head, and with it the block.
+fn end_behind(
+    alloc: Global,
+    code: &str,
+    tokens: &[Token],
+    left: usize,
+    outers: Stack<Outer>,
+    outer: Outer,
+    tree: Stmt,
+    from: usize,
+    under: Places,
+) -> Result<State, AllocError>
+    ensures { IfOk result (λ state. state ≡ closed (left_of code.now tokens.now) left outers outer (add nothing tree from under)) }
+{
+    let body = add(nothing(alloc), tree, from, under)?;
+    close(alloc, code, tokens, left, outers, outer, body)
+}
+
 /// A simple statement ends.
 pub fn end_simple(
     alloc: Global,
@@ -235,10 +263,9 @@ pub fn end_simple(
     let Simple { outers, spot, from } = simple;
     match spot {
         Spot::Own(before) => close_with(outers, before, tree, from, under),
-        Spot::Behind(outer) => {
-            let body = add(nothing(alloc), tree, from, under)?;
-            close(alloc, code, tokens, left, outers, outer, body)
-        }
+        Spot::Behind(outer) => end_behind(
+            alloc, code, tokens, left, outers, outer, tree, from, under,
+        ),
     }
 }
 

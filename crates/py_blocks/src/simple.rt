@@ -5,7 +5,7 @@ ghost use Rattle.py_frames.specs.Gives.{Gives};
 ghost use Rattle.py_frames.specs.Steps as expression;
 ghost use Rattle.py_frames.specs.Ends as endings;
 ghost use Rattle.py_frames.specs.Targets as targets;
-ghost use Rattle.py_blocks.specs.declared.state.Purpose.TheVariants.{Showing, Giving};
+ghost use Rattle.py_blocks.specs.declared.state.Purpose.TheVariants.{Showing, Giving, Deleting};
 ghost use Rattle.py_blocks.specs.Source.{left_of};
 ghost use Rattle.py_blocks.specs.Blocks.{ended};
 ghost use Rattle.py_blocks.specs.Steps as machine;
@@ -16,7 +16,7 @@ use crate::names::is_new;
 use crate::state::{Place, Purpose, Simple, State, Word};
 use plain_data::{Items, Text, TextMap};
 use py_frames::{
-    Places, Sight, State as Reading, Stop, begun, end, is_begun, is_narrow, see, step,
+    Places, Sight, State as Reading, Stop, Value, begun, end, is_begun, is_narrow, see, step,
 };
 use py_token::{Keyword, Kind, Symbol, Token};
 use py_tree::{Op, Stmt, Target};
@@ -72,21 +72,37 @@ fn give(alloc: Global, reading: Reading) -> Result<(Stmt, Places), Stop>
         drop(reading);
         return Ok((Stmt::Return(None), Places::none(alloc)));
     }
-    let value = end(alloc, reading)?;
-    let under = places(value.from, value.under)?;
-    Ok((Stmt::Return(Some(value.tree)), under))
+    let Value {
+        tree,
+        from,
+        under,
+        ..
+    } = end(alloc, reading)?;
+    let under = places(from, under)?;
+    Ok((Stmt::Return(Some(tree)), under))
 }
 
 /// A value is assigned.
 fn store(alloc: Global, sight: Sight, reading: Reading) -> Result<(Stmt, Places), Stop>
     ensures { Gives result (machine.assigned sight (endings.ended reading)) }
 {
-    let value = end(alloc, reading)?;
-    let under = sight.under.beside(places(value.from, value.under)?);
+    let Sight {
+        targets,
+        divided: comma,
+        under: left,
+    } = sight;
+    let Value {
+        tree: value,
+        from,
+        under: below,
+        ..
+    } = end(alloc, reading)?;
+    let inner = places(from, below)?;
+    let under = left.beside(inner);
     let tree = Stmt::Assign {
-        targets: sight.targets,
-        comma: sight.divided,
-        value: value.tree,
+        targets,
+        comma,
+        value,
     };
     Ok((tree, under))
 }
@@ -101,14 +117,38 @@ fn update(
 ) -> Result<(Stmt, Places), Stop>
     ensures { Gives result (machine.augmented target op left (endings.ended reading)) }
 {
-    let value = end(alloc, reading)?;
-    let under = left.beside(places(value.from, value.under)?);
-    let tree = Stmt::Augment {
-        target,
-        op,
-        value: value.tree,
-    };
+    let Value {
+        tree: value,
+        from,
+        under: below,
+        ..
+    } = end(alloc, reading)?;
+    let inner = places(from, below)?;
+    let under = left.beside(inner);
+    let tree = Stmt::Augment { target, op, value };
     Ok((tree, under))
+}
+
+/// A value is shown.
+fn shown(alloc: Global, reading: Reading) -> Result<(Stmt, Places), Stop>
+    ensures { Gives result (finished Showing reading) }
+{
+    let Value {
+        tree: value,
+        from,
+        under: below,
+        ..
+    } = end(alloc, reading)?;
+    let under = places(from, below)?;
+    Ok((Stmt::Expression(value), under))
+}
+
+/// What a target names is deleted.
+fn deleted(alloc: Global, reading: Reading) -> Result<(Stmt, Places), Stop>
+    ensures { Gives result (finished Deleting reading) }
+{
+    let (target, under) = place(alloc, reading)?;
+    Ok((Stmt::Delete(target), under))
 }
 
 /// The simple statement, if it may end.
@@ -116,16 +156,9 @@ fn finish(alloc: Global, purpose: Purpose, reading: Reading) -> Result<(Stmt, Pl
     ensures { Gives result (finished purpose reading) }
 {
     match purpose {
-        Purpose::Showing => {
-            let value = end(alloc, reading)?;
-            let under = places(value.from, value.under)?;
-            Ok((Stmt::Expression(value.tree), under))
-        }
+        Purpose::Showing => shown(alloc, reading),
         Purpose::Giving => give(alloc, reading),
-        Purpose::Deleting => {
-            let (target, under) = place(alloc, reading)?;
-            Ok((Stmt::Delete(target), under))
-        }
+        Purpose::Deleting => deleted(alloc, reading),
         Purpose::Assigning(sight) => store(alloc, sight, reading),
         Purpose::Augmenting { target, op, under } => update(alloc, target, op, under, reading),
     }
