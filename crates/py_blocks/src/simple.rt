@@ -88,7 +88,7 @@ fn store(alloc: Global, sight: Sight, reading: Reading) -> Result<(Stmt, Places)
 {
     let Sight {
         targets,
-        divided: comma,
+        divided,
         under: left,
     } = sight;
     let Value {
@@ -101,7 +101,7 @@ fn store(alloc: Global, sight: Sight, reading: Reading) -> Result<(Stmt, Places)
     let under = left.beside(inner);
     let tree = Stmt::Assign {
         targets,
-        comma,
+        comma: divided,
         value,
     };
     Ok((tree, under))
