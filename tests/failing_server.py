@@ -3,7 +3,7 @@
 knows those that the Jupyter kernel needs. A cell asks for a fault:
 
   die        the session dies of want of memory, and then it is dead
-  wait       nothing is answered any more
+  wait       the input is told, and then nothing is answered any more
   end        the server ends with status 3
   garbage    what isn't a frame is sent
   nothing    the reply says nothing
@@ -40,7 +40,9 @@ class Link:
             sys.exit(3)
         if code == "garbage":
             self.peer.sendall(b"HTTP/1.1 400 Bad Request\r\n\r\n")
-        elif code != "wait":
+        elif code == "wait":
+            self.send(request, "execute_input", {"code": code, "execution_count": self.count + 1})
+        else:
             self.answer(request, "execute_reply", self.reply_to(code))
 
     def reply_to(self, code):

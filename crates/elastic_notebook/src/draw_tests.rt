@@ -78,6 +78,145 @@ static ROWS: [Row; 3] = [
     },
 ];
 
+/// A cell that draws four times, a move, and every name.
+static FOUR_DRAWS: [Asked; 7] = [
+    Asked::Open,
+    Asked::Cell("a = draw()\\nb = draw()\\nc = draw()\\nd = draw()"),
+    Asked::Move([1000, 0, 0, 0]),
+    Asked::Cell("a"),
+    Asked::Cell("b"),
+    Asked::Cell("c"),
+    Asked::Cell("d"),
+];
+
+/// Which of the four draws fails, what the feed gives, and what is written, and how often.
+struct Failing {
+    shows: &'static str,
+    draws: &'static [Drawn],
+    texts: &'static [(&'static str, usize)],
+}
+
+/// Each draw fails in turn, and then one that isn't made. What was bound before it is copied, for 1,000 each; later names have no value.
+static FAILING: [Failing; 5] = [
+    Failing {
+        shows: "the first draw fails",
+        draws: &[Drawn::Failed, Drawn::Word(11)],
+        texts: &[
+            ("[\"OSError: feed\"]", 2),
+            (
+                "{\"copied\":0,\"cost\":0,\"flow\":0,\"from\":0,\"objects\":0,\"rerun\":0,\"status\":\"ok\",\"to\":1}",
+                1,
+            ),
+            ("text/plain", 0),
+            ("[\"NameError: name 'a' is not defined\"]", 2),
+            ("[\"NameError: name 'b' is not defined\"]", 2),
+            ("[\"NameError: name 'c' is not defined\"]", 2),
+            ("[\"NameError: name 'd' is not defined\"]", 2),
+        ],
+    },
+    Failing {
+        shows: "the second draw fails",
+        draws: &[Drawn::Word(7), Drawn::Failed, Drawn::Word(11)],
+        texts: &[
+            ("[\"OSError: feed\"]", 2),
+            (
+                "{\"copied\":1,\"cost\":1000,\"flow\":1000,\"from\":0,\"objects\":0,\"rerun\":0,\"status\":\"ok\",\"to\":1}",
+                1,
+            ),
+            ("\"text/plain\":\"7\"", 1),
+            ("text/plain", 1),
+            ("[\"NameError: name 'a' is not defined\"]", 0),
+            ("[\"NameError: name 'b' is not defined\"]", 2),
+            ("[\"NameError: name 'c' is not defined\"]", 2),
+            ("[\"NameError: name 'd' is not defined\"]", 2),
+        ],
+    },
+    Failing {
+        shows: "the third draw fails",
+        draws: &[
+            Drawn::Word(7),
+            Drawn::Word(8),
+            Drawn::Failed,
+            Drawn::Word(11),
+        ],
+        texts: &[
+            ("[\"OSError: feed\"]", 2),
+            (
+                "{\"copied\":2,\"cost\":2000,\"flow\":2000,\"from\":0,\"objects\":0,\"rerun\":0,\"status\":\"ok\",\"to\":1}",
+                1,
+            ),
+            ("\"text/plain\":\"7\"", 1),
+            ("\"text/plain\":\"8\"", 1),
+            ("text/plain", 2),
+            ("[\"NameError: name 'a' is not defined\"]", 0),
+            ("[\"NameError: name 'b' is not defined\"]", 0),
+            ("[\"NameError: name 'c' is not defined\"]", 2),
+            ("[\"NameError: name 'd' is not defined\"]", 2),
+        ],
+    },
+    Failing {
+        shows: "the fourth draw fails",
+        draws: &[
+            Drawn::Word(7),
+            Drawn::Word(8),
+            Drawn::Word(9),
+            Drawn::Failed,
+            Drawn::Word(11),
+        ],
+        texts: &[
+            ("[\"OSError: feed\"]", 2),
+            (
+                "{\"copied\":3,\"cost\":3000,\"flow\":3000,\"from\":0,\"objects\":0,\"rerun\":0,\"status\":\"ok\",\"to\":1}",
+                1,
+            ),
+            ("\"text/plain\":\"7\"", 1),
+            ("\"text/plain\":\"8\"", 1),
+            ("\"text/plain\":\"9\"", 1),
+            ("text/plain", 3),
+            ("[\"NameError: name 'a' is not defined\"]", 0),
+            ("[\"NameError: name 'b' is not defined\"]", 0),
+            ("[\"NameError: name 'c' is not defined\"]", 0),
+            ("[\"NameError: name 'd' is not defined\"]", 2),
+        ],
+    },
+    Failing {
+        shows: "no draw fails",
+        draws: &[
+            Drawn::Word(7),
+            Drawn::Word(8),
+            Drawn::Word(9),
+            Drawn::Word(10),
+        ],
+        texts: &[
+            ("[\"OSError: feed\"]", 0),
+            (
+                "{\"copied\":4,\"cost\":4000,\"flow\":4000,\"from\":0,\"objects\":0,\"rerun\":0,\"status\":\"ok\",\"to\":1}",
+                1,
+            ),
+            ("\"text/plain\":\"7\"", 1),
+            ("\"text/plain\":\"8\"", 1),
+            ("\"text/plain\":\"9\"", 1),
+            ("\"text/plain\":\"10\"", 1),
+            ("text/plain", 4),
+            ("[\"NameError: name 'a' is not defined\"]", 0),
+            ("[\"NameError: name 'b' is not defined\"]", 0),
+            ("[\"NameError: name 'c' is not defined\"]", 0),
+            ("[\"NameError: name 'd' is not defined\"]", 0),
+        ],
+    },
+];
+
+#[test]
+fn a_cell_whose_kth_draw_fails_moves_with_what_it_bound(rt: HostRuntime) -> Result<(), Fail> {
+    let input = frames_of(rt.alloc(), &FOUR_DRAWS)?;
+    let words = ["run", "--hosts", "3", "--workers=2"];
+    for row in &FAILING {
+        let found = wrong(&rt, &words, input.as_slice(), row.draws, row.texts)?;
+        assert_eq!(rt; found.as_str(), "", "{}", row.shows);
+    }
+    Ok(())
+}
+
 #[test]
 fn sessions_draw_what_their_feeds_give(rt: HostRuntime) -> Result<(), Fail> {
     for row in &ROWS {

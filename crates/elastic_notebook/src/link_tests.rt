@@ -1,7 +1,7 @@
 //! What `serve` does with links over memory, and with one whose peer waits for replies.
 
 use crate::run::top;
-use crate::test_streams::{Asked, count_of, frames_of};
+use crate::test_streams::{Asked, answered, count_of, frames_of};
 use crate::waiting::{WaitingDoor, WaitingLink};
 use host_workers::OpenGate;
 use nb_links::{Door, Link, MemDoor, Script};
@@ -13,7 +13,7 @@ use std::thread::Threads;
 use std::time::Clock;
 
 /// What a session is asked: two cells after its opening.
-const ASKED: [Asked; 3] = [Asked::Open, Asked::Cell("x = 1"), Asked::Cell("x")];
+static ASKED: [Asked; 3] = [Asked::Open, Asked::Cell("x = 1"), Asked::Cell("x")];
 
 /// What says that a request is answered whole.
 const IDLE: &str = "{\"execution_state\":\"idle\"}";
@@ -52,11 +52,13 @@ fn script(alloc: Global, polls_fail: &[u64], sends_fail: &[u64]) -> Result<Scrip
     })
 }
 
-/// What `run` writes of the same frames.
-fn run_of<R: AllocGlobal + Threads + Wait + Clock + Sync>(rt: &R) -> Result<Vec<u8>, AllocError> {
-    let alloc = rt.alloc();
-    let input = frames_of(alloc, &ASKED)?;
-    let (_, written) = crate::test_streams::answered(rt, &["run"], input.as_slice(), &[], &[])?;
+/// What `run` writes of the first so many of the same frames.
+fn run_of<R: AllocGlobal + Threads + Wait + Clock + Sync>(
+    rt: &R,
+    count: usize,
+) -> Result<Vec<u8>, AllocError> {
+    let input = frames_of(rt.alloc(), ASKED.get(..count).unwrap_or(&ASKED[..]))?;
+    let (_, written) = answered(rt, &["run"], input.as_slice(), &[], &[])?;
     Ok(written)
 }
 
@@ -68,7 +70,7 @@ fn links_are_sent_what_a_run_writes_and_given_back(rt: HostRuntime) -> Result<()
     scripts.push(script(alloc, &[], &[])?)?;
     let mut door = MemDoor::new(alloc, scripts)?;
     assert_eq!(rt; served(&rt, "2", &mut door)?, 0);
-    let written = run_of(&rt)?;
+    let written = run_of(&rt, 3)?;
     assert_eq!(rt; count_of(written.as_slice(), IDLE), 3);
     assert_eq!(rt; door.back().len(), 2);
     for link in door.back() {
@@ -88,36 +90,49 @@ fn a_frontend_that_waits_for_replies_is_served(rt: HostRuntime) -> Result<(), Fa
     Ok(())
 }
 
+/// Each call of a link fails in turn, and then one that isn't made. A link is polled twice, since the first poll gives all, and it is sent
+/// the frames of each of three entries by themselves. All links are given back, and the one beside them is sent all.
 #[test]
-fn a_fault_of_one_link_is_no_fault_of_another(rt: HostRuntime) -> Result<(), Fail> {
+fn links_whose_kth_call_fails(rt: HostRuntime) -> Result<(), Fail> {
     let alloc = rt.alloc();
-    let mut scripts = Vec::new(alloc);
-    scripts.push(script(alloc, &[], &[])?)?;
-    scripts.push(script(alloc, &[], &[2])?)?;
-    scripts.push(script(alloc, &[1], &[])?)?;
-    let mut door = MemDoor::new(alloc, scripts)?;
-    assert_eq!(rt; served(&rt, "3", &mut door)?, 0);
-    let written = run_of(&rt)?;
-    let mut whole = 0u32;
-    for link in door.back() {
-        assert!(rt; written.as_slice().starts_with(link.sent()));
-        if link.sent() == written.as_slice() {
-            whole = whole.saturating_add(1);
-        }
+    let all = run_of(&rt, 3)?;
+    for before in 0..=3usize {
+        let call = (before as u64).saturating_add(1);
+        let mut scripts = Vec::new(alloc);
+        scripts.push(script(alloc, &[], &[])?)?;
+        scripts.push(script(alloc, &[call], &[])?)?;
+        scripts.push(script(alloc, &[], &[call])?)?;
+        let mut door = MemDoor::new(alloc, scripts)?;
+        assert_eq!(rt; served(&rt, "3", &mut door)?, 0, "call {call}");
+        let [whole, polled, told] = door.back() else {
+            panic!(rt; "not all links are given back: call {call}");
+        };
+        assert!(rt; whole.sent() == all.as_slice());
+        assert!(rt; all.as_slice().starts_with(polled.sent()));
+        assert!(rt; call != 1 || polled.sent().is_empty());
+        assert!(rt; call < 3 || polled.sent() == all.as_slice());
+        assert!(rt; told.sent() == run_of(&rt, before)?.as_slice());
     }
-    assert_eq!(rt; whole, 1);
     Ok(())
 }
 
+/// Each call of a door fails in turn, and then one that isn't made. The links that came before are served, and given back.
 #[test]
-fn a_door_that_fails_ends_serving(rt: HostRuntime) -> Result<(), Fail> {
+fn a_door_whose_kth_call_fails(rt: HostRuntime) -> Result<(), Fail> {
     let alloc = rt.alloc();
-    let mut scripts = Vec::new(alloc);
-    scripts.push(script(alloc, &[], &[])?)?;
-    let mut door = MemDoor::new(alloc, scripts)?;
-    assert_eq!(rt; served(&rt, "2", &mut door)?, 11);
-    assert_eq!(rt; door.back().len(), 1);
-    let mut closed = MemDoor::new(alloc, Vec::new(alloc))?;
-    assert_eq!(rt; served(&rt, "1", &mut closed)?, 11);
+    let all = run_of(&rt, 3)?;
+    for came in 0..=3usize {
+        let mut scripts = Vec::new(alloc);
+        for _ in 0..came {
+            scripts.push(script(alloc, &[], &[])?)?;
+        }
+        let mut door = MemDoor::new(alloc, scripts)?;
+        let status = if came < 3 { 11 } else { 0 };
+        assert_eq!(rt; served(&rt, "3", &mut door)?, status, "{came} came");
+        assert_eq!(rt; door.back().len(), came);
+        for link in door.back() {
+            assert!(rt; link.sent() == all.as_slice());
+        }
+    }
     Ok(())
 }

@@ -14,6 +14,8 @@ mod draw_tests;
 mod fault_tests;
 #[cfg(test)]
 mod link_tests;
+#[cfg(test)]
+mod pieces;
 pub mod run;
 mod say;
 mod streams;

@@ -1,9 +1,10 @@
 //! Streams of frames for tests, and what commands answer and write for them if draws, reads or writes go as a test says.
 
+use crate::pieces::PieceSource;
 use crate::run::top;
 use host_workers::OpenGate;
 use nb_links::TcpDoor;
-use nb_outside::{Drawn, MemFeeds, MemSink, MemSource};
+use nb_outside::{Drawn, MemFeeds, MemSink, MemSource, Source};
 use std::alloc::{AllocError, Global};
 use std::sync::Wait;
 use std::thread::Threads;
@@ -79,14 +80,14 @@ pub fn frames_of(alloc: Global, asked: &[Asked]) -> Result<Vec<u8>, AllocError> 
     Ok(out)
 }
 
-/// What a command answers and writes for these bytes, if a session's feed gives these draws and then fails, and the calls of the
-/// source and of the sink with these numbers fail.
-fn answered_by<R: AllocGlobal + Threads + Wait + Clock + Sync>(
+/// What a command answers and writes, if it reads from this source, a session's feed gives these draws and then fails, and the sink takes
+/// at most so many bytes at a write and its writes with these numbers fail.
+fn answered_by<R: AllocGlobal + Threads + Wait + Clock + Sync, S: Source>(
     rt: &R,
     words: &[&str],
-    input: &[u8],
+    source: &mut S,
     draws: &[Drawn],
-    source_fails: &[u64],
+    most: usize,
     sink_fails: &[u64],
 ) -> Result<(u8, Vec<u8>), AllocError> {
     let alloc = rt.alloc();
@@ -94,13 +95,12 @@ fn answered_by<R: AllocGlobal + Threads + Wait + Clock + Sync>(
     for word in words {
         all.push(String::from_str(alloc, word)?)?;
     }
-    let mut source = MemSource::new(input.to_vec(alloc)?, source_fails.to_vec(alloc)?);
-    let mut sink = MemSink::new(alloc, 65_536, sink_fails.to_vec(alloc)?);
+    let mut sink = MemSink::new(alloc, most, sink_fails.to_vec(alloc)?);
     let mut feeds = MemFeeds::new(draws.to_vec(alloc)?);
     let status = top(
         rt,
         all.as_slice(),
-        &mut source,
+        source,
         &mut sink,
         &mut TcpDoor::new(None),
         &mut feeds,
@@ -110,7 +110,12 @@ fn answered_by<R: AllocGlobal + Threads + Wait + Clock + Sync>(
     Ok((status, written))
 }
 
-/// The same of a command that draws nothing.
+/// A source of these bytes, whose reads with these numbers fail.
+fn source_of(alloc: Global, input: &[u8], fails: &[u64]) -> Result<MemSource, AllocError> {
+    Ok(MemSource::new(input.to_vec(alloc)?, fails.to_vec(alloc)?))
+}
+
+/// What a command answers and writes for these bytes, if the calls of the source and of the sink with these numbers fail. It draws nothing.
 pub fn answered<R: AllocGlobal + Threads + Wait + Clock + Sync>(
     rt: &R,
     words: &[&str],
@@ -118,17 +123,43 @@ pub fn answered<R: AllocGlobal + Threads + Wait + Clock + Sync>(
     source_fails: &[u64],
     sink_fails: &[u64],
 ) -> Result<(u8, Vec<u8>), AllocError> {
-    answered_by(rt, words, input, &[], source_fails, sink_fails)
+    let mut source = source_of(rt.alloc(), input, source_fails)?;
+    answered_by(rt, words, &mut source, &[], 65_536, sink_fails)
 }
 
-/// The same of a command whose calls don't fail.
+/// The same if reads give at most so many bytes, and the one with this number fails.
+pub fn answered_reading<R: AllocGlobal + Threads + Wait + Clock + Sync>(
+    rt: &R,
+    words: &[&str],
+    input: &[u8],
+    most: usize,
+    fails: u64,
+) -> Result<(u8, Vec<u8>), AllocError> {
+    let mut source = PieceSource::new(rt.alloc(), input, most, fails)?;
+    answered_by(rt, words, &mut source, &[], 65_536, &[])
+}
+
+/// The same if writes take at most so many bytes, and the one with this number fails.
+pub fn answered_writing<R: AllocGlobal + Threads + Wait + Clock + Sync>(
+    rt: &R,
+    words: &[&str],
+    input: &[u8],
+    most: usize,
+    fails: u64,
+) -> Result<(u8, Vec<u8>), AllocError> {
+    let mut source = source_of(rt.alloc(), input, &[])?;
+    answered_by(rt, words, &mut source, &[], most, &[fails])
+}
+
+/// The same of a command whose session's feed gives these draws and then fails.
 pub fn answered_drawing<R: AllocGlobal + Threads + Wait + Clock + Sync>(
     rt: &R,
     words: &[&str],
     input: &[u8],
     draws: &[Drawn],
 ) -> Result<(u8, Vec<u8>), AllocError> {
-    answered_by(rt, words, input, draws, &[], &[])
+    let mut source = source_of(rt.alloc(), input, &[])?;
+    answered_by(rt, words, &mut source, draws, 65_536, &[])
 }
 
 /// How often the text comes in the bytes.

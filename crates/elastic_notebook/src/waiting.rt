@@ -188,7 +188,7 @@ pub enum ReadsAfter {
 }
 
 /// Copies as many bytes as fit to the front of `into`, and says how many.
-fn fill(into: &mut [u8], from: &[u8]) -> usize
+pub fn fill(into: &mut [u8], from: &[u8]) -> usize
     ensures { result ≤ length into.old }
 {
     let count = from.len().min(into.len());

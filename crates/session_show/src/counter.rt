@@ -1,5 +1,5 @@
 //! The least engine: a counter. Each ask adds one, and a restart sets it back. It dies at 4. At 2 it holds a handle, and so it
-//! can't move. At 3 host 2 has no memory for it.
+//! can't move. Each of its calls can be refused for want of memory: `run` by a question, `pack` by a weight, `unpack` by the host.
 
 ghost use Rattle.std.specs.Prelude.{◌≡◌, ◌⊎◌, ◌+◌, ◌<◌, codes, IfOk, MatchResult, [], ◌∷◌, None, false};
 ghost use Rattle.graph_model.specs.Plans.{AreAdmitted};
@@ -69,6 +69,10 @@ impl Engine for Counter {
     fn run<F: Feed>(&mut self, alloc: Global, ask: &Ask, feed: &mut F) -> Result<Done, RunFault> {
         draws_add_up();
         let drawn = feed.draw();
+        // A question whether a code is a whole cell finds no memory, so that the tables can show it.
+        if let Ask::Complete { .. } = ask {
+            return Err(RunFault::OutOfMemory);
+        }
         let Ok(draws) = Items::from_slice(alloc, &[drawn]) else {
             return Err(RunFault::OutOfMemory);
         };
@@ -92,7 +96,7 @@ impl Engine for Counter {
         if let Err(fault) = check(alloc, weights) {
             return Err(PackFault::BadWeights(fault));
         }
-        // With this weight memory runs out, so that the tables can show it.
+        // With this weight memory runs out.
         if weights.run_base == 7 {
             return Err(PackFault::OutOfMemory);
         }
@@ -113,7 +117,8 @@ impl Engine for Counter {
             [total] => u32::from(*total),
             _ => return Err(AllocError),
         };
-        if host == 2 && total == 3 {
+        // This host has no memory.
+        if host == 2 {
             return Err(AllocError);
         }
         Ok((Counter { total, host }, total))

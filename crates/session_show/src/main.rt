@@ -1,18 +1,22 @@
 //! Shows the journal of a session over the least engine (`counter`), for tables of cases.
 //!
 //! Each line of standard input has what is asked of a session on host 0 of 3, one after the other, with a space between: `info`,
-//! `restart`, `end` (a shutdown without a restart), `move:H:W` (a move to the host H; W is one of the four weights, and the
-//! others are 0; with a W of 7 memory runs out). For each line one is printed: a word for each entry of the journal.
+//! `complete` (memory runs out for it), `restart`, `end` (a shutdown without a restart), `move:H:W` (a move to the host H; W is one of
+//! the four weights, and the others are 0). With a W of 7 memory runs out as the session is packed, and at host 2 as it is unpacked.
+//! For each line one is printed: a word with numbers for each entry of the journal. The session is one on a single thread; with
+//! `node` before the rest of the line it is one of a node, whose hosts have a worker each.
 #![tactic(auto)]
 
 ghost use Rattle.std.specs.Prelude.{◌≡◌, IfOk};
 
+mod asks;
 mod counter;
+mod node;
 mod words;
 
-use anyhow::{Result, bail};
+use anyhow::Result;
+use asks::ask_of;
 use counter::Counter;
-use graph_model::Weights;
 use nb_outside::{Drawn, MemFeed};
 use plain_data::Text;
 use session_core::{Alone, Ask, Channel, Engine, Header, Request};
@@ -61,46 +65,12 @@ fn answered(
     Ok(session.answer(alloc, feed, request))
 }
 
-fn number_of(text: &str) -> Result<u64> {
-    match u64::from_str_radix(text, 10) {
-        Ok(number) => Ok(number),
-        Err(_) => bail!("{text} is no number"),
-    }
-}
-
-fn move_of(words: &str) -> Result<Ask> {
-    let Some((host, weight)) = words.split_once(":") else {
-        bail!("a move has a host and a weight")
-    };
-    Ok(Ask::Migrate {
-        to: number_of(host)?,
-        weights: Weights {
-            copy_base: 0,
-            per_byte: 0,
-            run_base: number_of(weight)?,
-            per_step: 0,
-        },
-    })
-}
-
-fn ask_of(word: &str) -> Result<Ask> {
-    match word {
-        "info" => Ok(Ask::Info),
-        "restart" => Ok(Ask::Shutdown { restart: true }),
-        "end" => Ok(Ask::Shutdown { restart: false }),
-        _ => match word.strip_prefix("move:") {
-            Some(words) => move_of(words),
-            None => bail!("nothing is asked by {word}"),
-        },
-    }
-}
-
-/// What the journal says of a session that was asked all this.
+/// What the journal says of a session on one thread that was asked all this.
 fn told(alloc: Global, asked: &str) -> Result<Text> {
     let mut feed = MemFeed::new(vec![in alloc; Drawn::Word(7), Drawn::Word(8)]?);
     let mut session = opened(alloc)?;
     for word in asked.split(" ") {
-        let ask = ask_of(word)?;
+        let ask = ask_of(alloc, word)?;
         session = answered(alloc, session, &mut feed, ask)?;
     }
     session.is_legal();
@@ -114,7 +84,10 @@ fn main(rt: HostRuntime) -> Result<()> {
     let input = BufReader::new(alloc, rt.stdin())?;
     for line in input.lines(alloc) {
         let line = line?;
-        let words = told(alloc, line.as_str())?;
+        let words = match line.as_str().strip_prefix("node ") {
+            Some(asked) => node::told(&rt, asked)?,
+            None => told(alloc, line.as_str())?,
+        };
         println!(rt; "{}", words.as_str())?;
     }
     Ok(())

@@ -8,3 +8,4 @@ pub mod OneReason
 pub mod OneEntry
 pub mod OneList
 pub mod OneJournal
+pub mod Ended

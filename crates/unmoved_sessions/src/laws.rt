@@ -1,4 +1,4 @@
-ghost use Rattle.std.specs.Prelude.{◌≡◌, ℕ, List, [], ◌∷◌, Option};
+ghost use Rattle.std.specs.Prelude.{◌≡◌, ℕ, List, [], ◌∷◌, ◌++◌, Option};
 ghost use Rattle.std.specs.List.{AllByRecursion};
 ghost use Rattle.nb_outside.specs.declared.feed.Drawn.{Drawn};
 ghost use Rattle.session_core.specs.declared.entry.Entry.{Entry};
@@ -11,6 +11,10 @@ ghost use Rattle.std.specs.Prelude.{Some};
 ghost use Rattle.unmoved_sessions.specs.Alike.{HadMemoryThroughout, AreAlike};
 ghost use Rattle.unmoved_sessions.specs.Cells.{AsksCell, IsNoDeath};
 ghost use Rattle.unmoved_sessions.specs.Answered.{AreAnswered, AreAnsweredUntilDeath};
+ghost use Rattle.session_core.specs.Legal.{IsLegal};
+ghost use Rattle.unmoved_sessions.specs.Ended.{EndsSession, TellsDeath};
+
+use session_core::Engine;
 
 /// If nothing but cells is asked of a session, and it doesn't die, its journal is its opening and then, for each cell in turn,
 /// the reply of a session that never moves.
@@ -32,4 +36,11 @@ pub fn a_session_of_cells_never_moves_until_it_dies()
 pub fn a_session_has_one_journal()
     ensures { (hosts : ℕ) (gives : List Drawn) (s : Taken) (es fs : List Entry) → control_requests s ≡ [] → IsJournalOf notebooks hosts (Some gives) s es → IsJournalOf notebooks hosts (Some gives) s fs
         → HadMemoryThroughout es → HadMemoryThroughout fs → AreAlike es fs }
+{}
+
+/// A dead session stays dead, whatever its engine: after a death, and after a shutdown without a restart, each entry of a legal journal
+/// says that the session is dead, or refuses a move for that.
+pub fn a_dead_session_stays_dead<E: Engine>()
+    ensures { (hosts : ℕ) (journal before later : List Entry) (e : Entry) → IsLegal E.meaning hosts journal → journal ≡ before ++ e ∷ later → EndsSession e
+        → AllByRecursion TellsDeath later }
 {}

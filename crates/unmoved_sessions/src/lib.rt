@@ -3,6 +3,8 @@
 //!
 //! Whatever is asked of a session on shell, it has one journal, but for the certificates of its moves, unless memory runs out.
 //!
+//! A session that is dead says nothing but that, for good.
+//!
 //! The laws are contracts of functions that do nothing.
 #![tactic(auto)]
 
@@ -10,7 +12,7 @@ mod laws;
 mod streams;
 
 pub use laws::{
-    a_session_has_one_journal, a_session_of_cells_is_one_that_never_moves,
-    a_session_of_cells_never_moves_until_it_dies,
+    a_dead_session_stays_dead, a_session_has_one_journal,
+    a_session_of_cells_is_one_that_never_moves, a_session_of_cells_never_moves_until_it_dies,
 };
 pub use streams::a_stream_of_cells_is_answered_as_by_a_session_that_never_moves;
