@@ -12,7 +12,7 @@ import time
 
 TOP = os.path.dirname(os.path.dirname(os.path.realpath(__file__)))
 # What a program is given as `rt run` starts it once it is built.
-WORDS = {"elastic_notebook": ["run"], "read_bench": ["1"], "plan_bench": [], "reader_show": [], "frames_show": [], "session_show": [], "history_show": [], "checkpoint_show": []}
+WORDS = {"elastic_notebook": ["run"], "plan_bench": [], "reader_show": [], "frames_show": [], "session_show": [], "history_show": []}
 
 
 def launcher():

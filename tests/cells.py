@@ -18,7 +18,7 @@ import threading
 import warnings
 
 sys.dont_write_bytecode = True
-from values import BUILTINS, METHODS, Builtin, DictOf, Function, Handle, ListOf, Operations, Raised
+from values import BUILTINS, METHODS, SEQUENCES, Builtin, DictOf, Function, Handle, ListOf, Operations, Raised, TupleOf
 from values import cut, is_number, kind, quoted, size, type_error, weight
 
 CASES = f"{os.path.dirname(os.path.realpath(__file__))}/cases"
@@ -144,12 +144,18 @@ class Cell(Operations):
         self.delete(container, self.evaluate(target.slice, level + 1))
 
     def do_Assign(self, s, level):
-        target = s.targets[0]
-        value = self.evaluate(s.value, level + 1)
+        self.give(s.targets[0], self.evaluate(s.value, level + 1), level)
+
+    def give(self, target, value, level):
+        """Gives a value to a target, or unpacks it where a comma stands among targets."""
         if isinstance(target, ast.Name):
-            return self.bind(target.id, value)
-        container = self.evaluate(target.value, level + 1)
-        self.store(container, self.evaluate(target.slice, level + 1), value)
+            self.bind(target.id, value)
+        elif isinstance(target, ast.Tuple):
+            for one, it in zip(target.elts, self.unpacked(value, len(target.elts))):
+                self.give(one, it, level)
+        else:
+            container = self.evaluate(target.value, level + 1)
+            self.store(container, self.evaluate(target.slice, level + 1), value)
 
     def do_AugAssign(self, s, level):
         target = s.target
@@ -192,7 +198,7 @@ class Cell(Operations):
     def do_For(self, s, level):
         for value in self.source(s.iter, level + 1):
             self.step()
-            self.bind(s.target.id, value)
+            self.give(s.target, value, level)
             ends, flow = self.after(self.block(s.body, level + 1))
             if ends:
                 return flow
@@ -218,13 +224,13 @@ class Cell(Operations):
     def iterate(self, value):
         if type(value) is str:
             return iter(value)
-        if type(value) is ListOf:
-            return self.over_list(value)
+        if type(value) in SEQUENCES:
+            return self.over_items(value)
         if type(value) is DictOf:
             return self.over_dict(value)
         raise type_error(f"'{kind(value)}' object is not iterable")
 
-    def over_list(self, value):
+    def over_items(self, value):
         at = 0
         while at < len(value.items):
             yield value.items[at]
@@ -262,10 +268,16 @@ class Cell(Operations):
         return self.look(e.id)
 
     def on_List(self, e, level):
+        return self.display(ListOf, e.elts, level)
+
+    def on_Tuple(self, e, level):
+        return self.display(TupleOf, e.elts, level)
+
+    def display(self, sort, elements, level):
         self.step()
-        items = [self.evaluate(it, level + 1) for it in e.elts]
+        items = [self.evaluate(it, level + 1) for it in elements]
         self.charge(1 + sum(map(weight, items)))
-        return ListOf(items)
+        return sort(items)
 
     def on_Dict(self, e, level):
         self.step()
@@ -335,14 +347,7 @@ class Cell(Operations):
         container = self.evaluate(e.value, level + 1)
         if not isinstance(e.slice, ast.Slice):
             return self.item(container, self.evaluate(e.slice, level + 1))
-        bounds = [it and [self.evaluate(it, level + 1)] for it in (e.slice.lower, e.slice.upper)]
-        if type(container) not in (str, ListOf):
-            raise type_error(f"'{kind(container)}' object is not subscriptable")
-        for it in bounds:
-            if it and not is_number(it[0]):
-                raise type_error("indices must be integers")
-        cut = slice(*[it and int(it[0]) for it in bounds])
-        return self.text(container[cut]) if type(container) is str else self.list_of(container.items[cut])
+        return self.sliced(container, [it and [self.evaluate(it, level + 1)] for it in (e.slice.lower, e.slice.upper)])
 
     def on_Call(self, e, level):
         self.step()
@@ -387,8 +392,8 @@ class Cell(Operations):
     def call_len(self, value, level):
         if type(value) is str:
             return len(value)
-        if type(value) in (ListOf, DictOf):
-            return len(value.items if type(value) is ListOf else value.pairs)
+        if type(value) in (*SEQUENCES, DictOf):
+            return len(value.pairs if type(value) is DictOf else value.items)
         raise type_error("wrong argument for len()")
 
     def call_str(self, value, level):

@@ -223,9 +223,9 @@ class PartBytes(Bytes):
 
     def object(self, number):
         tag = self.byte()
-        self.refuse_if(tag not in (16, 17, 18) or number >= self.met)
-        if tag == 16:
-            return "list", self.many(self.value)
+        self.refuse_if(tag not in (16, 17, 18, 19) or number >= self.met)
+        if tag in (16, 19):
+            return "list" if tag == 16 else "tuple", self.many(self.value)
         if tag == 17:
             return "dict", self.pairs()
         source = self.text()
@@ -348,7 +348,7 @@ def read(data):
 
 
 def reading(data):
-    """The lines that checkpoint_show says of bytes, and its status."""
+    """The lines that history_show says of bytes, and the status that they have from `restore` and `plan`."""
     try:
         it = read(data)
     except Bad as bad:
@@ -369,7 +369,7 @@ def load(session, part):
             session.elifs |= cells.elifs_of(tree, given)
             objects.append(cells.Function(tree.body[0], given.encode()))
         else:
-            objects.append(cells.ListOf([]) if kind == "list" else cells.DictOf())
+            objects.append({"list": cells.ListOf, "tuple": cells.TupleOf}[kind]([]) if kind != "dict" else cells.DictOf())
 
     def value(it):
         if it[0] == "object":
@@ -377,7 +377,7 @@ def load(session, part):
         return cells.BUILTINS[histories.ORDER[it[1]]] if it[0] == "builtin" else it[1]
 
     for made, (kind, given) in zip(objects, part.objects):
-        if kind == "list":
+        if kind in ("list", "tuple"):
             made.items = list(map(value, given))
         elif kind == "dict":
             made.pairs = {key: value(it) for key, it in given.items()}

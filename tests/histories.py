@@ -13,7 +13,7 @@ import sys
 
 import cells
 
-OBJECTS = (cells.ListOf, cells.DictOf, cells.Function, cells.Handle)
+OBJECTS = (*cells.SEQUENCES, cells.DictOf, cells.Function, cells.Handle)
 ORDER = "print len str repr int range draw handle tell".split()
 CHANGES = "append insert pop extend clear".split()
 
@@ -82,7 +82,7 @@ class Watched(cells.Cell):
 
 def held_by(it):
     """The values in an object."""
-    if type(it) is cells.ListOf:
+    if type(it) in cells.SEQUENCES:
         return it.items
     return list(it.pairs.values()) if type(it) is cells.DictOf else []
 
@@ -140,8 +140,8 @@ def part_bytes(names, values):
     out = struct.pack(">I", len(names)) + b"".join(bytes([len(it.encode())]) + it.encode() for it in names)
     out += b"".join(value_bytes(it, number) for it in values) + struct.pack(">I", len(objects))
     for it in objects:
-        if type(it) is cells.ListOf:
-            out += b"\x10" + struct.pack(">I", len(it.items)) + b"".join(value_bytes(one, number) for one in it.items)
+        if type(it) in cells.SEQUENCES:
+            out += (b"\x10" if type(it) is cells.ListOf else b"\x13") + struct.pack(">I", len(it.items)) + b"".join(value_bytes(one, number) for one in it.items)
         elif type(it) is cells.DictOf:
             out += b"\x11" + struct.pack(">I", len(it.pairs)) + b"".join(value_bytes(one, number) for pair in it.pairs.items() for one in pair)
         else:

@@ -7,8 +7,8 @@
 
 It goes by the rules of docs/LANGUAGE.md alone, and shares nothing with the program: the grammar is text, read by a recognizer for any
 grammar (Earley's), which keeps all ways of reading at once. So the failing token is the first after which no way is left. A word in
-angle brackets in the grammar is a mark: what a token that fails exactly there is named. Of a text that fails, nodes are counted in
-the cells that its tokens begin and that end soonest. It is slow: for codes of some hundred tokens. Python 3, standard library.
+angle brackets in the grammar is a mark: what a token that fails exactly there is named. A text that fails is too deep where the
+cells are that its tokens begin and that end soonest: the latest of their places, if each has one. It is slow: for codes of some hundred tokens. Python 3, standard library.
 """
 import collections
 import json
@@ -172,16 +172,18 @@ GRAMMAR = """
 cell       = { statement/T } "END"
 alone      = def "END"
 statement@ = simple@ "NEWLINE" | if@ | while@ | for@ | <def:nested function>
-simple@    = "pass" | "del" target | target "=" expr [ <,:tuple> | <=:chained assignment> ] | target augment expr [ <,:tuple> ] | expr [ <,:tuple> ]
+simple@    = "pass" | "del" target | targets "=" exprs [ <=:chained assignment> ] | target augment exprs | exprs
+targets    = target { "," target } [ "," ]
 target     = "NAME" | primary "[" expr "]"
 augment    = "+=" | "-=" | "*=" | "//=" | "%="
-if@        = "if" head ":" block/inner { "elif" head ":" block/inner } [ "else" ":" block/inner ]
-while@     = "while" head ":" block/loop
-for@       = "for" "NAME" "in" head ":" block/loop
-head       = expr [ <,:tuple> ]
+if@        = "if" expr ":" block/inner { "elif" expr ":" block/inner } [ "else" ":" block/inner ]
+while@     = "while" expr ":" block/loop
+for@       = "for" names "in" exprs ":" block/loop
+names      = "NAME" { "," "NAME" } [ "," ]
 def        = "def" "NAME" "(" [ param { "," param } [ "," ] ] ")" ":" block/F
 param      = "PARAM" [ <=:default> ]
 block@     = simple@ "NEWLINE" | "NEWLINE" "INDENT" statement@ { statement@ } "DEDENT" | <def:nested function>
+exprs      = expr { "," expr } [ "," ]
 expr       = or [ "if" or "else" expr ]
 or         = and { "or" and }
 and        = not { "and" not }
@@ -195,16 +197,16 @@ primary    = atom { postfix }
 postfix    = "(" args ")" | "[" expr "]" | "[" [ expr ] ":" [ expr ] "]" | "." "NAME" ( "(" args ")" | <*:attribute> )
 args       = [ expr { "," expr } [ "," | <for:comprehension> | <=:keyword argument> ] ]
 atom       = "NAME" | "NUMBER" | "TEXT" | "None" | "True" | "False"
-           | "(" ( expr [ <,:tuple> ] | <):tuple> ) ")" | "[" args "]" | "{" [ first { "," pair } [ "," ] ] "}"
+           | "(" [ exprs ] ")" | "[" args "]" | "{" [ first { "," pair } [ "," ] ] "}"
 first      = expr ( ":" expr | <,:set> | <}:set> )
 pair       = expr ":" expr
 """
 # The top of a cell, a block of the cell, one in a loop, a function's block, one in a loop of the function.
 CONTEXTS = {"T": ("B", "L"), "B": ("B", "L"), "L": ("L", "L"), "F": ("F", "G"), "G": ("G", "G")}
 IN_LOOP = ' | "break" | "continue"'
-IN_FUNCTION = ' | "return" [ expr [ <,:tuple> ] ] | "global" "GLOBAL" { "," "GLOBAL" }'
+IN_FUNCTION = ' | "return" [ exprs ] | "global" "GLOBAL" { "," "GLOBAL" }'
 # Where two names fit, the first counts.
-ORDER = ["tuple", "comprehension", "set", "is", "attribute", "chained assignment", "keyword argument", "default", "nested function"]
+ORDER = ["comprehension", "set", "is", "attribute", "chained assignment", "keyword argument", "default", "nested function"]
 
 
 def rules_in_text():
@@ -340,11 +342,14 @@ CLOSERS = ["END", "DEDENT", "NEWLINE", ")", "]", "}", "NAME", ":", "PARAM", "GLO
 
 
 def ended(chart, tokens, to_target):
-    """The tokens and the chart of a cell that begins with these and ends soon: what is read is assigned to if it may, or it isn't."""
-    tokens = list(tokens)
+    """The tokens and the chart of a cell that begins with these and ends soon: what is read is assigned to if it may, also as the
+    value of an item, or it isn't."""
+    tokens, items = list(tokens), to_target
     order = ["=", *CLOSERS] if to_target else CLOSERS
     while not tokens or tokens[-1].kind != "END":
         kind = next(it for it in order if chart.has(f'"{it}"'))
+        if items and kind == "NEWLINE" and chart.has('"["'):
+            kind, items = "[", False
         name = f"new{len(tokens)}"
         tokens.append(Token("NAME" if kind in ("PARAM", "GLOBAL") else kind, name, -1))
         chart = chart.goes_on(tokens, len(tokens) - 1)
@@ -392,7 +397,7 @@ class Trees:
 
 
 STATEMENTS = ("simple", "if", "while", "for", "def")
-CHAINS = ("expr", "or", "and", "not", "compare", "sum", "product", "sign")
+CHAINS = ("exprs", "expr", "or", "and", "not", "compare", "sum", "product", "sign")
 
 
 def nodes_of(chart, tokens, top):
@@ -417,13 +422,18 @@ def nodes_of(chart, tokens, top):
     return counts
 
 
+def first_deep(tokens, chart, top):
+    """The number of the first token that more than 64 nodes hold; none is as the end."""
+    counts = nodes_of(chart, tokens, top)
+    return next((it for it in range(len(tokens)) if counts.get(it, 0) > DEEPEST), len(tokens))
+
+
 def stop_on_depth(tokens, chart, number, top):
-    """Refuses the first token before the failing one that more than 64 nodes hold, however the text goes on."""
+    """Refuses a cell that is too deep, or the tokens before the failing one if each cell that they begin is, at one of them."""
     ways = [(tokens, chart)] if number is None else [ended(chart, tokens[:number], it) for it in (False, True)]
-    counts = [nodes_of(chart, those, top) for those, chart in ways]
-    for at in range(len(tokens) if number is None else number):
-        if min(it[at] for it in counts) > DEEPEST:
-            raise Fault(f"too deep at byte {tokens[at].at}")
+    at = max(first_deep(those, chart, top) for those, chart in ways)
+    if at < (len(tokens) if number is None else number):
+        raise Fault(f"too deep at byte {tokens[at].at}")
 
 
 # ---- the answers
@@ -492,12 +502,13 @@ def completeness(code):
 SITUATIONS = {
     "a line begins": ["", "a\n", "if a: b\n", "def f(): a\n", "if a:\n  b\n", "while a:\n  b\n  ", "def f():\n  a\n  ", "def f():\n  while a:\n    b\n    ", "if a:\n  if b: c\n  "],
     "in a simple statement": ["a", "a[0]", "a()", "a + b", "1", "a if b else c", "a = b", "a[0] = b", "a += b", "del a", "del a[0]", "del a()", "del (a)", "def f(): return a", "def f(): return "],
+    "after a comma of a simple statement": ["a, ", "a, b, ", "a[0], b(), ", "a + b, ", "()", "(), ", "(a, b)", "a, b", "a, b[0]", "a, (b)", "a, 1", "a, b = ", "a, = b", "a, b = c", "a, b = c, ", "a = b, ", "a = b, c", "a += b, ", "def f(): return a, ", "def f(): return a, b"],
     "after a word": ["pass", "while a: break", "while a: continue", "if a: pass"],
     "in a global": ["def f(): global ", "def f(): global a, "],
     "after a name of a global": ["def f(): global a", "def f(a): global b"],
-    "in a test": ["if ", "if a", "while a", "for x in a", "if a: b\nelif ", "if a: b\nelif c", "for x in "],
-    "after for": ["for "],
-    "after the name of a for": ["for x "],
+    "in a test": ["if ", "if a", "while a", "for x in a", "if a: b\nelif ", "if a: b\nelif c", "for x in ", "for x in a, ", "for x in a, b", "if (a, b)"],
+    "after for": ["for ", "for x, ", "for x, y, "],
+    "after the name of a for": ["for x ", "for x, y "],
     "after else": ["if a: b\nelse "],
     "after def": ["def "],
     "after the name of a def": ["def f "],
@@ -506,8 +517,8 @@ SITUATIONS = {
     "after the parameters": ["def f()"],
     "after a colon": ["if a:", "while a:", "for x in a:", "def f():", "if a: b\nelse:", "while a:\n  if b:", "def f():\n  if a:"],
     "after a line's end": ["if a:\n", "while a:\n  ", "def f():\n  ", "def f():\n  while a:\n    "],
-    "an operand is to come": ["a = ", "a + ", "a * ", "not ", "-", "a or ", "a and ", "a < ", "a if ", "a if b else ", "(", "[", "[a, ", "{", "{a: ", "{a: b, ", "f(", "f(a, ", "a.m(", "a[", "a[:", "a[b:", "del ", "a in "],
-    "an operand was read": ["(a", "(a.m()", "[a", "[a, b", "{a", "{a: b", "{a: b, c", "f(a", "f(a, b", "a.m(b", "a[b", "a[:b", "a[b:c", "(not a", "(-a", "(a if b", "(a if b else c", "[(a", "[a][b", "f(a if b", "[a + b", "{-a"],
+    "an operand is to come": ["a = ", "a + ", "a * ", "not ", "-", "a or ", "a and ", "a < ", "a if ", "a if b else ", "(", "[", "[a, ", "{", "{a: ", "{a: b, ", "f(", "f(a, ", "a.m(", "a[", "a[:", "a[b:", "del ", "a in ", "(a, ", "(a, b, ", "x = (a, ", "[(a, ", "f((a, "],
+    "an operand was read": ["(a, b", "((a), b", "(a, not b", "[(a, b", "f((a, b", "a[(b, c", "{(a, b", "(a", "(a.m()", "[a", "[a, b", "{a", "{a: b", "{a: b, c", "f(a", "f(a, b", "a.m(b", "a[b", "a[:b", "a[b:c", "(not a", "(-a", "(a if b", "(a if b else c", "[(a", "[a][b", "f(a if b", "[a + b", "{-a"],
     "after is None": ["a is None", "(a is None", "[a is not None", "{a is None", "x = a is None", "if a is None", "f(a is None"],
     "after is": ["a is ", "(a is ", "if a is ", "x = a == b is "],
     "after is not": ["a is not ", "(a is not ", "[a is not "],

@@ -20,6 +20,11 @@ class ListOf:
         self.items = items
 
 
+class TupleOf:
+    def __init__(self, items):
+        self.items = items
+
+
 class DictOf:
     def __init__(self):
         # Python's own dict keeps the position and the spelling of a key that is there, and True is 1 to it.
@@ -44,8 +49,11 @@ class Builtin:
 
 
 BUILTINS = {it: Builtin(it) for it in "print len str repr int range draw handle tell".split()}
-KINDS = {type(None): "NoneType", bool: "bool", int: "int", str: "str", ListOf: "list", DictOf: "dict", Function: "function", Handle: "handle"}
-KINDS[Builtin] = "builtin_function_or_method"
+KINDS = {type(None): "NoneType", bool: "bool", int: "int", str: "str", ListOf: "list", TupleOf: "tuple", DictOf: "dict", Function: "function"}
+KINDS |= {Handle: "handle", Builtin: "builtin_function_or_method"}
+# What an operator, a slice or an index does to a list it does to a tuple.
+SEQUENCES = (ListOf, TupleOf)
+BRACKETS = {ListOf: "[]", TupleOf: "()", DictOf: "{}"}
 SIGNS = {ast.Add: "+", ast.Sub: "-", ast.Mult: "*", ast.FloorDiv: "//", ast.Mod: "%"}
 CALCULATED = {ast.Add: operator.add, ast.Sub: operator.sub, ast.Mult: operator.mul, ast.FloorDiv: operator.floordiv, ast.Mod: operator.mod}
 ORDERS = {ast.Lt: "<", ast.LtE: "<=", ast.Gt: ">", ast.GtE: ">="}
@@ -137,15 +145,16 @@ class Operations:
         self.charge(units)
         return make()
 
-    def list_of(self, items):
+    def sequence_of(self, sort, items):
+        """A new list or tuple of copied items."""
         self.charge(1 + sum(map(weight, items)))
         self.step(len(items))
-        return ListOf(items)
+        return sort(items)
 
     # ---- operators
 
     def truth(self, value):
-        if type(value) is ListOf:
+        if type(value) in SEQUENCES:
             return bool(value.items)
         if type(value) is DictOf:
             return bool(value.pairs)
@@ -163,18 +172,18 @@ class Operations:
             return self.number(CALCULATED[op](left, right))
         if op is ast.Add and type(left) is type(right) is str:
             return self.text(left + right)
-        if op is ast.Add and type(left) is type(right) is ListOf:
-            return self.list_of(left.items + right.items)
+        if op is ast.Add and type(left) is type(right) in SEQUENCES:
+            return self.sequence_of(type(left), left.items + right.items)
         if op is ast.Mult and (is_number(left) or is_number(right)):
             held, times = (right, left) if is_number(left) else (left, right)
             times = max(0, int(times))
             if type(held) is str:
                 return self.text_of_size(size(held) * times, lambda: held * times if held else "")
-            if type(held) is ListOf:
+            if type(held) in SEQUENCES:
                 count = len(held.items) * times
                 self.charge(1 + sum(map(weight, held.items)) * times)
                 self.step(count)
-                return ListOf(held.items * times if count else [])
+                return type(held)(held.items * times if count else [])
         raise type_error(f"unsupported operand type(s) for {SIGNS[op]}: '{kind(left)}' and '{kind(right)}'")
 
     def compare(self, op, left, right, level):
@@ -200,7 +209,7 @@ class Operations:
             return left == right
         if type(left) is not type(right):
             return False
-        if type(left) is ListOf:
+        if type(left) in SEQUENCES:
             return len(left.items) == len(right.items) and all(self.pair(v, w, level + 1) for v, w in zip(left.items, right.items))
         if type(left) is DictOf:
             if len(left.pairs) != len(right.pairs):
@@ -209,7 +218,7 @@ class Operations:
         return left is right
 
     def ordered(self, op, left, right, level):
-        if type(left) is type(right) is ListOf:
+        if type(left) is type(right) in SEQUENCES:
             at = 0
             while at < len(left.items) and at < len(right.items):
                 v, w = left.items[at], right.items[at]
@@ -226,7 +235,7 @@ class Operations:
             if type(value) is not str:
                 raise type_error(f"'in <string>' requires string as left operand, not {kind(value)}")
             return value in container
-        if type(container) is ListOf:
+        if type(container) in SEQUENCES:
             return any(self.pair(value, it, level + 1) for it in container.items)
         if type(container) is DictOf:
             return self.key(value) in container.pairs
@@ -257,11 +266,35 @@ class Operations:
     def item(self, container, at):
         if type(container) is str:
             return self.text(container[self.position(len(container), at, "string index out of range")])
-        if type(container) is ListOf:
-            return container.items[self.position(len(container.items), at, "list index out of range")]
+        if type(container) in SEQUENCES:
+            return container.items[self.position(len(container.items), at, f"{kind(container)} index out of range")]
         if type(container) is DictOf:
             return self.under(container, at)
         raise type_error(f"'{kind(container)}' object is not subscriptable")
+
+    def sliced(self, container, bounds):
+        if type(container) not in (str, *SEQUENCES):
+            raise type_error(f"'{kind(container)}' object is not subscriptable")
+        for it in bounds:
+            if it and not is_number(it[0]):
+                raise type_error("indices must be integers")
+        part = slice(*[it and int(it[0]) for it in bounds])
+        return self.text(container[part]) if type(container) is str else self.sequence_of(type(container), container.items[part])
+
+    def unpacked(self, value, count):
+        """The values that a value is unpacked into, for so many targets."""
+        if type(value) in SEQUENCES:
+            items = value.items
+        elif type(value) in (DictOf, str):
+            items = value.pairs if type(value) is DictOf else value
+        else:
+            raise type_error(f"cannot unpack non-iterable {kind(value)} object")
+        if len(items) > count:
+            raise Raised("ValueError", f"too many values to unpack (expected {count})")
+        if len(items) < count:
+            raise Raised("ValueError", f"not enough values to unpack (expected {count}, got {len(items)})")
+        self.step(count)
+        return list(items)
 
     def under(self, container, key):
         if self.key(key) not in container.pairs:
@@ -334,7 +367,7 @@ class Operations:
             if name == "split":
                 if not args[0]:
                     raise Raised("ValueError", "empty separator")
-                return self.list_of(on.split(args[0]))
+                return self.sequence_of(ListOf, on.split(args[0]))
             return on.startswith(args[0]) if name == "startswith" else on.endswith(args[0])
         return None
 
@@ -350,13 +383,15 @@ class Operations:
     def show(self, value, level, path=()):
         self.at(level)
         self.step()
-        if type(value) not in (ListOf, DictOf):
+        if type(value) not in BRACKETS:
             return plain(value)
-        is_list = type(value) is ListOf
+        first, last = BRACKETS[type(value)]
         if any(it is value for it in path):
-            return "[...]" if is_list else "{...}"
+            return f"{first}...{last}"
         path += (value,)
-        if is_list:
-            return f"[{', '.join([self.show(it, level + 1, path) for it in value.items])}]"
-        pairs = [self.show(key, level + 1, path) + ": " + self.show(it, level + 1, path) for key, it in value.pairs.items()]
-        return f"{{{', '.join(pairs)}}}"
+        if type(value) is DictOf:
+            shown = [self.show(key, level + 1, path) + ": " + self.show(it, level + 1, path) for key, it in value.pairs.items()]
+        else:
+            shown = [self.show(it, level + 1, path) for it in value.items]
+        comma = "," if type(value) is TupleOf and len(shown) == 1 else ""
+        return f"{first}{', '.join(shown)}{comma}{last}"

@@ -1,3 +1,4 @@
 pub mod Small
-pub mod Pieces
+pub mod Items
+pub mod Written
 pub mod Copied

@@ -3,3 +3,4 @@ pub mod Plain
 pub mod Marks
 pub mod Examples
 pub mod Sessions
+pub mod Written

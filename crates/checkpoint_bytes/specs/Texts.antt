@@ -54,8 +54,11 @@ cells_bytes plan cells = bytes_from (λ n cell. cell_bytes (lists plan.rerun n) 
 abbrev pub versions_bytes : State → Plan → List Version → List ℕ
 versions_bytes s plan versions = bytes_from (λ n version. version_bytes s (lists plan.copied n) version) 1 versions
 
--- four letters and the format's version, which is 1; the session's count and meter; the cells; the versions
+-- four letters and the format's version, which is 1; the session's count and meter; and how many cells there are
+abbrev pub head_bytes : State → ℕ → List ℕ
+head_bytes s cells = codes "ENCK" ++ 0 ∷ 1 ∷ [] ++ four s.count ++ four s.meter ++ four cells
+
+-- the head; the cells; how many versions, and the versions
 abbrev pub checkpoint_text : State → Graph → Plan → List ℕ
-checkpoint_text s graph plan = codes "ENCK" ++ 0 ∷ 1 ∷ [] ++ four s.count ++ four s.meter
-    ++ four (length graph.cells) ++ cells_bytes plan graph.cells
+checkpoint_text s graph plan = head_bytes s (length graph.cells) ++ cells_bytes plan graph.cells
     ++ four (length graph.versions) ++ versions_bytes s plan graph.versions

@@ -4,9 +4,13 @@
 //! docs/CHECKPOINTS.md draws them byte by byte.
 #![tactic(auto)]
 
+mod fault;
+mod gathered;
 mod laws;
 mod marks;
+mod pieces;
 mod write;
 
+pub use fault::PieceFault;
 pub use laws::the_text_of_a_small_checkpoint;
-pub use write::write_checkpoint;
+pub use pieces::{write_checkpoint, write_pieces};

@@ -108,12 +108,14 @@ IsSource def = verdict_alone def.source ≡ Ok def
 
 valid : (o : Object) → IsObject o → IsValidObject IsSource o
 valid (the_object.List items) h = tt
+valid (the_object.Tuple items) h = tt
 valid (the_object.Dict pairs) h = no_key_twice [] pairs h.1
 valid (the_object.Function def) h = h.1
 valid (the_object.Handle name uses) h = absurd h
 
 movable : (o : Object) → IsObject o → is_handle (Some o) ≡ false
 movable (the_object.List items) h = refl
+movable (the_object.Tuple items) h = refl
 movable (the_object.Dict pairs) h = refl
 movable (the_object.Function def) h = refl
 movable (the_object.Handle name uses) h = absurd h

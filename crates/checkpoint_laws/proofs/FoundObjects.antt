@@ -1,7 +1,7 @@
 -- Objects that were read, and their bytes.
 use Rattle.std.proofs.Common.{◌≡◌, ℕ, zero, suc, ◌+◌, ◌<◌, ◌≤◌, ◌^◌, true, List, [], ◌∷◌, ◌++◌, length, Result, Ok, Err, refl, sym, ap, ◌∙◌, subst, inl, inr, arith}
 use Rattle.std.specs.Prelude.{nat_lt, ◌==◌}
-use Rattle.std.specs.List.{flat_map}
+use Rattle.std.specs.List.{flat_map, AllByRecursion}
 use Rattle.std.proofs.lemmas.Bool.{cases_Bool, eqb-true, ltb-true, ltb-false}
 use Rattle.std.proofs.lemmas.List.{append-nil, append_assoc, length-append}
 use Rattle.py_tree.specs.declared.statements.Def.{Def}
@@ -19,12 +19,15 @@ use Rattle.py_value.specs.declared.key.Key.{Key}
 use Rattle.py_value.specs.declared.value.Value.{Value}
 use Rattle.py_heap.specs.declared.heap.Object.{Object}
 use Rattle.py_heap.specs.declared.heap.Object.TheVariants as the_object
+use Rattle.py_heap.specs.declared.heap.SequenceKind.{SequenceKind}
+use Rattle.py_heap.specs.declared.heap.SequenceKind.TheVariants as sequences
+use Rattle.py_heap.specs.Sequences.{sequence}
 use Rattle.py_heap.specs.References.{value_refs, pair_refs, object_refs}
 use Rattle.part_bytes.specs.Texts.{four as four_bytes, text_bytes, value_bytes, pair_bytes, object_bytes}
 use Rattle.checkpoint_reader.specs.declared.part_fault.PartFault.TheVariants.{BadTag, BadRef, BadText}
 use Rattle.checkpoint_reader.specs.declared.spot.Spot.{Spot}
 use Rattle.checkpoint_reader.specs.PartReads.{pure, after, more}
-use Rattle.checkpoint_reader.specs.PartReading.{byte, four, text, function_of, value, pair, list, dict, function, is_object_tag, content, object_by, object, bounded, objects}
+use Rattle.checkpoint_reader.specs.PartReading.{byte, four, text, function_of, value, pair, list_or_tuple, dict, function, is_object_tag, content, object_by, object, bounded, objects}
 use Rattle.part_bytes.specs.Plain.{IsText}
 use Rattle.checkpoint_laws.specs.SpelledParts.{IsValue, IsObject, AreObjects}
 use Rattle.checkpoint_laws.proofs.Numbers.{IsBytes}
@@ -54,22 +57,36 @@ defined p source (Ok def) o s t e h = record { def = def; is = sym (same_value (
 defined p source (Err fault) o s t e h = absurd (let no : failed Object (BadText p) ≡ answer o t = h in cc)
 
 module _ (bytes : List ℕ) (small : IsBytes bytes) where
-  list_found : (tag : ℕ) (s t : Spot) (o : Object) → tag ≡ 16 → list bytes s ≡ answer o t → FoundObject bytes tag s t o
-  unfolding list
-  list_found tag s t o e h =
-      let r = reached (four bytes s) (λ n u. after (more (λ before. value bytes) n [] u) (λ items. pure (the_object.List items))) o t h in
+  -- the byte of a list or a tuple
+  abbrev tag_of : SequenceKind → ℕ
+  tag_of sequences.List = 16
+  tag_of sequences.Tuple = 19
+
+  found_as : (kind : SequenceKind) (tag : ℕ) (items : List Value) (s t : Spot) → tag ≡ tag_of kind → (length items < 2 ^ 32) × AllByRecursion IsValue items
+      → Ate bytes (four_bytes (length items) ++ flat_map value_bytes items) (flat_map value_refs items) s t → FoundObject bytes tag s t (sequence kind items)
+  found_as sequences.List tag items s t e good ate =
+      let body : List ℕ = four_bytes (length items) ++ flat_map value_bytes items in
+      (good, record { body = body; is = ap (λ (k : ℕ). k ∷ body) (sym e); ate = ate })
+  found_as sequences.Tuple tag items s t e good ate =
+      let body : List ℕ = four_bytes (length items) ++ flat_map value_bytes items in
+      (good, record { body = body; is = ap (λ (k : ℕ). k ∷ body) (sym e); ate = ate })
+
+  sequence_found : (kind : SequenceKind) (tag : ℕ) (s t : Spot) (o : Object) → tag ≡ tag_of kind → list_or_tuple bytes kind s ≡ answer o t → FoundObject bytes tag s t o
+  unfolding list_or_tuple
+  sequence_found kind tag s t o e h =
+      let r = reached (four bytes s) (λ n u. after (more (λ before. value bytes) n [] u) (λ items. pure (sequence kind items))) o t h in
       let n = four_found bytes small s r.mid r.first r.was in
-      let q = reached (more (λ before. value bytes) r.first [] r.mid) (λ items. pure (the_object.List items)) o t r.next in
+      let q = reached (more (λ before. value bytes) r.first [] r.mid) (λ items. pure (sequence kind items)) o t r.next in
       let m = many_found bytes (λ before. value bytes) value_bytes value_refs (λ before v. IsValue v) (λ before u w v k. value_found bytes small u w v k) r.first [] q.first r.mid q.mid q.was in
       let items : List Value = m.xs in
       let body : List ℕ = four_bytes (length items) ++ flat_map value_bytes items in
-      let is : the_object.List items ≡ o = ap (λ (vs : List Value). the_object.List vs) (sym m.is) ∙ same_value (the_object.List q.first) o q.mid t q.next in
+      let is : sequence kind items ≡ o = ap (λ (vs : List Value). sequence kind vs) (sym m.is) ∙ same_value (sequence kind q.first) o q.mid t q.next in
       let size : r.first ≡ length items = sym m.size in
       let whole : Ate bytes body (flat_map value_refs items) s t = ate_as bytes (four_bytes r.first ++ flat_map value_bytes items) body (flat_map value_refs items) (flat_map value_refs items) s q.mid t
-      (ap (λ (k : ℕ). four_bytes k ++ flat_map value_bytes items) size) refl (same_spot (the_object.List q.first) o q.mid t q.next)
+      (ap (λ (k : ℕ). four_bytes k ++ flat_map value_bytes items) size) refl (same_spot (sequence kind q.first) o q.mid t q.next)
       (ate_then bytes (four_bytes r.first) (flat_map value_bytes items) [] (flat_map value_refs items) s r.mid q.mid n.1 m.ate) in
       subst (λ (w : Object). FoundObject bytes tag s t w) is
-      ((subst (λ (k : ℕ). k < 2 ^ 32) size n.0, items_good [] items m.good), record { body = body; is = ap (λ (k : ℕ). k ∷ body) (sym e); ate = whole })
+      (found_as kind tag items s t e (subst (λ (k : ℕ). k < 2 ^ 32) size n.0, items_good [] items m.good) whole)
 
   dict_found : (tag : ℕ) (s t : Spot) (o : Object) → tag ≡ 17 → dict bytes s ≡ answer o t → FoundObject bytes tag s t o
   unfolding dict
@@ -103,12 +120,15 @@ module _ (bytes : List ℕ) (small : IsBytes bytes) where
   content_found : (tag : ℕ) (s t : Spot) (o : Object) → is_object_tag tag ≡ true → content bytes tag s ≡ answer o t → FoundObject bytes tag s t o
   unfolding content
   content_found tag s t o known h = elim (cases_Bool (tag == 16)) [
-    | inl e ↦ list_found tag s t o (eqb-true tag 16 e) (rw e at h)
+    | inl e ↦ sequence_found sequences.List tag s t o (eqb-true tag 16 e) (rw e at h)
     | inr f ↦ elim (cases_Bool (tag == 17)) [
       | inl e ↦ dict_found tag s t o (eqb-true tag 17 e) (rw (f, e) at h)
-      | inr g ↦
-          let last : (tag == 18) ≡ true = rw (f, g) at known in
-          function_found tag s t o (eqb-true tag 18 last) (rw (f, g) at h)
+      | inr g ↦ elim (cases_Bool (tag == 18)) [
+        | inl e ↦ function_found tag s t o (eqb-true tag 18 e) (rw (f, g, e) at h)
+        | inr d ↦
+            let last : (tag == 19) ≡ true = rw (f, g, d) at known in
+            sequence_found sequences.Tuple tag s t o (eqb-true tag 19 last) (rw (f, g, d) at h)
+      ]
     ]
   ]
 

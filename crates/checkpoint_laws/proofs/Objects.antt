@@ -1,6 +1,6 @@
 -- Objects are read off their bytes.
 use Rattle.std.proofs.Common.{◌≡◌, ℕ, ◌+◌, ◌<◌, ◌≤◌, ◌^◌, List, [], ◌∷◌, ◌++◌, length, Some, Result, refl, sym, ap, ◌∙◌, arith, add-zero}
-use Rattle.std.specs.List.{flat_map}
+use Rattle.std.specs.List.{flat_map, AllByRecursion}
 use Rattle.std.proofs.lemmas.List.{append-nil, append_assoc, length-append}
 use Rattle.py_tree.specs.declared.statements.Def.{Def}
 use Rattle.py_reader.specs.declared.fault.SyntaxFault.{SyntaxFault}
@@ -9,21 +9,24 @@ use Rattle.py_value.specs.declared.key.Key.{Key}
 use Rattle.py_value.specs.declared.value.Value.{Value}
 use Rattle.py_heap.specs.declared.heap.Object.{Object}
 use Rattle.py_heap.specs.declared.heap.Object.TheVariants as the_object
+use Rattle.py_heap.specs.declared.heap.SequenceKind.{SequenceKind}
+use Rattle.py_heap.specs.declared.heap.SequenceKind.TheVariants as sequences
+use Rattle.py_heap.specs.Sequences.{sequence}
 use Rattle.py_heap.specs.References.{value_refs, pair_refs, object_refs}
 use Rattle.part_bytes.specs.Texts.{four as four_bytes, text_bytes, value_bytes, pair_bytes, object_bytes}
 use Rattle.checkpoint_reader.specs.PartReads.{Answer, Read, pure, after, more}
-use Rattle.checkpoint_reader.specs.PartReading.{byte, four, text, function_of, value, pair, list, dict, function, content, object_by, object, bounded, objects}
+use Rattle.checkpoint_reader.specs.PartReading.{byte, four, text, function_of, value, pair, list_or_tuple, dict, function, content, object_by, object, bounded, objects}
 use Rattle.checkpoint_laws.specs.SpelledParts.{counted, IsValue, IsObject, AreObjects}
 use Rattle.checkpoint_laws.proofs.Offs.{spot, answer, Stands, stands_first, stands_next, Off, off_then, off_end, off_map, off_byte, off_four, off_text, off_more, some_same, below, not_below}
 use Rattle.checkpoint_laws.proofs.Values.{off_value, off_pair, GoodPair, good_items, good_pairs}
 
 module _ (bytes : List ℕ) where
-  off_list : (items : List Value) (met next most : ℕ) → IsObject (the_object.List items) → counted met (flat_map value_refs items) ≡ Some next → next ≤ most
-      → Off bytes (list bytes) (four_bytes (length items) ++ flat_map value_bytes items) (the_object.List items) met next most
-  unfolding list
-  off_list items met next most h e l = off_then bytes (four bytes) (λ n s. after (more (λ before. value bytes) n [] s) (λ items. pure (the_object.List items)))
-      (four_bytes (length items)) (flat_map value_bytes items) (length items) (the_object.List items) met met next most (off_four bytes (length items) met most h.0)
-      (off_map bytes (more (λ before. value bytes) (length items) []) the_object.List (flat_map value_bytes items) items met next most
+  off_sequence : (kind : SequenceKind) (items : List Value) (met next most : ℕ) → (length items < 2 ^ 32) × AllByRecursion IsValue items → counted met (flat_map value_refs items) ≡ Some next → next ≤ most
+      → Off bytes (list_or_tuple bytes kind) (four_bytes (length items) ++ flat_map value_bytes items) (sequence kind items) met next most
+  unfolding list_or_tuple
+  off_sequence kind items met next most h e l = off_then bytes (four bytes) (λ n s. after (more (λ before. value bytes) n [] s) (λ items. pure (sequence kind items)))
+      (four_bytes (length items)) (flat_map value_bytes items) (length items) (sequence kind items) met met next most (off_four bytes (length items) met most h.0)
+      (off_map bytes (more (λ before. value bytes) (length items) []) (sequence kind) (flat_map value_bytes items) items met next most
       (off_more bytes (λ before. value bytes) value_bytes value_refs (λ before v. IsValue v) most (λ before v m n good f k. off_value bytes v m n most good f k) items [] met next (good_items [] items h.1) e l))
 
   off_dict : (pairs : List (Key × Value)) (met next most : ℕ) → IsObject (the_object.Dict pairs) → counted met (flat_map pair_refs pairs) ≡ Some next → next ≤ most
@@ -48,7 +51,10 @@ module _ (bytes : List ℕ) where
   unfolding object_by content
   off_object_by n p (the_object.List items) met next most b h e l =
       off_then bytes (byte bytes) (λ tag. object_by bytes n p tag) (16 ∷ []) (four_bytes (length items) ++ flat_map value_bytes items) 16 (the_object.List items) met met next most (off_byte bytes 16 met most)
-      (λ at s. rw (below n met b) (off_list items met next most h e l at s))
+      (λ at s. rw (below n met b) (off_sequence sequences.List items met next most h e l at s))
+  off_object_by n p (the_object.Tuple items) met next most b h e l =
+      off_then bytes (byte bytes) (λ tag. object_by bytes n p tag) (19 ∷ []) (four_bytes (length items) ++ flat_map value_bytes items) 19 (the_object.Tuple items) met met next most (off_byte bytes 19 met most)
+      (λ at s. rw (below n met b) (off_sequence sequences.Tuple items met next most h e l at s))
   off_object_by n p (the_object.Dict pairs) met next most b h e l =
       off_then bytes (byte bytes) (λ tag. object_by bytes n p tag) (17 ∷ []) (four_bytes (length pairs) ++ flat_map pair_bytes pairs) 17 (the_object.Dict pairs) met met next most (off_byte bytes 17 met most)
       (λ at s. rw (below n met b) (off_dict pairs met next most h e l at s))

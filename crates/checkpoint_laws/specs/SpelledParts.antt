@@ -46,6 +46,7 @@ ArePairs before (pair ∷ pairs) = IsValue (value_of pair.0) × (value_under bef
 -- a handle is no object of a part; a function is what its source is read as
 abbrev pub IsObject : Object → Type 0
 IsObject (the_object.List items) = (length items < 2 ^ 32) × AllByRecursion IsValue items
+IsObject (the_object.Tuple items) = (length items < 2 ^ 32) × AllByRecursion IsValue items
 IsObject (the_object.Dict pairs) = (length pairs < 2 ^ 32) × ArePairs [] pairs
 IsObject (the_object.Function def) = IsText def.source × (verdict_alone def.source ≡ Ok def)
 IsObject (the_object.Handle name uses) = ⊥

@@ -18,9 +18,11 @@ use Rattle.py_heap.specs.Dicts.{Pairs, value_under}
 use Rattle.part_bytes.specs.declared.part.PartValue.{PartValue}
 use Rattle.checkpoint_reader.specs.declared.part_fault.PartFault.{PartFault}
 use Rattle.checkpoint_reader.specs.declared.part_fault.PartFault.TheVariants.{BadTag, BadRef, BadKey, BadName, BadText}
+use Rattle.py_heap.specs.declared.heap.SequenceKind.{SequenceKind}
+use Rattle.py_heap.specs.declared.heap.SequenceKind.TheVariants as sequences
 use Rattle.checkpoint_reader.specs.declared.spot.Spot.{Spot}
 use Rattle.checkpoint_reader.specs.PartReads.{Answer, Read, pure, fail, place, after, ◌>>=◌, more}
-use Rattle.checkpoint_reader.specs.PartReading.{follows, referred_to, builtin_of, builtin_at, function_of, is_object_tag, bounded, taken, byte, four, sixteen, text, name, key_by, reference, builtin, value_by, value, held, pair_with, pair, list, dict, function, content, object_by, object, objects, names, values, part, start, with_size, part_read}
+use Rattle.checkpoint_reader.specs.PartReading.{follows, referred_to, builtin_of, builtin_at, function_of, is_object_tag, bounded, taken, byte, four, sixteen, text, name, key_by, reference, builtin, value_by, value, held, pair_with, pair, list_or_tuple, dict, function, content, object_by, object, objects, names, values, part, start, with_size, part_read}
 
 module _ (bytes : List ℕ) where
   -- an answer that goes on goes on within the bytes
@@ -133,9 +135,9 @@ module _ (bytes : List ℕ) where
   unfolding pair
   pair_within before = then_within place_within (λ at. then_within byte_within (λ tag. then_within (key_within at tag) (λ k. pair_with_within at before k)))
 
-  list_within : Within (list bytes)
-  unfolding list
-  list_within = then_within four_within (λ n. then_within (more_within (λ before. value bytes) (λ before. value_within) n []) (λ items. pure_within _))
+  sequence_within : (kind : SequenceKind) → Within (list_or_tuple bytes kind)
+  unfolding list_or_tuple
+  sequence_within kind = then_within four_within (λ n. then_within (more_within (λ before. value bytes) (λ before. value_within) n []) (λ items. pure_within _))
 
   dict_within : Within (dict bytes)
   unfolding dict
@@ -151,7 +153,7 @@ module _ (bytes : List ℕ) where
 
   content_within : (tag : ℕ) → Within (content bytes tag)
   unfolding content
-  content_within tag = within_if (tag == 16) list_within (within_if (tag == 17) dict_within function_within)
+  content_within tag = within_if (tag == 16) (sequence_within sequences.List) (within_if (tag == 17) dict_within (within_if (tag == 18) function_within (sequence_within sequences.Tuple)))
 
   object_by_within : (n at tag : ℕ) → Within (object_by bytes n at tag)
   unfolding object_by

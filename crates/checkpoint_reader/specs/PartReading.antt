@@ -18,6 +18,9 @@ use Rattle.py_value.specs.declared.value.Value.TheVariants as the_value
 use Rattle.py_value.specs.Keys.{value_of}
 use Rattle.py_heap.specs.declared.heap.Object.{Object}
 use Rattle.py_heap.specs.declared.heap.Object.TheVariants as the_object
+use Rattle.py_heap.specs.declared.heap.SequenceKind.{SequenceKind}
+use Rattle.py_heap.specs.declared.heap.SequenceKind.TheVariants as sequences
+use Rattle.py_heap.specs.Sequences.{sequence}
 use Rattle.py_heap.specs.Dicts.{Pairs, value_under}
 use Rattle.part_bytes.specs.declared.part.PartValue.{PartValue}
 use Rattle.checkpoint_reader.specs.declared.part_fault.PartFault.{PartFault}
@@ -61,7 +64,7 @@ function_of at (Ok def) = pure (the_object.Function def)
 function_of at (Err fault) = fail (BadText at)
 
 abbrev pub is_object_tag : ℕ → Bool
-is_object_tag tag = (tag == 16) || ((tag == 17) || (tag == 18))
+is_object_tag tag = (tag == 16) || ((tag == 17) || ((tag == 18) || (tag == 19)))
 
 -- a number of objects, which are no fewer than were referred to; from here on no more may be referred to
 abbrev pub bounded : ℕ → ℕ → Read ℕ
@@ -147,11 +150,11 @@ module _ (bytes : List ℕ) where
     k ← key_by at tag
     pair_with at before k
 
-  unfoldable pub list : Read Object
-  list = do
+  unfoldable pub list_or_tuple : SequenceKind → Read Object
+  list_or_tuple kind = do
     n ← four
     items ← more (λ before. value) n []
-    pure (the_object.List items)
+    pure (sequence kind items)
 
   unfoldable pub dict : Read Object
   dict = do
@@ -166,7 +169,7 @@ module _ (bytes : List ℕ) where
     function_of at (verdict_alone source)
 
   unfoldable pub content : ℕ → Read Object
-  content tag = if tag == 16 then list else (if tag == 17 then dict else function)
+  content tag = if tag == 16 then list_or_tuple sequences.List else (if tag == 17 then dict else (if tag == 18 then function else list_or_tuple sequences.Tuple))
 
   -- an object of that number, if it was referred to
   unfoldable pub object_by : ℕ → ℕ → ℕ → Read Object

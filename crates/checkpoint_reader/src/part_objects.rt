@@ -8,20 +8,25 @@ use crate::part_fault::PartFault;
 use crate::part_fields::{read_byte, read_four, read_text};
 use crate::part_values::{read_key, read_value, read_values};
 use crate::spot::Spot;
-use part_bytes::tag::{DICT, FUNCTION, LIST};
+use part_bytes::tag::{DICT, FUNCTION, LIST, TUPLE};
 use plain_data::Items;
-use py_heap::{Dict, Function, Object};
+use py_heap::{Dict, Function, Object, SequenceKind};
 use py_reader::{ReadError, read_def};
 use py_value::{Key, Value};
 use std::alloc::Global;
 
-#[tactic(auto, unfolding(crate::specs::PartReading::list))]
-fn read_list(alloc: Global, bytes: &[u8], spot: &mut Spot) -> Result<Object, PartFault>
-    ensures { Is (spec.list bytes.now spot.old) result spot.new }
+#[tactic(auto, unfolding(crate::specs::PartReading::list_or_tuple))]
+fn read_sequence(
+    alloc: Global,
+    bytes: &[u8],
+    spot: &mut Spot,
+    kind: SequenceKind,
+) -> Result<Object, PartFault>
+    ensures { Is (spec.list_or_tuple bytes.now kind spot.old) result spot.new }
 {
     let count = read_four(bytes, spot)?;
     let items = read_values(alloc, bytes, spot, count)?;
-    Ok(Object::List(items))
+    Ok(Object::sequence(kind, items))
 }
 
 /// The next pair of a dict, whose key is none of those before it.
@@ -90,7 +95,7 @@ fn read_function(alloc: Global, bytes: &[u8], spot: &mut Spot) -> Result<Object,
 fn is_object_tag(tag: u8) -> bool
     ensures { result ≡ spec.is_object_tag tag }
 {
-    tag == LIST || (tag == DICT || tag == FUNCTION)
+    tag == LIST || (tag == DICT || (tag == FUNCTION || tag == TUPLE))
 }
 
 /// An object with this tag.
@@ -99,12 +104,15 @@ fn read_content(alloc: Global, bytes: &[u8], spot: &mut Spot, tag: u8) -> Result
     ensures { Is (spec.content bytes.now tag spot.old) result spot.new }
 {
     if tag == LIST {
-        return read_list(alloc, bytes, spot);
+        return read_sequence(alloc, bytes, spot, SequenceKind::List);
     }
     if tag == DICT {
         return read_dict(alloc, bytes, spot);
     }
-    read_function(alloc, bytes, spot)
+    if tag == FUNCTION {
+        return read_function(alloc, bytes, spot);
+    }
+    read_sequence(alloc, bytes, spot, SequenceKind::Tuple)
 }
 
 /// An object of that number with this tag, which is at that place.

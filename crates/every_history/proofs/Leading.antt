@@ -22,6 +22,7 @@ use Rattle.every_history.proofs.Names.{named, first_holds}
 
 object_named : (o : Object) → IsValidObject IsItsText o → NamesPass is_variable o
 object_named (object.List items) h = tt
+object_named (object.Tuple items) h = tt
 object_named (object.Dict pairs) h = tt
 object_named (object.Function def) h = in_function def.source def h
 object_named (object.Handle name uses) h = tt

@@ -33,9 +33,18 @@ module _ (ps : ℕ → ℕ → Type 0) where
 
   object_text : (o u : Object) (t : List ℕ) → ObjectsMatch ps o u → HasText o t → HasText u t
   object_text (object.List vs) (object.List ws) t m h = items_text vs ws t m h
+  object_text (object.Tuple vs) (object.Tuple ws) t m h = items_text vs ws t m h
   object_text (object.Dict xs) (object.Dict ys) t m h = let w = zip_forth (PairsMatch ps) xs ys m h.0 h.1 in (w.0, w.1, pair_text h.0 w.0 t w.2 h.2)
   object_text (object.Function def) (object.Function other) t m h = subst (λ d. HasText (object.Function d) t) m h
   object_text (object.Handle name uses) (object.Handle other others) t m h = h ∙ m.0
+  object_text (object.List vs) (object.Tuple ws) t m h = absurd m
+  object_text (object.Tuple vs) (object.List ws) t m h = absurd m
+  object_text (object.Tuple vs) (object.Dict ys) t m h = absurd m
+  object_text (object.Tuple vs) (object.Function other) t m h = absurd m
+  object_text (object.Tuple vs) (object.Handle other others) t m h = absurd m
+  object_text (object.Dict xs) (object.Tuple ws) t m h = absurd m
+  object_text (object.Function def) (object.Tuple ws) t m h = absurd m
+  object_text (object.Handle name uses) (object.Tuple ws) t m h = absurd m
   object_text (object.List vs) (object.Dict ys) t m h = absurd m
   object_text (object.List vs) (object.Function other) t m h = absurd m
   object_text (object.List vs) (object.Handle other others) t m h = absurd m

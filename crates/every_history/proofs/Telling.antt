@@ -36,6 +36,7 @@ in_or_not s x = by_member s x (has_member s x) refl
 handle_at : (o : Option Object) → Decided ((name : List ℕ) × (uses : ℕ) × (o ≡ Some (object.Handle name uses)))
 handle_at (Some (object.Handle name uses)) = inl (name, uses, refl)
 handle_at (Some (object.List items)) = inr (λ h. let e = h.2 in let none : ⊥ = cc e in none)
+handle_at (Some (object.Tuple items)) = inr (λ h. let e = h.2 in let none : ⊥ = cc e in none)
 handle_at (Some (object.Dict pairs)) = inr (λ h. let e = h.2 in let none : ⊥ = cc e in none)
 handle_at (Some (object.Function def)) = inr (λ h. let e = h.2 in let none : ⊥ = cc e in none)
 handle_at None = inr (λ h. let e = h.2 in let none : ⊥ = cc e in none)

@@ -22,6 +22,7 @@ of_part s names p = p
 handle_of : (o : Option Object) → is_handle o ≡ true → (name : List ℕ) × (uses : ℕ) × (o ≡ Some (object.Handle name uses))
 handle_of (Some (object.Handle name uses)) e = (name, uses, refl)
 handle_of (Some (object.List items)) e = absurd (false≢true e)
+handle_of (Some (object.Tuple items)) e = absurd (false≢true e)
 handle_of (Some (object.Dict pairs)) e = absurd (false≢true e)
 handle_of (Some (object.Function def)) e = absurd (false≢true e)
 handle_of None e = absurd (false≢true e)

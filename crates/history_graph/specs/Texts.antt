@@ -23,6 +23,7 @@ IsOfPair pair t = (pair.0 ≡ key.Text t) ⊎ (pair.1 ≡ value.Text t)
 -- a text of an object: an item of a list, a key or a value of a dict, the source of a function, the name of a handle
 abbrev pub HasText : Object → List ℕ → Type 0
 HasText (object.List items) t = Contains items (value.Text t)
+HasText (object.Tuple items) t = Contains items (value.Text t)
 HasText (object.Dict pairs) t = (pair : Key × Value) × Contains pairs pair × IsOfPair pair t
 HasText (object.Function def) t = t ≡ def.source
 HasText (object.Handle name uses) t = t ≡ name

@@ -16,12 +16,13 @@ use std::alloc::{AllocError, Global};
 
 // ---- how many there are at the most
 
-/// How many texts an object has at the most: a list one for each item, a dict two for each pair, anything else one.
+/// How many texts an object has at the most: a list or a tuple one for each item, a dict two for each pair, anything else one.
 fn room_in(object: &Object) -> usize
     ensures { result < 2 ^ 32 → AreAtMost (HasText object.now) result }
 {
     match object {
         Object::List(items) => items.len(),
+        Object::Tuple(items) => items.len(),
         Object::Dict(dict) => dict.len().saturating_add(dict.len()),
         Object::Function(_) => 1,
         Object::Handle { .. } => 1,
@@ -135,7 +136,7 @@ fn add_object(alloc: Global, texts: &mut TextMap<()>, object: &Object) -> Result
     ensures { OnOk result (IsWithAll texts.old (HasText object.now) texts.new) }
 {
     match object {
-        Object::List(items) => add_values(alloc, texts, items.as_slice()),
+        Object::List(items) | Object::Tuple(items) => add_values(alloc, texts, items.as_slice()),
         Object::Dict(dict) => add_pairs(alloc, texts, dict),
         Object::Function(function) => {
             let def = function.def();

@@ -26,6 +26,12 @@
 //!   session that never moved, with its cells before these. If the bytes are restored to no session, the reason is printed alone:
 //!
 //!       not restored: cell 1 draws again
+//!
+//! A line may also be an object with `read`, the bytes of a checkpoint in hexadecimal digits. Then one line says what they are read as,
+//! or the first byte, version or cell by which they are no checkpoint:
+//!
+//!     ok count 1 meter 0 cells 1 versions 1 copied 1
+//!     bad checkpoint at 69
 #![tactic(auto)]
 
 ghost use Rattle.std.specs.Prelude.{OnOk};
@@ -33,6 +39,7 @@ ghost use Rattle.py_heap.specs.References.{IsClosed};
 
 mod given;
 mod plans;
+mod reading;
 mod session;
 mod words;
 
@@ -40,6 +47,7 @@ use anyhow::{Result, bail};
 use given::{bytes_of, feed_of, weights_of};
 use plain_data::Text;
 use plans::put_checkpoint;
+use reading::read_text;
 use restore_run::RestoreFault;
 use serde_json::Value;
 use session::ShownSession;
@@ -88,6 +96,9 @@ fn shown_after(
 
 /// What is shown of a line.
 fn shown(alloc: Global, line: &Value) -> Result<Text> {
+    if let Some(digits) = line.get("read") {
+        return read_text(alloc, digits);
+    }
     let feed = feed_of(alloc, line)?;
     let cells = line.get("cells");
     let weights = line.get("weights");

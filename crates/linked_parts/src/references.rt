@@ -11,7 +11,7 @@ pub(crate) fn refs_of(alloc: Global, object: &Object) -> Result<Items<u32>, Allo
     ensures { IfOk result (λ refs. refs ≡ object_refs object.now) }
 {
     match object {
-        Object::List(items) => refs_of_values(alloc, items.as_slice()),
+        Object::List(items) | Object::Tuple(items) => refs_of_values(alloc, items.as_slice()),
         Object::Dict(dict) => refs_of_pairs(alloc, dict),
         Object::Function(_) | Object::Handle { .. } => Ok(Items::new(alloc)),
     }

@@ -37,7 +37,7 @@ count_kept = record {
   unbinds = λ name m. record { same = refl };
   frames = λ frame m. record { same = refl };
   adds = λ new m. record { same = refl };
-  changes = λ at new m. record { same = refl };
+  changes = λ at c new m e. record { same = refl };
   writes = λ bytes m. record { same = refl };
   draws = λ d m. record { same = refl };
 }

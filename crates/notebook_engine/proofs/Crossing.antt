@@ -1,5 +1,4 @@
 -- A notebook may go to another thread: none of its parts is shared but by counts that threads may share.
-use denote.RattleType.{RattleType}
 use denote.Param.Send.{IsSend, IsSync, sendable}
 use Rattle.std.proofs.Crossing.{Vec-send}
 use Rattle.plain_data.proofs.items.Items.TheSendSync as items
@@ -45,18 +44,18 @@ Target-sync = search (text.the_sync, Expr-sync, sendable) depth 20
 
 Def-send : IsSend (Def.the_field).row
 Def-send = statements.both_send-Def
-    (search (Expr-send, sendable) depth 20) (search (Expr-sync, sendable) depth 20) (items.the_send _ text.the_send) (items.the_sync _ text.the_sync) Target-send Target-sync Expr-send Expr-sync
-    op.the_field_send op.the_field_sync (λ h s y. items.the_send h s) (λ h s y. items.the_sync h y) text.the_send text.the_sync shared.the_send shared.the_sync
+    (search (Expr-send, sendable) depth 20) (search (Expr-sync, sendable) depth 20) (items.the_send _ text.the_send) (items.the_sync _ text.the_sync) Target-send Target-sync (search (items.the_send, Target-send, sendable) depth 20) (search (items.the_sync, Target-sync, sendable) depth 20)
+    (search sendable) (search sendable) Expr-send Expr-sync op.the_field_send op.the_field_sync (λ h s y. items.the_send h s) (λ h s y. items.the_sync h y) shared.the_send shared.the_sync text.the_send text.the_sync
 
 Def-sync : IsSync (Def.the_field).row
 Def-sync = statements.both_sync-Def
-    (search (Expr-send, sendable) depth 20) (search (Expr-sync, sendable) depth 20) (items.the_send _ text.the_send) (items.the_sync _ text.the_sync) Target-send Target-sync Expr-send Expr-sync
-    op.the_field_send op.the_field_sync (λ h s y. items.the_send h s) (λ h s y. items.the_sync h y) text.the_send text.the_sync shared.the_send shared.the_sync
+    (search (Expr-send, sendable) depth 20) (search (Expr-sync, sendable) depth 20) (items.the_send _ text.the_send) (items.the_sync _ text.the_sync) Target-send Target-sync (search (items.the_send, Target-send, sendable) depth 20) (search (items.the_sync, Target-sync, sendable) depth 20)
+    (search sendable) (search sendable) Expr-send Expr-sync op.the_field_send op.the_field_sync (λ h s y. items.the_send h s) (λ h s y. items.the_sync h y) shared.the_send shared.the_sync text.the_send text.the_sync
 
 Stmt-send : IsSend (Stmt.the_field).row
 Stmt-send = statements.both_send-Stmt
-    (search (Expr-send, sendable) depth 20) (search (Expr-sync, sendable) depth 20) (items.the_send _ text.the_send) (items.the_sync _ text.the_sync) Target-send Target-sync Expr-send Expr-sync
-    op.the_field_send op.the_field_sync (λ h s y. items.the_send h s) (λ h s y. items.the_sync h y) text.the_send text.the_sync shared.the_send shared.the_sync
+    (search (Expr-send, sendable) depth 20) (search (Expr-sync, sendable) depth 20) (items.the_send _ text.the_send) (items.the_sync _ text.the_sync) Target-send Target-sync (search (items.the_send, Target-send, sendable) depth 20) (search (items.the_sync, Target-sync, sendable) depth 20)
+    (search sendable) (search sendable) Expr-send Expr-sync op.the_field_send op.the_field_sync (λ h s y. items.the_send h s) (λ h s y. items.the_sync h y) shared.the_send shared.the_sync text.the_send text.the_sync
 
 -- ---- states
 

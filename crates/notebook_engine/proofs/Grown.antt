@@ -1,27 +1,20 @@
 -- A session with one cell more.
-use Rattle.std.proofs.Common.{◌≡◌, ℕ, zero, suc, ◌-◌, Bool, true, false, List, [], ◌∷◌, ◌++◌, length, is_some, refl, ap, sym, ◌∙◌, subst, inl, inr, arith}
-use Rattle.std.specs.Prelude.{Contains}
+use Rattle.std.proofs.Common.{◌≡◌, ℕ, zero, suc, ◌-◌, Bool, List, [], ◌∷◌, ◌++◌, length, refl, ap, sym, ◌∙◌, subst, inl, inr, arith}
 use Rattle.std.specs.Str.{IsUtf8}
-use Rattle.std.specs.FinMap as finite
 use Rattle.nb_outside.specs.declared.feed.Drawn.{Drawn}
 use Rattle.py_tree.specs.declared.statements.Stmt.{Stmt}
 use Rattle.py_heap.specs.declared.state.State.{State}
 use Rattle.py_heap.specs.References.{IsClosed}
 use Rattle.py_machine.specs.declared.marks.Marks.{Marks}
-use Rattle.py_machine.specs.Runs.{Name}
 use Rattle.py_meaning.specs.Cells.{outcome, end_state, UsesUp}
-use Rattle.py_laws.proofs.Partners.{first_in, later_in}
 use Rattle.graph_model.specs.declared.graph.Graph.{Graph}
 use Rattle.graph_model.specs.declared.plan.Tally.{Tally}
-use Rattle.linked_parts.specs.Parts.{HasValue, IsPart, ArePartsOf}
-use Rattle.run_graph.specs.Parts.{HasHandle}
+use Rattle.linked_parts.specs.Parts.{ArePartsOf}
 use Rattle.run_graph.specs.Histories.{Run}
 use Rattle.run_graph.specs.RunLists.{ListedCell, raised, entry_done, run_of}
 use Rattle.run_graph.specs.Soundness.{statements}
 use Rattle.run_graph.proofs.Runs.{is_run}
-use Rattle.run_graph.proofs.Kept.{in_part_value}
 use Rattle.every_history.specs.Reading.{read}
-use Rattle.part_bytes.specs.Texts.{part_text}
 use Rattle.history_graph.specs.declared.history.History.{History}
 use Rattle.history_graph.specs.Ends.{IsCellOf, Makes}
 use Rattle.history_graph.proofs.Standing.{history_has_cells}

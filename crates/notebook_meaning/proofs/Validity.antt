@@ -1,8 +1,7 @@
 -- The states that cells with codes leave.
-use Rattle.std.proofs.Common.{◌≡◌, ℕ, zero, suc, ◌≤◌, List, [], ◌∷◌, Ok, Err, refl, arith}
+use Rattle.std.proofs.Common.{ℕ, zero, suc, ◌≤◌, List, [], ◌∷◌, arith}
 use Rattle.std.specs.Str.{IsUtf8}
 use Rattle.std.proofs.lemmas.Str.{IsUtf8-nil, IsUtf8-from_is_utf8}
-use Rattle.py_heap.specs.declared.state.State.{State}
 use Rattle.py_machine.specs.Runs.{start}
 use Rattle.py_meaning.specs.Meaning.{cell}
 use Rattle.py_meaning.proofs.Growing.{rises}

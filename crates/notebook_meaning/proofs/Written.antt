@@ -1,5 +1,5 @@
 -- What a session is written as.
-use Rattle.std.proofs.Common.{◌≡◌, ℕ, suc, ◌+◌, ◌-◌, ◌<◌, ◌≤◌, ◌^◌, zero, ◌⊎◌, ◌&&◌, is_some, Bool, true, false, List, [], ◌∷◌, map, length, Option, Some, None, refl, ap, sym, ◌∙◌, subst, inl, inr, arith}
+use Rattle.std.proofs.Common.{◌≡◌, ℕ, suc, ◌+◌, ◌-◌, ◌<◌, ◌≤◌, ◌^◌, zero, ◌⊎◌, Bool, true, false, List, [], ◌∷◌, map, length, Option, Some, None, refl, ap, sym, ◌∙◌, subst, inl, inr, arith}
 use Rattle.std.specs.Prelude.{All, Contains, slice_get}
 use Rattle.std.specs.List.{AllZip, IsDistinct}
 use Rattle.std.proofs.lemmas.Bool.{false≢true}
@@ -87,13 +87,16 @@ writable_by : (ps : ℕ → ℕ → Type 0) (x : Object) (o : Option Object) →
     → ((y : Object) → o ≡ Some y → IsValidObject IsItsText y) → IsWritable x
 writable_by ps x None free h valid = absurd h
 writable_by ps (object.List items) (Some y) free h valid = tt
+writable_by ps (object.Tuple items) (Some y) free h valid = tt
 writable_by ps (object.Dict xs) (Some (object.Dict ys)) free h valid = subst (λ (ks : List Key). IsDistinct same_key ks) (sym (same_keys ps xs ys h)) (valid (object.Dict ys) refl)
 writable_by ps (object.Function def) (Some (object.Function other)) free h valid = subst IsItsText (sym h) (valid (object.Function other) refl)
 writable_by ps (object.Handle name uses) (Some y) free h valid = absurd (free name uses refl)
 writable_by ps (object.Dict xs) (Some (object.List ys)) free h valid = absurd h
+writable_by ps (object.Dict xs) (Some (object.Tuple ys)) free h valid = absurd h
 writable_by ps (object.Dict xs) (Some (object.Function def)) free h valid = absurd h
 writable_by ps (object.Dict xs) (Some (object.Handle name uses)) free h valid = absurd h
 writable_by ps (object.Function def) (Some (object.List ys)) free h valid = absurd h
+writable_by ps (object.Function def) (Some (object.Tuple ys)) free h valid = absurd h
 writable_by ps (object.Function def) (Some (object.Dict ys)) free h valid = absurd h
 writable_by ps (object.Function def) (Some (object.Handle name uses)) free h valid = absurd h
 

@@ -37,6 +37,9 @@ length-pair_bytes pair = length-append (value_bytes (value_of pair.0)) (value_by
 pub length-list : (items : List Value) → length (object_bytes (object.List items)) ≡ 5 + length (flat_map value_bytes items)
 length-list items = omega (arith, length-append (four (length items)) (flat_map value_bytes items), length-four (length items))
 
+pub length-tuple : (items : List Value) → length (object_bytes (object.Tuple items)) ≡ 5 + length (flat_map value_bytes items)
+length-tuple items = omega (arith, length-append (four (length items)) (flat_map value_bytes items), length-four (length items))
+
 pub length-dict : (pairs : List (Key × Value)) → length (object_bytes (object.Dict pairs)) ≡ 5 + length (flat_map pair_bytes pairs)
 length-dict pairs = omega (arith, length-append (four (length pairs)) (flat_map pair_bytes pairs), length-four (length pairs))
 
@@ -109,6 +112,8 @@ module _ (number : ℕ → ℕ) where
   length-numbered_object : (o : Object) → length (object_bytes (numbered_object number o)) ≡ length (object_bytes o)
   length-numbered_object (object.List items) =
       omega (arith, length-list (map (numbered number) items), length-list items, length-flat_map-map value_bytes value_bytes (numbered number) length-numbered items)
+  length-numbered_object (object.Tuple items) =
+      omega (arith, length-tuple (map (numbered number) items), length-tuple items, length-flat_map-map value_bytes value_bytes (numbered number) length-numbered items)
   length-numbered_object (object.Dict pairs) =
       omega (arith, length-dict (map (numbered_pair number) pairs), length-dict pairs, length-flat_map-map pair_bytes pair_bytes (numbered_pair number) length-numbered_pair pairs)
   length-numbered_object (object.Function def) = refl

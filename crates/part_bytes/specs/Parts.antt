@@ -45,6 +45,7 @@ numbered_pair number pair = (pair.0, numbered number pair.1)
 
 abbrev pub numbered_object : (ℕ → ℕ) → Object → Object
 numbered_object number (object.List items) = object.List (map (numbered number) items)
+numbered_object number (object.Tuple items) = object.Tuple (map (numbered number) items)
 numbered_object number (object.Dict pairs) = object.Dict (map (numbered_pair number) pairs)
 numbered_object number (object.Function def) = object.Function def
 numbered_object number (object.Handle name uses) = object.Handle name uses

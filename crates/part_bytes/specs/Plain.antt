@@ -31,6 +31,7 @@ IsPlainPair pair = IsPlain (value_of pair.0) × IsPlain pair.1
 -- an object has fewer than 2^32 items
 abbrev pub IsPlainObject : Object → Type 0
 IsPlainObject (object.List items) = (length items < 2 ^ 32) × All IsPlain items
+IsPlainObject (object.Tuple items) = (length items < 2 ^ 32) × All IsPlain items
 IsPlainObject (object.Dict pairs) = (length pairs < 2 ^ 32) × All IsPlainPair pairs
 IsPlainObject (object.Function def) = IsText def.source
 IsPlainObject (object.Handle name uses) = Unit {0}

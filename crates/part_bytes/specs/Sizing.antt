@@ -11,6 +11,7 @@ use Rattle.part_bytes.specs.Texts.{part_text}
 abbrev pub is_handle : Option Object → Bool
 is_handle (Some (object.Handle name uses)) = true
 is_handle (Some (object.List items)) = false
+is_handle (Some (object.Tuple items)) = false
 is_handle (Some (object.Dict pairs)) = false
 is_handle (Some (object.Function def)) = false
 is_handle None = false

@@ -49,9 +49,14 @@ held_bytes None = 7 ∷ []
 abbrev pub pair_bytes : Key × Value → List ℕ
 pair_bytes pair = value_bytes (value_of pair.0) ++ value_bytes pair.1
 
+-- a list or a tuple, after the byte that says which
+abbrev pub sequence_bytes : ℕ → List Value → List ℕ
+sequence_bytes tag items = tag ∷ four (length items) ++ flat_map value_bytes items
+
 -- a function is written as its source; a handle doesn't move, and has no bytes
 abbrev pub object_bytes : Object → List ℕ
-object_bytes (object.List items) = 16 ∷ four (length items) ++ flat_map value_bytes items
+object_bytes (object.List items) = sequence_bytes 16 items
+object_bytes (object.Tuple items) = sequence_bytes 19 items
 object_bytes (object.Dict pairs) = 17 ∷ four (length pairs) ++ flat_map pair_bytes pairs
 object_bytes (object.Function def) = 18 ∷ text_bytes def.source
 object_bytes (object.Handle name uses) = []

@@ -68,7 +68,7 @@ fn value_len(value: &Value) -> usize
     }
 }
 
-/// Adds the items of a list.
+/// Adds the items of a list or a tuple.
 fn add_items(mut total: u32, items: &[Value]) -> Option<u32>
     ensures { Adds total (flat_map spec.value_bytes items.now) result }
 {
@@ -90,8 +90,8 @@ fn add_pairs(mut total: u32, dict: &Dict) -> Option<u32>
     Some(total)
 }
 
-/// Adds a list.
-fn add_list(total: u32, items: &Items<Value>) -> Option<u32>
+/// Adds a list, or a tuple, which is as long.
+fn add_sequence(total: u32, items: &Items<Value>) -> Option<u32>
     ensures { Adds total (spec.object_bytes (Object.List items.now)) result }
 {
     let counted = add(total, TAG + COUNT)?;
@@ -120,7 +120,7 @@ fn add_object(total: u32, object: &Object) -> Option<u32>
     ensures { Adds total (spec.object_bytes object.now) result }
 {
     match object {
-        Object::List(items) => add_list(total, items),
+        Object::List(items) | Object::Tuple(items) => add_sequence(total, items),
         Object::Dict(dict) => add_dict(total, dict),
         Object::Function(function) => add_function(total, function),
         Object::Handle { .. } => Some(total),

@@ -1,4 +1,4 @@
-ghost use Rattle.std.specs.Prelude.{◌≡◌, ◌++◌, All, map, OnOk};
+ghost use Rattle.std.specs.Prelude.{◌≡◌, ◌<◌, ◌^◌, ◌++◌, All, length, map, OnOk};
 ghost use Rattle.std.specs.List.{flat_map};
 ghost use Rattle.py_heap.specs.References.{AreLive};
 ghost use Rattle.part_bytes.specs.Parts.{number_in, numbered, numbered_pair, numbered_object, objects_of};
@@ -13,7 +13,7 @@ use py_heap::{Dict, Function, Object, State};
 use py_value::Value;
 use std::alloc::AllocError;
 
-/// The items of a list.
+/// The items of a list or a tuple.
 fn write_items(out: &mut Items<u8>, numbers: &Numbers, items: &[Value]) -> Result<(), AllocError>
     ensures bytes { OnOk result (out.new ≡ out.old ++ flat_map spec.value_bytes (map (numbered (number_in numbers.now.order)) items.now)) }
     ensures plain { OnOk result (All IsPlain items.now) }
@@ -37,15 +37,18 @@ fn write_pairs(out: &mut Items<u8>, numbers: &Numbers, dict: &Dict) -> Result<()
     Ok(())
 }
 
-fn write_list(
+/// A list or a tuple, after the byte that says which.
+fn write_sequence(
     out: &mut Items<u8>,
     numbers: &Numbers,
+    tag: u8,
     items: &Items<Value>,
 ) -> Result<(), AllocError>
-    ensures bytes { OnOk result (out.new ≡ out.old ++ spec.object_bytes (numbered_object (number_in numbers.now.order) (Object.List items.now))) }
-    ensures plain { OnOk result (IsPlainObject (Object.List items.now)) }
+    ensures bytes { OnOk result (out.new ≡ out.old ++ spec.sequence_bytes tag (map (numbered (number_in numbers.now.order)) items.now)) }
+    ensures few { OnOk result (length items.now < 2 ^ 32) }
+    ensures plain { OnOk result (All IsPlain items.now) }
 {
-    out.push(tag::LIST)?;
+    out.push(tag)?;
     write_count(out, items.len())?;
     write_items(out, numbers, items.as_slice())
 }
@@ -75,7 +78,8 @@ fn write_object(out: &mut Items<u8>, numbers: &Numbers, object: &Object) -> Resu
     ensures plain { OnOk result (IsPlainObject object.now) }
 {
     match object {
-        Object::List(items) => write_list(out, numbers, items),
+        Object::List(items) => write_sequence(out, numbers, tag::LIST, items),
+        Object::Tuple(items) => write_sequence(out, numbers, tag::TUPLE, items),
         Object::Dict(dict) => write_dict(out, numbers, dict),
         Object::Function(function) => write_function(out, function),
         Object::Handle { .. } => Ok(()),

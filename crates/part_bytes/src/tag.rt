@@ -22,3 +22,5 @@ pub const LIST: u8 = 16;
 pub const DICT: u8 = 17;
 /// A function, as its source.
 pub const FUNCTION: u8 = 18;
+/// A tuple: how many items, and each.
+pub const TUPLE: u8 = 19;

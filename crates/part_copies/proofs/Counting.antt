@@ -90,6 +90,7 @@ module _ (order : List ℕ) where
 
   pub refs_object : (o : Object) → object_refs (numbered_object Number o) ≡ map Number (object_refs o)
   refs_object (object.List items) = refs_values items
+  refs_object (object.Tuple items) = refs_values items
   refs_object (object.Dict pairs) = refs_pairs pairs
   refs_object (object.Function def) = refl
   refs_object (object.Handle name uses) = refl

@@ -117,6 +117,10 @@ module _ (order : List ℕ) (few : length order < 2 ^ 32) where
     let e : length (map (numbered Number) items) ≡ length items = length-map items (numbered Number) in omega (arith, e, p.0),
     items_kept items (recursion_from_All IsPlain items p.1) k,
   )
+  object_kept (object.Tuple items) p w k = (
+    let e : length (map (numbered Number) items) ≡ length items = length-map items (numbered Number) in omega (arith, e, p.0),
+    items_kept items (recursion_from_All IsPlain items p.1) k,
+  )
   object_kept (object.Dict pairs) p w k = (
     let e : length (map (numbered_pair Number) pairs) ≡ length pairs = length-map pairs (numbered_pair Number) in omega (arith, e, p.0),
     pairs_kept [] pairs (none_yet pairs) w (recursion_from_All IsPlainPair pairs p.1) k,

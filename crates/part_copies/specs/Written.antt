@@ -16,6 +16,7 @@ use Rattle.part_bytes.specs.Plain.{IsPlainPart}
 -- it has no key twice, and a source that is read as its definition; and it is no handle
 abbrev pub IsWritable : Object → Type 0
 IsWritable (object.List items) = Unit {0}
+IsWritable (object.Tuple items) = Unit {0}
 IsWritable (object.Dict pairs) = HasNoKeyTwice pairs
 IsWritable (object.Function def) = verdict_alone def.source ≡ Ok def
 IsWritable (object.Handle name uses) = ⊥

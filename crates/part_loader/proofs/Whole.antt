@@ -54,6 +54,7 @@ same_pairs f (p ∷ pairs) e =
 
 pub without_references : (f : ℕ → ℕ) (o : Object) → refers o ≡ false → o ≡ numbered_object f o
 without_references f (object.List items) e = sym (ap (λ is. object.List is) (same_items f items e))
+without_references f (object.Tuple items) e = sym (ap (λ is. object.Tuple is) (same_items f items e))
 without_references f (object.Dict pairs) e = sym (ap (λ ps. object.Dict ps) (same_pairs f pairs e))
 without_references f (object.Function def) e = refl
 without_references f (object.Handle name uses) e = refl

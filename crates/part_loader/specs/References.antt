@@ -16,6 +16,7 @@ is_reference (value.Builtin builtin) = false
 
 abbrev pub refers : Object → Bool
 refers (object.List items) = list_any is_reference items
+refers (object.Tuple items) = list_any is_reference items
 refers (object.Dict pairs) = list_any (λ pair. is_reference pair.1) pairs
 refers (object.Function def) = false
 refers (object.Handle name uses) = false

@@ -117,7 +117,7 @@ fn refers(object: &Object) -> bool
     ensures { result ≡ spec.refers object.now }
 {
     match object {
-        Object::List(items) => any_reference(items.as_slice()),
+        Object::List(items) | Object::Tuple(items) => any_reference(items.as_slice()),
         Object::Dict(dict) => any_reference_under_a_key(dict),
         Object::Function(_) | Object::Handle { .. } => false,
     }
@@ -132,6 +132,9 @@ pub(crate) fn moved_object<P: Addresses>(
 {
     match object {
         Object::List(items) => Ok(Object::List(moved_items(alloc, addresses, items.as_slice())?)),
+        Object::Tuple(items) => {
+            Ok(Object::Tuple(moved_items(alloc, addresses, items.as_slice())?))
+        }
         Object::Dict(dict) => Ok(Object::Dict(moved_pairs(alloc, addresses, dict)?)),
         Object::Function(function) => Ok(Object::Function(function.share()?)),
         Object::Handle { name, uses } => Ok(Object::Handle {

@@ -12,10 +12,10 @@ use Rattle.py_heap.specs.Dicts.{Pairs, value_under}
 use Rattle.py_machine.specs.Errors.{recursion_error}
 use Rattle.py_meaning.specs.Acts.{Act}
 use Rattle.py_meaning.specs.Numbers.{as_number}
-use Rattle.py_meaning.specs.Compared.{Compares, is_one, items_equal, lists_equal, with_equal, pairs_equal, dicts_equal, objects_equal, refs_equal, others_equal, equal_by, values_equal, elements_equal, pair_equal, no_order, items_ordered, lists_ordered, refs_ordered, others_ordered, ordered_by, values_ordered, pair_ordered, not_in_this_text, not_searchable, in_text, in_items, in_object, in_ref, is_in, compared}
+use Rattle.py_meaning.specs.Compared.{Compares, is_one, items_equal, sequences_equal, with_equal, pairs_equal, dicts_equal, objects_equal, refs_equal, others_equal, equal_by, values_equal, elements_equal, pair_equal, no_order, items_ordered, objects_ordered, refs_ordered, others_ordered, ordered_by, values_ordered, pair_ordered, not_in_this_text, not_searchable, in_text, in_items, in_object, in_ref, is_in, compared}
 use Rattle.part_bytes.specs.Plain.{IsPlain}
 use Rattle.plain_states.proofs.Judging.{Any, Plainly, next, give, fails, chosen}
-use Rattle.plain_states.proofs.Least.{takes_step, finds, IsFound, AreListed, lists, tells_kind}
+use Rattle.plain_states.proofs.Least.{takes_step, finds, IsFound, tells_kind}
 use Rattle.plain_states.proofs.Itemizing.{IsHeld, ArePlainPairs, keyed_plain, under_plain}
 
 abbrev Judges : Act Bool → Type 0
@@ -31,8 +31,8 @@ module _ (below : Compares) (each : ComparesPlain below) where
   items_plain (v ∷ vs) [] h k = give Any _ tt
   items_plain (v ∷ vs) (w ∷ ws) h k = next (each v w h.0 k.0) λ b _. chosen b _ _ (items_plain vs ws h.1 k.1) (give Any _ tt)
 
-  lists_plain : (vs ws : List Value) → AllByRecursion IsPlain vs → AllByRecursion IsPlain ws → Judges (lists_equal below vs ws)
-  lists_plain vs ws h k = chosen (length vs == length ws) _ _ (items_plain vs ws h k) (give Any _ tt)
+  sequences_plain : (vs ws : List Value) → AllByRecursion IsPlain vs → AllByRecursion IsPlain ws → Judges (sequences_equal below vs ws)
+  sequences_plain vs ws h k = chosen (length vs == length ws) _ _ (items_plain vs ws h k) (give Any _ tt)
 
   with_equal_plain : (v : Value) (o : Option Value) → IsPlain v → IsHeld o → Judges (with_equal below v o)
   with_equal_plain v (Some w) h k = each v w h k
@@ -47,7 +47,8 @@ module _ (below : Compares) (each : ComparesPlain below) where
   dicts_plain pairs others h k = chosen (length pairs == length others) _ _ (pairs_plain pairs others h k) (give Any _ tt)
 
   objects_plain : (a b : ℕ) (o u : Option Object) → IsFound o → IsFound u → Judges (objects_equal below a b o u)
-  objects_plain a b (Some (object.List vs)) (Some (object.List ws)) h k = lists_plain vs ws h.0 k.0
+  objects_plain a b (Some (object.List vs)) (Some (object.List ws)) h k = sequences_plain vs ws h.0 k.0
+  objects_plain a b (Some (object.Tuple vs)) (Some (object.Tuple ws)) h k = sequences_plain vs ws h.0 k.0
   objects_plain a b (Some (object.Dict vs)) (Some (object.Dict ws)) h k = dicts_plain vs ws h.0 k.0
   objects_plain a b o u h k = give Any _ tt
 
@@ -108,14 +109,14 @@ module _ (equal : Compares) (ordered : Op → Compares) (each : ComparesPlain eq
   items_in_order o [] ws h k = give Any _ tt
   items_in_order o (v ∷ vs) [] h k = give Any _ tt
 
-  lists_in_order : (o : Op) (a b : ℕ) (s u : Option (List Value)) → AreListed s → AreListed u → Judges (lists_ordered equal ordered o a b s u)
-  lists_in_order o a b (Some vs) (Some ws) h k = items_in_order o vs ws h k
-  lists_in_order o a b None u h k = no_order_plain o (value.Ref a) (value.Ref b)
-  lists_in_order o a b (Some vs) None h k = no_order_plain o (value.Ref a) (value.Ref b)
+  objects_in_order : (o : Op) (a b : ℕ) (s u : Option Object) → IsFound s → IsFound u → Judges (objects_ordered equal ordered o a b s u)
+  objects_in_order o a b (Some (object.List vs)) (Some (object.List ws)) h k = items_in_order o vs ws h.0 k.0
+  objects_in_order o a b (Some (object.Tuple vs)) (Some (object.Tuple ws)) h k = items_in_order o vs ws h.0 k.0
+  objects_in_order o a b s u h k = no_order_plain o (value.Ref a) (value.Ref b)
 
   refs_in_order : (o : Op) (a b : ℕ) → Judges (refs_ordered equal ordered o a b)
   unfolding refs_ordered
-  refs_in_order o a b = next (lists a) λ s h. next (lists b) λ u k. lists_in_order o a b s u h k
+  refs_in_order o a b = next (finds a) λ s h. next (finds b) λ u k. objects_in_order o a b s u h k
 
   text_in_order : (o : Op) (text : List ℕ) (w : Value) → Judges (others_ordered equal ordered o (value.Text text) w)
   text_in_order o text (value.Text other) = give Any _ tt
@@ -168,6 +169,7 @@ module _ (equal : Compares) (each : ComparesPlain equal) where
 
   in_object_plain : (v : Value) (o : Option Object) → IsPlain v → IsFound o → Judges (in_object equal v o)
   in_object_plain v (Some (object.List ws)) h k = in_items_plain v ws h k.0
+  in_object_plain v (Some (object.Tuple ws)) h k = in_items_plain v ws h k.0
   in_object_plain v (Some (object.Dict pairs)) h k = next (keyed_plain v h) λ _ _. give Any _ tt
   in_object_plain v (Some (object.Function def)) h k = fails _
   in_object_plain v (Some (object.Handle name uses)) h k = fails _

@@ -21,15 +21,17 @@ use Rattle.py_value.specs.declared.value.Value.{Value}
 use Rattle.py_value.specs.declared.value.Value.TheVariants as value
 use Rattle.py_heap.specs.declared.heap.Object.{Object}
 use Rattle.py_heap.specs.declared.heap.Object.TheVariants as object
+use Rattle.py_heap.specs.declared.heap.SequenceKind.{SequenceKind}
+use Rattle.py_heap.specs.declared.heap.SequenceKind.TheVariants as sequences
 use Rattle.py_machine.specs.declared.frame.Flow.{Flow}
 use Rattle.py_machine.specs.declared.frame.Flow.TheVariants as flow
 use Rattle.py_machine.specs.declared.iteration.Iteration.{Iteration}
 use Rattle.py_machine.specs.Errors.{recursion_error, step_limit_error, range_elsewhere}
 use Rattle.py_machine.specs.Runs.{Name}
 use Rattle.py_meaning.specs.Acts.{Act, ◌>>=◌, ◌>>◌, pure, step}
-use Rattle.py_meaning.specs.Operators.{list_units, operated}
+use Rattle.py_meaning.specs.Operators.{sequence_units, operated}
 use Rattle.py_meaning.specs.Iterating.{Next, iterated}
-use Rattle.py_meaning.specs.Meaning.{frame_of, returned, is_none, after_turn, most_turns, Inner, goes_on, block, items_from, items, display, operands, sum, sign, negation, conditional, any_of, disjunction, all_of, conjunction, with_right, related, if_related, relations, comparison, pairs_from, dict_display, index, if_there, slice, method, words, line, print, str_of, str, str_called, repr, repr_called, builtin_called, entered, function_called, object_called, ref_called, called, call, expression, assign, assign_item, assigned, as_expression, augment, augment_item, augment_at, delete_item, deleted, show, return, arms, turns, repeat, deeper_items_from, source_called, call_source, source_of, turn, rounds, for_each, statement, level, show_last, last, top_from, cell}
+use Rattle.py_meaning.specs.Meaning.{frame_of, returned, is_none, after_turn, most_turns, Inner, goes_on, block, items_from, items, display, operands, sum, sign, negation, conditional, any_of, disjunction, all_of, conjunction, with_right, related, if_related, relations, comparison, pairs_from, dict_display, index, if_there, slice, method, words, line, print, str_of, str, str_called, repr, repr_called, builtin_called, entered, function_called, object_called, ref_called, called, call, expression, stored_in_item, stored, all_stored, given, assign, as_expression, augment, augment_item, augment_at, delete_item, deleted, show, return, arms, turns, repeat, deeper_items_from, source_called, call_source, source_of, turn, rounds, for_each, statement, level, show_last, last, top_from, cell}
 use Rattle.part_bytes.specs.Plain.{IsPlain}
 use Rattle.plain_states.specs.Constants.{constants_by_def}
 use Rattle.plain_states.specs.Plain.{ArePlain}
@@ -40,9 +42,10 @@ use Rattle.plain_states.proofs.Showing.{IsWritten, shown_plain, written_plain}
 use Rattle.plain_states.proofs.Operating.{Values, truth_plain, made_plain, made_text_plain, operated_plain, signed_plain}
 use Rattle.plain_states.proofs.Itemizing.{IsHeld, indexed_plain, sliced_plain, item_stored_plain, item_deleted_plain}
 use Rattle.plain_states.proofs.Comparing.{compared_plain}
+use Rattle.plain_states.proofs.Unpacking.{unpacked_plain}
 use Rattle.plain_states.proofs.Iterating.{IsPlainOver, Iterates, IsPlainNext, iterated_plain, range_of_plain, advance_plain}
 use Rattle.plain_states.proofs.Methodical.{method_of_plain, method_called_plain}
-use Rattle.plain_states.proofs.Simple.{IsPlainFlow, Flows, literal_plain, not_called_plain, draw_called_plain, len_called_plain, int_called_plain, handle_called_plain, tell_called_plain, frame_plain, returned_plain, store_plain, augmented_plain, delete_plain, define_plain, AreEvaluated, keys_from_plain, filled_plain, result_plain}
+use Rattle.plain_states.proofs.Simple.{IsPlainFlow, Flows, literal_plain, not_called_plain, draw_called_plain, len_called_plain, int_called_plain, handle_called_plain, tell_called_plain, frame_plain, returned_plain, store_plain, names_given_plain, augmented_plain, delete_plain, define_plain, AreEvaluated, keys_from_plain, filled_plain, result_plain}
 
 abbrev AllPlain : List Value → Type 0
 AllPlain = AllByRecursion IsPlain
@@ -75,13 +78,13 @@ module _ (inner : Inner) (evals : (e : Expr) → Evals e → Values (inner.eval 
   unfolding items
   items_plain es r = items_from_plain [] es r tt
 
-  display_plain : (es : List Expr) → AllEval es → Values (display inner es)
+  display_plain : (kind : SequenceKind) (es : List Expr) → AllEval es → Values (display inner kind es)
   unfolding display
-  display_plain es r =
+  display_plain kind es r =
       next takes_step λ _ _.
       next (items_plain es r) λ vs h.
-      next (pays (list_units vs)) λ _ _.
-      made_plain vs h
+      next (pays (sequence_units vs)) λ _ _.
+      made_plain kind vs h
 
   operand_plain : (operand : Operand) (x : Value) → Evals (out-Operand operand).value → IsPlain x → Values (step >> inner.eval (out-Operand operand).value >>= operated (out-Operand operand).op x)
   operand_plain operand x r h = next (next takes_step λ _ _. evals (out-Operand operand).value r) λ v k. operated_plain (out-Operand operand).op x v h k
@@ -290,6 +293,7 @@ module _ (inner : Inner) (evals : (e : Expr) → Evals e → Values (inner.eval 
   object_called_plain : (vs : List Value) (o : Option Object) → AllPlain vs → IsFound o → Values (object_called inner vs o)
   object_called_plain vs (Some (object.Function def)) k h = function_plain def vs h.0 k
   object_called_plain vs (Some (object.List xs)) k h = fails _
+  object_called_plain vs (Some (object.Tuple xs)) k h = fails _
   object_called_plain vs (Some (object.Dict xs)) k h = fails _
   object_called_plain vs (Some (object.Handle name uses)) k h = fails _
   object_called_plain vs None k h = fails _
@@ -314,7 +318,8 @@ module _ (inner : Inner) (evals : (e : Expr) → Evals e → Values (inner.eval 
   expression_plain : (x : Expr-F Expr Relation Operand Pair) → Holds x → Values (expression inner x)
   expression_plain (Expr-F.Name name) r = next takes_step_for_look λ _ _. looks name
   expression_plain (Expr-F.Literal constant) r = literal_plain constant r
-  expression_plain (Expr-F.ListOf es) r = display_plain es r
+  expression_plain (Expr-F.ListOf es) r = display_plain sequences.List es r
+  expression_plain (Expr-F.TupleOf es) r = display_plain sequences.Tuple es r
   expression_plain (Expr-F.Conditional test first second) r = conditional_plain test first second r
   expression_plain (Expr-F.Or es) r = disjunction_plain es r
   expression_plain (Expr-F.And es) r = conjunction_plain es r
@@ -331,27 +336,34 @@ module _ (inner : Inner) (evals : (e : Expr) → Evals e → Values (inner.eval 
 
   -- ---- statements
 
-  assign_plain : (name : Name) (e : Expr) → Evals e → Flows (assign inner name e)
-  unfolding assign
-  assign_plain name e r =
-      next takes_step λ _ _.
-      next (evals e r) λ v h.
-      next (store_plain name v h) λ _ _.
-      goes flow.Next tt
-
-  assign_item_plain : (on at e : Expr) → Evals on × Evals at → Evals e → Flows (assign_item inner on at e)
-  unfolding assign_item
-  assign_item_plain on at e q l =
-      next takes_step λ _ _.
-      next (evals e l) λ v h.
+  stored_in_item_plain : (on at : Expr) (v : Value) → Evals on × Evals at → IsPlain v → Plainly Any (stored_in_item inner on at v)
+  unfolding stored_in_item
+  stored_in_item_plain on at v q h =
       next (evals on q.0) λ r _.
       next (evals at q.1) λ x m.
-      next (item_stored_plain r x v m h) λ _ _.
-      goes flow.Next tt
+      item_stored_plain r x v m h
 
-  assigned_plain : (into : Target) (e : Expr) → EvalsAt into → Evals e → Flows (assigned inner into e)
-  assigned_plain (target.Name name) e q r = assign_plain name e r
-  assigned_plain (target.Item on at) e q r = assign_item_plain on at e q r
+  stored_plain : (into : Target) (v : Value) → EvalsAt into → IsPlain v → Plainly Any (stored inner into v)
+  stored_plain (target.Name name) v q h = store_plain name v h
+  stored_plain (target.Item on at) v q h = stored_in_item_plain on at v q h
+
+  all_stored_plain : (targets : List Target) (vs : List Value) → AllByRecursion EvalsAt targets → AllPlain vs → Plainly Any (all_stored inner targets vs)
+  all_stored_plain (into ∷ targets) (v ∷ vs) q h = next (stored_plain into v q.0 h.0) λ _ _. all_stored_plain targets vs q.1 h.1
+  all_stored_plain [] vs q h = give Any tt tt
+  all_stored_plain (into ∷ targets) [] q h = give Any tt tt
+
+  given_plain : (comma : Bool) (targets : List Target) (v : Value) → AllByRecursion EvalsAt targets → IsPlain v → Plainly Any (given inner comma targets v)
+  given_plain true targets v q h = next (unpacked_plain (length targets) v h) λ vs k. all_stored_plain targets vs q k
+  given_plain false (into ∷ others) v q h = stored_plain into v q.0 h
+  given_plain false [] v q h = give Any tt tt
+
+  assign_plain : (targets : List Target) (comma : Bool) (e : Expr) → AllByRecursion EvalsAt targets → Evals e → Flows (assign inner targets comma e)
+  unfolding assign
+  assign_plain targets comma e q r =
+      next takes_step λ _ _.
+      next (evals e r) λ v h.
+      next (given_plain comma targets v q h) λ _ _.
+      goes flow.Next tt
 
   as_expression_plain : Plainly Any (as_expression inner)
   unfolding as_expression
@@ -467,20 +479,20 @@ module _ (inner : Inner) (evals : (e : Expr) → Evals e → Values (inner.eval 
   source_plain e (Expr-F.Call callee args) r q = call_source_plain callee args q
   source_plain e _ r q = source_evaluated e r
 
-  turn_plain : (name : Name) (o : Next) (p : Iteration → Act Flow) → IsPlainNext o → ((r : Iteration) → IsPlainOver r → Flows (p r)) → Flows (turn inner name o p)
-  turn_plain name (Some x) p h k = next (next takes_step λ _ _. store_plain name x.0 h.0) λ _ _. k x.1 h.1
-  turn_plain name None p h k = goes flow.Next tt
+  turn_plain : (names : List Name) (comma : Bool) (o : Next) (p : Iteration → Act Flow) → IsPlainNext o → ((r : Iteration) → IsPlainOver r → Flows (p r)) → Flows (turn inner names comma o p)
+  turn_plain names comma (Some x) p h k = next (next takes_step λ _ _. names_given_plain comma names x.0 h.0) λ _ _. k x.1 h.1
+  turn_plain names comma None p h k = goes flow.Next tt
 
-  rounds_plain : (n : ℕ) (name : Name) (body : List Stmt) (r : Iteration) → AllByRecursion Runs body → IsPlainOver r → Flows (rounds inner n name body r)
+  rounds_plain : (n : ℕ) (names : List Name) (comma : Bool) (body : List Stmt) (r : Iteration) → AllByRecursion Runs body → IsPlainOver r → Flows (rounds inner n names comma body r)
   unfolding rounds
-  rounds_plain zero name body r all h = fails step_limit_error
-  rounds_plain (suc n) name body r all h =
+  rounds_plain zero names comma body r all h = fails step_limit_error
+  rounds_plain (suc n) names comma body r all h =
       next (advance_plain r h) λ o k.
-      turn_plain name o _ k λ s m. next (block_plain body all) λ x l. after_turn_plain x _ l (rounds_plain n name body s all m)
+      turn_plain names comma o _ k λ s m. next (block_plain body all) λ x l. after_turn_plain x _ l (rounds_plain n names comma body s all m)
 
-  for_plain : (name : Name) (e : Expr) (body : List Stmt) → Evals e × AllByRecursion Runs body → Flows (for_each inner name e body)
+  for_plain : (names : List Name) (comma : Bool) (e : Expr) (body : List Stmt) → Evals e × AllByRecursion Runs body → Flows (for_each inner names comma e body)
   unfolding for_each
-  for_plain name e body all = next (next takes_step λ _ _. source_plain e (out-Expr e) all.0 (holds e all.0)) λ r h. rounds_plain most_turns name body r all.1 h
+  for_plain names comma e body all = next (next takes_step λ _ _. source_plain e (out-Expr e) all.0 (holds e all.0)) λ r h. rounds_plain most_turns names comma body r all.1 h
 
   one_step : (e : Flow) → IsPlainFlow e → Flows (step >> pure e)
   one_step e h = next takes_step λ _ _. goes e h
@@ -492,12 +504,12 @@ module _ (inner : Inner) (evals : (e : Expr) → Evals e → Values (inner.eval 
   statement_plain (Stmt-F.Return e) r = return_plain e r
   statement_plain (Stmt-F.Global names) r = one_step flow.Next tt
   statement_plain (Stmt-F.Delete into) r = deleted_plain into r
-  statement_plain (Stmt-F.Assign into e) r = assigned_plain into e r.0 r.1
+  statement_plain (Stmt-F.Assign targets comma e) r = assign_plain targets comma e r.0 r.1
   statement_plain (Stmt-F.Augment into o e) r = augment_at_plain into o e r.0 r.1
   statement_plain (Stmt-F.Expression e) r = show_plain e r
   statement_plain (Stmt-F.If tests other) r = next takes_step λ _ _. arms_plain tests other r.0 r.1
   statement_plain (Stmt-F.While test body) r = repeat_plain test body r.0 r.1
-  statement_plain (Stmt-F.For name source body) r = for_plain name source body r
+  statement_plain (Stmt-F.For names comma source body) r = for_plain names comma source body r
   statement_plain (Stmt-F.Function def) r = define_plain def r
 
 -- ---- the levels

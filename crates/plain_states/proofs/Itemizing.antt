@@ -10,13 +10,15 @@ use Rattle.py_value.specs.Keys.{key_of, value_of, same_key}
 use Rattle.py_value.specs.Values.{weight}
 use Rattle.py_heap.specs.declared.heap.Object.{Object}
 use Rattle.py_heap.specs.declared.heap.Object.TheVariants as object
+use Rattle.py_heap.specs.declared.heap.SequenceKind.{SequenceKind}
+use Rattle.py_heap.specs.declared.heap.SequenceKind.TheVariants as sequences
 use Rattle.py_heap.specs.Dicts.{Pairs, value_under}
 use Rattle.py_machine.specs.declared.error.PyError.{PyError}
 use Rattle.py_machine.specs.declared.frame.Change.TheVariants as changes
-use Rattle.py_machine.specs.Errors.{not_an_index, no_list_index, no_text_index, no_assigned_index}
+use Rattle.py_machine.specs.Errors.{not_an_index, no_index, no_text_index, no_assigned_index}
 use Rattle.py_meaning.specs.Acts.{Act}
 use Rattle.py_meaning.specs.Numbers.{as_number}
-use Rattle.py_meaning.specs.Items.{position_in, item_at, item_or, key_or, keyed, list_indexed, dict_indexed, character, text_indexed, object_indexed, not_indexed, indexed, number_or, bound, from_position, to_position, text_sliced, list_sliced, object_sliced, sliced, stored_at, list_stored, pair_units, put_in, dict_stored, object_stored, not_stored, item_stored, deleted_at, list_deleted, pair_deleted, dict_deleted, object_deleted, not_deleted, item_deleted}
+use Rattle.py_meaning.specs.Items.{position_in, item_at, item_or, key_or, keyed, sequence_indexed, dict_indexed, character, text_indexed, object_indexed, not_indexed, indexed, number_or, bound, from_position, to_position, text_sliced, sequence_sliced, object_sliced, sliced, stored_at, list_stored, pair_units, put_in, dict_stored, object_stored, not_stored, item_stored, deleted_at, list_deleted, pair_deleted, dict_deleted, object_deleted, not_deleted, item_deleted}
 use Rattle.part_bytes.specs.Plain.{IsPlain, IsPlainPair, IsText}
 use Rattle.plain_states.proofs.Judging.{Any, Plainly, next, give, fails}
 use Rattle.plain_states.proofs.Least.{pays, charges, alters, alters_within, finds, IsFound, tells_kind}
@@ -82,9 +84,9 @@ under_plain (pair ∷ pairs) key h = cond_held (same_key key pair.0) pair.1 (val
 
 -- ---- an index
 
-list_indexed_plain : (vs : List Value) (n : Option ℤ) → AllByRecursion IsPlain vs → Values (list_indexed vs n)
-list_indexed_plain vs (Some n) h = item_or_plain no_list_index _ (items_there vs (position_in (length vs) n) h)
-list_indexed_plain vs None h = fails not_an_index
+sequence_indexed_plain : (kind : SequenceKind) (vs : List Value) (n : Option ℤ) → AllByRecursion IsPlain vs → Values (sequence_indexed kind vs n)
+sequence_indexed_plain kind vs (Some n) h = item_or_plain (no_index kind) _ (items_there vs (position_in (length vs) n) h)
+sequence_indexed_plain kind vs None h = fails not_an_index
 
 dict_indexed_plain : (pairs : Pairs) (x : Value) → ArePlainPairs pairs → IsPlain x → Values (dict_indexed pairs x)
 unfolding dict_indexed
@@ -99,7 +101,8 @@ text_indexed_plain text (Some n) h = character_plain text (position_in (length (
 text_indexed_plain text None h = fails not_an_index
 
 object_indexed_plain : (x : Value) (o : Option Object) → IsPlain x → IsFound o → Values (object_indexed x o)
-object_indexed_plain x (Some (object.List vs)) k h = list_indexed_plain vs (as_number x) h.0
+object_indexed_plain x (Some (object.List vs)) k h = sequence_indexed_plain sequences.List vs (as_number x) h.0
+object_indexed_plain x (Some (object.Tuple vs)) k h = sequence_indexed_plain sequences.Tuple vs (as_number x) h.0
 object_indexed_plain x (Some (object.Dict pairs)) k h = dict_indexed_plain pairs x h.0 k
 object_indexed_plain x (Some (object.Function def)) k h = fails _
 object_indexed_plain x (Some (object.Handle name uses)) k h = fails _
@@ -142,15 +145,16 @@ text_sliced_plain text from to h =
     next (bound_plain to) λ b _.
     made_text_plain _ (cut_text text (from_position (length (chars text)) a) (to_position (length (chars text)) b) (is_text text h))
 
-list_sliced_plain : (vs : List Value) (from to : Option Value) → AllByRecursion IsPlain vs → Values (list_sliced vs from to)
-unfolding list_sliced
-list_sliced_plain vs from to h =
+sequence_sliced_plain : (kind : SequenceKind) (vs : List Value) (from to : Option Value) → AllByRecursion IsPlain vs → Values (sequence_sliced kind vs from to)
+unfolding sequence_sliced
+sequence_sliced_plain kind vs from to h =
     next (bound_plain from) λ a _.
     next (bound_plain to) λ b _.
-    joined_plain _ (taken_all _ _ (dropped_all (from_position (length vs) a) vs h))
+    joined_plain kind _ (taken_all _ _ (dropped_all (from_position (length vs) a) vs h))
 
 object_sliced_plain : (from to : Option Value) (o : Option Object) → IsFound o → Values (object_sliced from to o)
-object_sliced_plain from to (Some (object.List vs)) h = list_sliced_plain vs from to h.0
+object_sliced_plain from to (Some (object.List vs)) h = sequence_sliced_plain sequences.List vs from to h.0
+object_sliced_plain from to (Some (object.Tuple vs)) h = sequence_sliced_plain sequences.Tuple vs from to h.0
 object_sliced_plain from to (Some (object.Dict pairs)) h = fails _
 object_sliced_plain from to (Some (object.Function def)) h = fails _
 object_sliced_plain from to (Some (object.Handle name uses)) h = fails _
@@ -188,6 +192,7 @@ dict_stored_plain a pairs x v h l = next (keyed_plain x h) λ k m. put_in_plain 
 
 object_stored_plain : (a : ℕ) (x v : Value) (o : Option Object) → IsPlain x → IsPlain v → Does (object_stored a x v o)
 object_stored_plain a x v (Some (object.List vs)) h l = list_stored_plain a vs v (as_number x) l
+object_stored_plain a x v (Some (object.Tuple vs)) h l = fails _
 object_stored_plain a x v (Some (object.Dict pairs)) h l = dict_stored_plain a pairs x v h l
 object_stored_plain a x v (Some (object.Function def)) h l = fails _
 object_stored_plain a x v (Some (object.Handle name uses)) h l = fails _
@@ -222,6 +227,7 @@ dict_deleted_plain a pairs x h = next (keyed_plain x h) λ k _. pair_deleted_pla
 
 object_deleted_plain : (a : ℕ) (x : Value) (o : Option Object) → IsPlain x → Does (object_deleted a x o)
 object_deleted_plain a x (Some (object.List vs)) h = list_deleted_plain a vs (as_number x)
+object_deleted_plain a x (Some (object.Tuple vs)) h = fails _
 object_deleted_plain a x (Some (object.Dict pairs)) h = dict_deleted_plain a pairs x h
 object_deleted_plain a x (Some (object.Function def)) h = fails _
 object_deleted_plain a x (Some (object.Handle name uses)) h = fails _

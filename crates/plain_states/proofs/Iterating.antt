@@ -34,6 +34,7 @@ Iterates = Plainly IsPlainOver
 
 object_iterated_plain : (a : ℕ) (o : Option Object) → Iterates (object_iterated a o)
 object_iterated_plain a (Some (object.List vs)) = give IsPlainOver (iteration.Items a 0) tt
+object_iterated_plain a (Some (object.Tuple vs)) = give IsPlainOver (iteration.Items a 0) tt
 object_iterated_plain a (Some (object.Dict pairs)) = give IsPlainOver (iteration.Keys a 0 (length pairs)) tt
 object_iterated_plain a (Some (object.Function def)) = fails _
 object_iterated_plain a (Some (object.Handle name uses)) = fails _
@@ -77,6 +78,7 @@ with_rest_plain None rest h k = tt
 
 next_item_plain : (a n : ℕ) (o : Option Object) → IsFound o → Plainly IsPlainNext (next_item a n o)
 next_item_plain a n (Some (object.List vs)) h = give IsPlainNext _ (with_rest_plain (slice_get vs n) (iteration.Items a (n + 1)) (at_place vs n h.0) tt)
+next_item_plain a n (Some (object.Tuple vs)) h = give IsPlainNext _ (with_rest_plain (slice_get vs n) (iteration.Items a (n + 1)) (at_place vs n h.0) tt)
 next_item_plain a n (Some (object.Dict pairs)) h = give IsPlainNext None tt
 next_item_plain a n (Some (object.Function def)) h = give IsPlainNext None tt
 next_item_plain a n (Some (object.Handle name uses)) h = give IsPlainNext None tt
@@ -91,6 +93,7 @@ next_key_plain : (a n size : ℕ) (o : Option Object) → IsFound o → Plainly 
 next_key_plain a n size (Some (object.Dict pairs)) h =
     chosen (length pairs == size) _ _ (give IsPlainNext _ (with_rest_plain (key_in (slice_get pairs n)) (iteration.Keys a (n + 1) size) (key_at pairs n h.0) tt)) (fails changed_size)
 next_key_plain a n size (Some (object.List vs)) h = give IsPlainNext None tt
+next_key_plain a n size (Some (object.Tuple vs)) h = give IsPlainNext None tt
 next_key_plain a n size (Some (object.Function def)) h = give IsPlainNext None tt
 next_key_plain a n size (Some (object.Handle name uses)) h = give IsPlainNext None tt
 next_key_plain a n size None h = give IsPlainNext None tt

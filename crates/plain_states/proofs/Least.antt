@@ -287,6 +287,7 @@ AreListed (Some vs) = AllByRecursion IsPlain vs
 pub listed : (o : Option Object) → IsFound o → AreListed (list_in o)
 listed None h = tt
 listed (Some (object.List vs)) h = h.0
+listed (Some (object.Tuple vs)) h = tt
 listed (Some (object.Dict pairs)) h = tt
 listed (Some (object.Function def)) h = tt
 listed (Some (object.Handle name uses)) h = tt
@@ -423,6 +424,7 @@ handle_changed _ name uses most h = tt
 
 object_changed : (c : Change) (o : Object) → IsPlainChange c → HoldsPlain o → IsAfterChange (items_in o + growth c) (changed c o)
 object_changed c (object.List vs) k h = items_changed c vs k h
+object_changed c (object.Tuple vs) k h = tt
 object_changed c (object.Dict pairs) k h = pairs_changed c pairs k h
 object_changed c (object.Function def) k h = tt
 object_changed c (object.Handle name uses) k h = handle_changed c name uses (0 + growth c) h

@@ -4,6 +4,7 @@ pub mod Texts
 pub mod Shapes
 pub mod Operating
 pub mod Itemizing
+pub mod Unpacking
 pub mod Comparing
 pub mod Iterating
 pub mod Methodical

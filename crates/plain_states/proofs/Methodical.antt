@@ -9,6 +9,7 @@ use Rattle.py_value.specs.Reprs.{key_text}
 use Rattle.py_value.specs.Values.{weight}
 use Rattle.py_heap.specs.declared.heap.Object.{Object}
 use Rattle.py_heap.specs.declared.heap.Object.TheVariants as object
+use Rattle.py_heap.specs.declared.heap.SequenceKind.TheVariants as sequences
 use Rattle.py_heap.specs.Dicts.{value_under}
 use Rattle.py_machine.specs.declared.frame.Change.TheVariants as changes
 use Rattle.py_machine.specs.declared.method.BoundMethod.{BoundMethod}
@@ -59,6 +60,7 @@ text_bound_plain text name None h = fails _
 
 object_bound_plain : (a : ℕ) (name : Name) (o : Option Object) → Binds (object_bound a name o)
 object_bound_plain a name (Some (object.List vs)) = list_bound_plain a name (list_method_named name)
+object_bound_plain a name (Some (object.Tuple vs)) = fails _
 object_bound_plain a name (Some (object.Dict pairs)) = dict_bound_plain a name (dict_method_named name)
 object_bound_plain a name (Some (object.Function def)) = fails _
 object_bound_plain a name (Some (object.Handle other uses)) = fails _
@@ -85,6 +87,7 @@ append_plain a v h =
 
 items_in_plain : (o : Option Object) → IsFound o → AllByRecursion IsPlain (items_in o)
 items_in_plain (Some (object.List vs)) h = h.0
+items_in_plain (Some (object.Tuple vs)) h = tt
 items_in_plain (Some (object.Dict pairs)) h = tt
 items_in_plain (Some (object.Function def)) h = tt
 items_in_plain (Some (object.Handle name uses)) h = tt
@@ -157,6 +160,7 @@ list_method_plain m a vs h = fails (wrong_number (list_method_name m))
 pub pairs_in_plain : (o : Option Object) → IsFound o → ArePlainPairs (pairs_in o)
 pairs_in_plain (Some (object.Dict pairs)) h = h.0
 pairs_in_plain (Some (object.List vs)) h = tt
+pairs_in_plain (Some (object.Tuple vs)) h = tt
 pairs_in_plain (Some (object.Function def)) h = tt
 pairs_in_plain (Some (object.Handle name uses)) h = tt
 pairs_in_plain None h = tt
@@ -229,7 +233,7 @@ texts_plain (text ∷ texts) h = (h.0, texts_plain texts h.1)
 
 split_plain : (text : List ℕ) (v : Value) → IsText text → IsPlain v → Values (split text v)
 split_plain text (value.Text []) h k = fails empty_separator
-split_plain text (value.Text (x ∷ separator)) h k = joined_plain _ (texts_plain (split_at (x ∷ separator) text) (split_texts x separator text k h))
+split_plain text (value.Text (x ∷ separator)) h k = joined_plain sequences.List _ (texts_plain (split_at (x ∷ separator) text) (split_texts x separator text k h))
 split_plain text value.Nothing h k = fails _
 split_plain text (value.Bool b) h k = fails _
 split_plain text (value.Number n) h k = fails _

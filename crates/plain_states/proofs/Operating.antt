@@ -11,16 +11,19 @@ use Rattle.py_tree.specs.declared.expressions.Op.TheVariants as op
 use Rattle.py_value.specs.declared.value.Value.{Value}
 use Rattle.py_value.specs.declared.value.Value.TheVariants as value
 use Rattle.py_value.specs.Values.{weight, is_zero}
+use Rattle.py_heap.specs.declared.heap.Object.{Object}
 use Rattle.py_heap.specs.declared.heap.Object.TheVariants as object
+use Rattle.py_heap.specs.declared.heap.SequenceKind.{SequenceKind}
+use Rattle.py_heap.specs.declared.heap.SequenceKind.TheVariants as sequences
 use Rattle.py_machine.specs.Errors.{overflow_error, division_error}
-use Rattle.py_meaning.specs.Acts.{Act, ◌>>=◌, pure, fail, choose, add}
+use Rattle.py_meaning.specs.Acts.{Act, pure, fail, choose}
 use Rattle.py_meaning.specs.Truth.{object_true, truth_of}
 use Rattle.py_meaning.specs.Numbers.{fits, number, as_number, floor, modulo, quotient, remainder, calculated}
 use Rattle.py_meaning.specs.Operators as operators
-use Rattle.py_meaning.specs.Operators.{list_units, joined, made_text, unsupported, lists_joined, lists_sum, together, times, list_repeated, ref_repeated, repeated, multiplied, combined, operated_by, operated, signed_number, no_sign, signed_by, signed}
+use Rattle.py_meaning.specs.Operators.{sequence_units, made, joined, made_text, unsupported, objects_joined, refs_joined, together, times, object_repeated, ref_repeated, repeated, multiplied, combined, operated_by, operated, signed_number, no_sign, signed_by, signed}
 use Rattle.part_bytes.specs.Plain.{IsPlain}
 use Rattle.plain_states.proofs.Judging.{Credit, none, paid, Gives, Any, Plainly, next, give, fails, chosen}
-use Rattle.plain_states.proofs.Least.{takes_step, pays, charges, adds, finds, AreListed, lists, tells_kind, appended}
+use Rattle.plain_states.proofs.Least.{takes_step, pays, charges, adds, finds, IsFound, tells_kind, appended}
 use Rattle.plain_states.proofs.Texts.{text_of, is_text, repeated_text}
 
 -- what an act gives is a plain value
@@ -99,16 +102,18 @@ pub weights : (vs : List Value) → length vs ≤ sum_by weight vs
 weights [] = omega arith
 weights (v ∷ vs) = let e = sum_by-cons weight v vs in let l = weights vs in let w = weighs v in omega (arith, e, l, w)
 
--- a new list, of which the units are paid
-pub made_plain : (vs : List Value) → AllByRecursion IsPlain vs → Gives (paid (list_units vs)) none IsPlain (add (object.List vs) >>= (λ at. pure (value.Ref at)))
-made_plain vs h = let l = weights vs in next (adds (list_units vs) (object.List vs) h (omega arith) (omega (arith, l))) λ at _. give IsPlain (value.Ref at) tt
+-- a new list or tuple, of which the units are paid
+pub made_plain : (kind : SequenceKind) (vs : List Value) → AllByRecursion IsPlain vs → Gives (paid (sequence_units vs)) none IsPlain (made kind vs)
+unfolding made
+made_plain sequences.List vs h = let l = weights vs in next (adds (sequence_units vs) (object.List vs) h (omega arith) (omega (arith, l))) λ at _. give IsPlain (value.Ref at) tt
+made_plain sequences.Tuple vs h = let l = weights vs in next (adds (sequence_units vs) (object.Tuple vs) h (omega arith) (omega (arith, l))) λ at _. give IsPlain (value.Ref at) tt
 
-pub joined_plain : (vs : List Value) → AllByRecursion IsPlain vs → Values (joined vs)
+pub joined_plain : (kind : SequenceKind) (vs : List Value) → AllByRecursion IsPlain vs → Values (joined kind vs)
 unfolding joined
-joined_plain vs h =
-    next (pays (list_units vs)) λ _ _.
+joined_plain kind vs h =
+    next (pays (sequence_units vs)) λ _ _.
     next (steps_plain (length vs)) λ _ _.
-    made_plain vs h
+    made_plain kind vs h
 
 pub made_text_plain : (t : List ℕ) → IsUtf8 t → Values (made_text t)
 unfolding made_text
@@ -120,21 +125,21 @@ unsupported_plain : {V : Value → Type 0} (o : Op) (x v : Value) → Plainly V 
 unfolding unsupported
 unsupported_plain o x v = next (tells_kind x) λ _ _. next (tells_kind v) λ _ _. fails _
 
-lists_joined_plain : (a b : ℕ) (o u : Option (List Value)) → AreListed o → AreListed u → Values (lists_joined a b o u)
-lists_joined_plain a b (Some vs) (Some ws) h k = joined_plain (vs ++ ws) (appended IsPlain vs ws h k)
-lists_joined_plain a b None u h k = unsupported_plain op.Plus (value.Ref a) (value.Ref b)
-lists_joined_plain a b (Some vs) None h k = unsupported_plain op.Plus (value.Ref a) (value.Ref b)
+objects_joined_plain : (a b : ℕ) (o u : Option Object) → IsFound o → IsFound u → Values (objects_joined a b o u)
+objects_joined_plain a b (Some (object.List vs)) (Some (object.List ws)) h k = joined_plain sequences.List (vs ++ ws) (appended IsPlain vs ws h.0 k.0)
+objects_joined_plain a b (Some (object.Tuple vs)) (Some (object.Tuple ws)) h k = joined_plain sequences.Tuple (vs ++ ws) (appended IsPlain vs ws h.0 k.0)
+objects_joined_plain a b o u h k = unsupported_plain op.Plus (value.Ref a) (value.Ref b)
 
-lists_sum_plain : (a b : ℕ) → Values (lists_sum a b)
-unfolding lists_sum
-lists_sum_plain a b = next (lists a) λ o h. next (lists b) λ u k. lists_joined_plain a b o u h k
+refs_joined_plain : (a b : ℕ) → Values (refs_joined a b)
+unfolding refs_joined
+refs_joined_plain a b = next (finds a) λ o h. next (finds b) λ u k. objects_joined_plain a b o u h k
 
 after_text : (text : List ℕ) (v : Value) → IsPlain (value.Text text) → IsPlain v → Values (together (value.Text text) v)
 after_text text (value.Text more) h k = made_text_plain (text ++ more) (IsUtf8-append text more (is_text text h) (is_text more k))
 after_text text v h k = unsupported_plain op.Plus (value.Text text) v
 
 after_ref : (a : ℕ) (v : Value) → Values (together (value.Ref a) v)
-after_ref a (value.Ref b) = lists_sum_plain a b
+after_ref a (value.Ref b) = refs_joined_plain a b
 after_ref a v = unsupported_plain op.Plus (value.Ref a) v
 
 together_plain : (x v : Value) → IsPlain x → IsPlain v → Values (together x v)
@@ -146,13 +151,14 @@ repeated_all : (n : ℕ) (vs : List Value) → AllByRecursion IsPlain vs → All
 repeated_all zero vs h = tt
 repeated_all (suc n) vs h = appended IsPlain vs (repeat n vs) h (repeated_all n vs h)
 
-list_repeated_plain : (n : ℤ) (x v : Value) (o : Option (List Value)) → AreListed o → Values (list_repeated n x v o)
-list_repeated_plain n x v (Some vs) h = joined_plain _ (repeated_all (times n) vs h)
-list_repeated_plain n x v None h = unsupported_plain op.Times x v
+object_repeated_plain : (n : ℤ) (x v : Value) (o : Option Object) → IsFound o → Values (object_repeated n x v o)
+object_repeated_plain n x v (Some (object.List vs)) h = joined_plain sequences.List _ (repeated_all (times n) vs h.0)
+object_repeated_plain n x v (Some (object.Tuple vs)) h = joined_plain sequences.Tuple _ (repeated_all (times n) vs h.0)
+object_repeated_plain n x v o h = unsupported_plain op.Times x v
 
 ref_repeated_plain : (n : ℤ) (x v : Value) (a : ℕ) → Values (ref_repeated n x v a)
 unfolding ref_repeated
-ref_repeated_plain n x v a = next (lists a) λ o h. list_repeated_plain n x v o h
+ref_repeated_plain n x v a = next (finds a) λ o h. object_repeated_plain n x v o h
 
 repeated_plain : (n : ℤ) (x v held : Value) → IsPlain held → Values (repeated n x v held)
 repeated_plain n x v (value.Text text) h = made_text_plain _ (repeated_text (times n) text (is_text text h))

@@ -15,7 +15,7 @@ use Rattle.py_tree.specs.declared.statements.Stmt.{Stmt, out-Stmt}
 use Rattle.py_tree.specs.declared.statements.Stmt.TheOpen.{Stmt-F}
 use Rattle.py_tree.specs.declared.statements.Stmt.TheFolds.{map-Stmt, fold_out-Stmt, fold_out-Arm, fold_out-Def}
 use Rattle.part_bytes.specs.Plain.{IsText}
-use Rattle.plain_states.specs.Constants.{Constants, gathered, expression_step, relation_step, operand_step, pair_step, constants_of, constants_of_relation, constants_of_operand, constants_of_pair, if_constants, constants_at, statement_step, arm_step, def_step, constants_by, constants_by_arm, constants_by_def, constants_in}
+use Rattle.plain_states.specs.Constants.{Constants, gathered, expression_step, relation_step, operand_step, pair_step, constants_of, constants_of_relation, constants_of_operand, constants_of_pair, if_constants, constants_at, constants_at_all, statement_step, arm_step, def_step, constants_by, constants_by_arm, constants_by_def, constants_in}
 use Rattle.plain_states.specs.Plain.{IsPlainLiteral, ArePlain}
 
 -- if each element of a list has P, each has what follows from P
@@ -61,6 +61,7 @@ abbrev pub Holds : Expr-F Expr Relation Operand Pair → Type 0
 Holds (Expr-F.Name name) = Unit {0}
 Holds (Expr-F.Literal constant) = IsPlainLiteral constant
 Holds (Expr-F.ListOf es) = AllByRecursion Evals es
+Holds (Expr-F.TupleOf es) = AllByRecursion Evals es
 Holds (Expr-F.DictOf ps) = EvalPairs ps
 Holds (Expr-F.Conditional test first second) = Evals test × Evals first × Evals second
 Holds (Expr-F.Or es) = AllByRecursion Evals es
@@ -108,6 +109,7 @@ holds_layer : (x : Expr-F Expr Relation Operand Pair) → ArePlain (expression_s
 holds_layer (Expr-F.Name name) h = tt
 holds_layer (Expr-F.Literal constant) h = h.0
 holds_layer (Expr-F.ListOf es) h = each_part constants_of es h
+holds_layer (Expr-F.TupleOf es) h = each_part constants_of es h
 holds_layer (Expr-F.DictOf ps) h = each_more _ _ pair ps (each_part constants_of_pair ps h)
 holds_layer (Expr-F.Conditional test first second) h =
     let w = parts (constants_of test) (constants_of first ++ constants_of second) h in
@@ -152,12 +154,12 @@ RunsArm arm = Evals (out-Arm arm).test × AllByRecursion Runs (out-Arm arm).body
 abbrev pub Opens : Stmt-F Stmt Arm Def → Type 0
 Opens (Stmt-F.Return e) = EvalsIf e
 Opens (Stmt-F.Delete into) = EvalsAt into
-Opens (Stmt-F.Assign into e) = EvalsAt into × Evals e
+Opens (Stmt-F.Assign targets comma e) = AllByRecursion EvalsAt targets × Evals e
 Opens (Stmt-F.Augment into o e) = EvalsAt into × Evals e
 Opens (Stmt-F.Expression e) = Evals e
 Opens (Stmt-F.If arms other) = AllByRecursion RunsArm arms × AllByRecursion Runs other
 Opens (Stmt-F.While test body) = Evals test × AllByRecursion Runs body
-Opens (Stmt-F.For name source body) = Evals source × AllByRecursion Runs body
+Opens (Stmt-F.For names comma source body) = Evals source × AllByRecursion Runs body
 Opens (Stmt-F.Function def) = ArePlain (constants_by_def def)
 Opens _ = Unit {0}
 
@@ -192,14 +194,16 @@ assigns into e h = let w = parts (constants_at into) (constants_of e) h in (eval
 opens_layer : (x : Stmt-F Stmt Arm Def) → ArePlain (statement_step (map-Stmt Stmt Arm Def Constants Constants Constants constants_by constants_by_arm constants_by_def x)) → Opens x
 opens_layer (Stmt-F.Return e) h = if_evals e h
 opens_layer (Stmt-F.Delete into) h = evals_at into h
-opens_layer (Stmt-F.Assign into e) h = assigns into e h
+opens_layer (Stmt-F.Assign targets comma e) h =
+    let w = parts (constants_at_all targets) (constants_of e) h in
+    (each_more _ _ evals_at targets (each_part constants_at targets w.0), w.1)
 opens_layer (Stmt-F.Augment into o e) h = assigns into e h
 opens_layer (Stmt-F.Expression e) h = h
 opens_layer (Stmt-F.If arms other) h =
     let w = parts (gathered (map constants_by_arm arms)) (gathered (map constants_by other)) h in
     (each_more _ _ arm arms (each_part constants_by_arm arms w.0), runs_each other w.1)
 opens_layer (Stmt-F.While test body) h = let w = parts (constants_of test) (gathered (map constants_by body)) h in (w.0, runs_each body w.1)
-opens_layer (Stmt-F.For name source body) h = let w = parts (constants_of source) (gathered (map constants_by body)) h in (w.0, runs_each body w.1)
+opens_layer (Stmt-F.For names comma source body) h = let w = parts (constants_of source) (gathered (map constants_by body)) h in (w.0, runs_each body w.1)
 opens_layer (Stmt-F.Function def) h = h
 opens_layer Stmt-F.Pass h = tt
 opens_layer Stmt-F.Break h = tt

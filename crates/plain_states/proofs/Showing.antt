@@ -13,11 +13,13 @@ use Rattle.py_value.specs.declared.value.Value.TheVariants as value
 use Rattle.py_value.specs.Keys.{value_of}
 use Rattle.py_heap.specs.declared.heap.Object.{Object}
 use Rattle.py_heap.specs.declared.heap.Object.TheVariants as object
+use Rattle.py_heap.specs.declared.heap.SequenceKind.{SequenceKind}
+use Rattle.py_heap.specs.declared.heap.SequenceKind.TheVariants as sequences
 use Rattle.py_heap.specs.Dicts.{Pairs}
 use Rattle.py_heap.specs.Searches.{has}
 use Rattle.py_machine.specs.Errors.{recursion_error}
 use Rattle.py_meaning.specs.Acts.{Act, pure}
-use Rattle.py_meaning.specs.Shown.{builtin_text, plain_text, open_text, function_text, handle_text, Shows, more_items, all_items, pair_text, more_pairs, all_pairs, object_shown, object_text, value_text, str_text, shown, written}
+use Rattle.py_meaning.specs.Shown.{builtin_text, plain_text, open_text, function_text, handle_text, opening, closing, Shows, more_items, all_items, sequence_text, pair_text, more_pairs, all_pairs, object_shown, object_text, value_text, str_text, shown, written}
 use Rattle.part_bytes.specs.Plain.{IsPlain, IsPlainPair, IsText}
 use Rattle.plain_states.proofs.Judging.{Plainly, next, give, fails, chosen}
 use Rattle.plain_states.proofs.Least.{takes_step, finds, IsFound}
@@ -53,9 +55,20 @@ plain_utf8 (value.Builtin b) h = builtin_utf8 b
 open_utf8 : (o : Option Object) → IsUtf8 (open_text o)
 open_utf8 (Some (object.Dict pairs)) = ascii _ refl
 open_utf8 (Some (object.List vs)) = ascii _ refl
+open_utf8 (Some (object.Tuple vs)) = ascii _ refl
 open_utf8 (Some (object.Function def)) = ascii _ refl
 open_utf8 (Some (object.Handle name uses)) = ascii _ refl
 open_utf8 None = ascii _ refl
+
+opening_utf8 : (kind : SequenceKind) → IsUtf8 (opening kind)
+opening_utf8 sequences.List = ascii _ refl
+opening_utf8 sequences.Tuple = ascii _ refl
+
+closing_utf8 : (kind : SequenceKind) (vs : List Value) → IsUtf8 (closing kind vs)
+closing_utf8 sequences.List vs = ascii _ refl
+closing_utf8 sequences.Tuple [] = ascii _ refl
+closing_utf8 sequences.Tuple (v ∷ []) = ascii _ refl
+closing_utf8 sequences.Tuple (v ∷ w ∷ vs) = ascii _ refl
 
 function_utf8 : (name : List ℕ) → IsUtf8 name → IsUtf8 (function_text name)
 function_utf8 name u = IsUtf8-append (codes "<function " ++ name) (codes ">") (IsUtf8-append (codes "<function ") name (ascii _ refl) u) (ascii _ refl)
@@ -68,13 +81,16 @@ abbrev ShowsPlain : Shows → Type 0
 ShowsPlain show = (path text : List ℕ) (v : Value) → IsUtf8 text → IsPlain v → ShowsText (show path text v)
 
 module _ (below : Shows) (each : ShowsPlain below) where
-  more_plain : (path text : List ℕ) (vs : List Value) → IsUtf8 text → AllByRecursion IsPlain vs → ShowsText (more_items below path text vs)
-  more_plain path text [] u h = shows _ (IsUtf8-append text (codes "]") u (ascii _ refl))
-  more_plain path text (v ∷ vs) u h = next (each path (text ++ codes ", ") v (IsUtf8-append text (codes ", ") u (ascii _ refl)) h.0) λ longer w. more_plain path longer vs w h.1
+  more_plain : (end path text : List ℕ) (vs : List Value) → IsUtf8 end → IsUtf8 text → AllByRecursion IsPlain vs → ShowsText (more_items below end path text vs)
+  more_plain end path text [] z u h = shows _ (IsUtf8-append text end u z)
+  more_plain end path text (v ∷ vs) z u h = next (each path (text ++ codes ", ") v (IsUtf8-append text (codes ", ") u (ascii _ refl)) h.0) λ longer w. more_plain end path longer vs z w h.1
 
-  all_plain : (path text : List ℕ) (vs : List Value) → IsUtf8 text → AllByRecursion IsPlain vs → ShowsText (all_items below path text vs)
-  all_plain path text [] u h = shows _ (IsUtf8-append text (codes "]") u (ascii _ refl))
-  all_plain path text (v ∷ vs) u h = next (each path text v u h.0) λ longer w. more_plain path longer vs w h.1
+  all_plain : (end path text : List ℕ) (vs : List Value) → IsUtf8 end → IsUtf8 text → AllByRecursion IsPlain vs → ShowsText (all_items below end path text vs)
+  all_plain end path text [] z u h = shows _ (IsUtf8-append text end u z)
+  all_plain end path text (v ∷ vs) z u h = next (each path text v u h.0) λ longer w. more_plain end path longer vs z w h.1
+
+  sequence_plain : (kind : SequenceKind) (path text : List ℕ) (at : ℕ) (vs : List Value) → IsUtf8 text → AllByRecursion IsPlain vs → ShowsText (sequence_text below kind path text at vs)
+  sequence_plain kind path text at vs u h = all_plain (closing kind vs) (path ++ at ∷ []) (text ++ opening kind) vs (closing_utf8 kind vs) (IsUtf8-append text (opening kind) u (opening_utf8 kind)) h
 
   pair_plain : (path text : List ℕ) (pair : Key × Value) → IsUtf8 text → IsPlainPair pair → ShowsText (pair_text below path text pair)
   pair_plain path text pair u h = next (each path text (value_of pair.0) u h.0) λ longer w. each path (longer ++ codes ": ") pair.1 (IsUtf8-append longer (codes ": ") w (ascii _ refl)) h.1
@@ -89,7 +105,8 @@ module _ (below : Shows) (each : ShowsPlain below) where
   all_pairs_plain path text (pair ∷ pairs) u h = next (pair_plain path text pair u h.0) λ longer w. more_pairs_plain path longer pairs w h.1
 
   object_shown_plain : (path text : List ℕ) (at : ℕ) (o : Option Object) → IsUtf8 text → IsFound o → ShowsText (object_shown below path text at o)
-  object_shown_plain path text at (Some (object.List vs)) u h = all_plain (path ++ at ∷ []) (text ++ codes "[") vs (IsUtf8-append text (codes "[") u (ascii _ refl)) h.0
+  object_shown_plain path text at (Some (object.List vs)) u h = sequence_plain sequences.List path text at vs u h.0
+  object_shown_plain path text at (Some (object.Tuple vs)) u h = sequence_plain sequences.Tuple path text at vs u h.0
   object_shown_plain path text at (Some (object.Dict pairs)) u h = all_pairs_plain (path ++ at ∷ []) (text ++ codes "{") pairs (IsUtf8-append text (codes "{") u (ascii _ refl)) h.0
   object_shown_plain path text at (Some (object.Function def)) u h = shows _ (IsUtf8-append text (function_text def.name) u (function_utf8 def.name (is_text def.name (of_def def h.0).0)))
   object_shown_plain path text at (Some (object.Handle name uses)) u h = shows _ (IsUtf8-append text (handle_text name) u (handle_utf8 name (is_text name h.0)))

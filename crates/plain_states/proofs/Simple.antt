@@ -36,7 +36,7 @@ use Rattle.py_meaning.specs.Acts.{Act, pure}
 use Rattle.py_meaning.specs.Numbers.{as_number}
 use Rattle.py_meaning.specs.Operators.{operated}
 use Rattle.py_meaning.specs.Methods.{pairs_in}
-use Rattle.py_meaning.specs.Meaning.{literal_value, not_called, drawn, draw_called, object_length, length_of, len_called, number_read, text_as_int, as_int, int_called, opened, open_handle, handle_called, object_told, told_at, tell, tell_called, with_empty, with_held, frame_of, returned, text_units, store, extended, refs_added, added, augmented, delete, define, keys_from, put, filled, result_text, result}
+use Rattle.py_meaning.specs.Meaning.{literal_value, not_called, drawn, draw_called, object_length, length_of, len_called, number_read, text_as_int, as_int, int_called, opened, open_handle, handle_called, object_told, told_at, tell, tell_called, with_empty, with_held, frame_of, returned, text_units, store, names_stored, names_given, extended, refs_added, added, augmented, delete, define, keys_from, put, filled, result_text, result}
 use Rattle.part_bytes.specs.Plain.{IsPlain, IsPlainPair, IsText}
 use Rattle.plain_states.specs.Constants.{constants_by_def}
 use Rattle.plain_states.specs.Plain.{IsPlainLiteral, ArePlain}
@@ -44,6 +44,7 @@ use Rattle.plain_states.proofs.Judging.{Any, Plainly, next, give, fails, chosen,
 use Rattle.plain_states.proofs.Least.{takes_step, takes_step_for_look, charges, pays, adds, alters, finds, IsFound, AreListed, lists, tells_kind, tells_local, binds, unbinds, seeks, draws_word, inserted_plain, appended}
 use Rattle.plain_states.proofs.Texts.{is_text, few_chars}
 use Rattle.plain_states.proofs.Operating.{Values, AsPlain, as_plain, small_number, operated_plain}
+use Rattle.plain_states.proofs.Unpacking.{unpacked_plain}
 use Rattle.plain_states.proofs.Itemizing.{ArePlainPairs, IsPlainKey, keyed_plain, put_in_plain}
 use Rattle.plain_states.proofs.Methodical.{extend_plain}
 use Rattle.plain_states.proofs.Showing.{shown_plain}
@@ -82,6 +83,7 @@ length_number n l = give IsPlain (value.Number (pos n)) (small_number n l)
 
 object_length_plain : (o : Option Object) → IsFound o → Values (object_length o)
 object_length_plain (Some (object.List vs)) h = let l : length vs ≤ 16777216 = h.1 in length_number (length vs) (omega (arith, l))
+object_length_plain (Some (object.Tuple vs)) h = let l : length vs ≤ 16777216 = h.1 in length_number (length vs) (omega (arith, l))
 object_length_plain (Some (object.Dict pairs)) h = let l : length pairs ≤ 16777216 = h.1 in length_number (length pairs) (omega (arith, l))
 object_length_plain (Some (object.Function def)) h = fails _
 object_length_plain (Some (object.Handle name uses)) h = fails _
@@ -187,6 +189,7 @@ raised_small uses = omega arith
 object_told_plain : (a : ℕ) (o : Option Object) → Values (object_told a o)
 object_told_plain a (Some (object.Handle name uses)) = next (alters a changes.Use tt) λ _ _. length_number (raised uses) (raised_small uses)
 object_told_plain a (Some (object.List vs)) = fails _
+object_told_plain a (Some (object.Tuple vs)) = fails _
 object_told_plain a (Some (object.Dict pairs)) = fails _
 object_told_plain a (Some (object.Function def)) = fails _
 object_told_plain a None = fails _
@@ -236,6 +239,16 @@ returned_plain flow.Continue h = tt
 pub store_plain : (name : Name) (v : Value) → IsPlain v → Plainly Any (store name v)
 unfolding store
 store_plain name v h = next (tells_local name) λ b _. chosen b _ _ (binds name v h) (next (charges (text_units v)) λ _ _. binds name v h)
+
+names_stored_plain : (names : List Name) (vs : List Value) → AllByRecursion IsPlain vs → Plainly Any (names_stored names vs)
+names_stored_plain (name ∷ names) (v ∷ vs) h = next (store_plain name v h.0) λ _ _. names_stored_plain names vs h.1
+names_stored_plain [] vs h = give Any tt tt
+names_stored_plain (name ∷ names) [] h = give Any tt tt
+
+pub names_given_plain : (comma : Bool) (names : List Name) (v : Value) → IsPlain v → Plainly Any (names_given comma names v)
+names_given_plain true names v h = next (unpacked_plain (length names) v h) λ vs k. names_stored_plain names vs k
+names_given_plain false (name ∷ others) v h = store_plain name v h
+names_given_plain false [] v h = give Any tt tt
 
 -- ---- augmented assignments
 

@@ -1,5 +1,5 @@
 -- Texts that are UTF-8: those that are put together of others, cut out of them, or shown.
-use Rattle.std.proofs.Common.{◌≡◌, ℕ, zero, suc, ℤ, pos, negsuc, ◌+◌, ◌-◌, ◌<◌, ◌≤◌, ◌^◌, Bool, true, false, cond, ◌&&◌, ◌==◌, nat_lt, List, [], ◌∷◌, ◌++◌, length, get_or, take, drop, Option, Some, None, IsUtf8, inl, inr, refl, sym, ap, ◌∙◌, subst, arith, append_assoc, append-nil, ltb-true, length-append}
+use Rattle.std.proofs.Common.{◌≡◌, ℕ, zero, suc, ℤ, pos, negsuc, ◌+◌, ◌-◌, ◌<◌, ◌≤◌, ◌^◌, Bool, true, false, cond, ◌&&◌, ◌==◌, nat_lt, List, [], ◌∷◌, ◌++◌, length, get_or, map, take, drop, Option, Some, None, IsUtf8, inl, inr, refl, sym, ap, ◌∙◌, subst, arith, append_assoc, append-nil, ltb-true, length-append}
 use Rattle.std.specs.Prelude.{codes, not, encode_utf8, slice_range, slice_index, FitsSigned}
 use Rattle.std.specs.Int.{w128}
 use Rattle.std.specs.List.{AllByRecursion, flat_map, repeat, join_by}
@@ -11,6 +11,7 @@ use Rattle.std.proofs.lemmas.Str.{IsUtf8-append, IsUtf8-nil, IsUtf8-encode, IsUt
 use lib.Utf8.{scalar, scalars, low_scalar}
 use Rattle.py_value.specs.declared.key.Key.{Key}
 use Rattle.py_value.specs.declared.key.Key.TheVariants as key
+use Rattle.py_value.specs.declared.value.Value.TheVariants as value
 use Rattle.py_value.specs.Keys.{value_of}
 use Rattle.py_value.specs.Reprs.{escaped, between, quoted, key_text, has}
 use Rattle.py_value.proofs.Escapes.{escaped_character}
@@ -96,6 +97,14 @@ cut_parts (c ∷ cs) text s e l =
 
 pub first_text : (text : List ℕ) → IsText text → AreCut (first_cut text)
 first_text text h = let u = is_text text h in cut_parts (chars text) text (scalars-chars text u) (encodes-chars text u) h.1
+
+-- the characters of a text, each as a text
+pub characters_plain : (cs text : List ℕ) → scalars cs ≡ true → encode_utf8_all cs ≡ text → length text < 2 ^ 32 → AllByRecursion IsPlain (map (λ c. value.Text (encode_utf8 c)) cs)
+characters_plain [] text s e l = tt
+characters_plain (c ∷ cs) text s e l =
+    let parts = cut_parts (c ∷ cs) text s e l in
+    let w : length (encode_utf8_all cs) < 2 ^ 32 = parts.1.1 in
+    (parts.0, characters_plain cs (encode_utf8_all cs) (and_parts _ _ s).1 refl w)
 
 -- ---- pieces between the occurrences of a separator
 

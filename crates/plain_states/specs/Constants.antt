@@ -34,6 +34,7 @@ abbrev pub expression_step : Expr-F Constants Constants Constants Constants → 
 expression_step (Expr-F.Name name) = []
 expression_step (Expr-F.Literal constant) = constant ∷ []
 expression_step (Expr-F.ListOf es) = gathered es
+expression_step (Expr-F.TupleOf es) = gathered es
 expression_step (Expr-F.DictOf pairs) = gathered pairs
 expression_step (Expr-F.Conditional test first second) = test ++ (first ++ second)
 expression_step (Expr-F.Or es) = gathered es
@@ -81,6 +82,9 @@ abbrev pub constants_at : Target → Constants
 constants_at (target.Name name) = []
 constants_at (target.Item on at) = constants_of on ++ constants_of at
 
+abbrev pub constants_at_all : List Target → Constants
+constants_at_all targets = gathered (map constants_at targets)
+
 abbrev pub statement_step : Stmt-F Constants Constants Constants → Constants
 statement_step Stmt-F.Pass = []
 statement_step Stmt-F.Break = []
@@ -88,12 +92,12 @@ statement_step Stmt-F.Continue = []
 statement_step (Stmt-F.Return e) = if_constants e
 statement_step (Stmt-F.Global names) = []
 statement_step (Stmt-F.Delete into) = constants_at into
-statement_step (Stmt-F.Assign into e) = constants_at into ++ constants_of e
+statement_step (Stmt-F.Assign targets comma e) = constants_at_all targets ++ constants_of e
 statement_step (Stmt-F.Augment into op e) = constants_at into ++ constants_of e
 statement_step (Stmt-F.Expression e) = constants_of e
 statement_step (Stmt-F.If arms other) = gathered arms ++ gathered other
 statement_step (Stmt-F.While test body) = constants_of test ++ gathered body
-statement_step (Stmt-F.For name source body) = constants_of source ++ gathered body
+statement_step (Stmt-F.For names comma source body) = constants_of source ++ gathered body
 statement_step (Stmt-F.Function def) = def
 
 abbrev pub arm_step : Arm-F Constants Constants Constants → Constants

@@ -39,6 +39,7 @@ AreWords = AllByRecursion IsWord
 -- what is in an object is plain
 abbrev pub HoldsPlain : Object → Type 0
 HoldsPlain (object.List items) = AllByRecursion IsPlain items
+HoldsPlain (object.Tuple items) = AllByRecursion IsPlain items
 HoldsPlain (object.Dict pairs) = AllByRecursion IsPlainPair pairs
 HoldsPlain (object.Function def) = ArePlain (constants_by_def def)
 HoldsPlain (object.Handle name uses) = IsText name
@@ -46,6 +47,7 @@ HoldsPlain (object.Handle name uses) = IsText name
 -- how many items or pairs it has
 abbrev pub items_in : Object → ℕ
 items_in (object.List items) = length items
+items_in (object.Tuple items) = length items
 items_in (object.Dict pairs) = length pairs
 items_in (object.Function def) = 0
 items_in (object.Handle name uses) = 0

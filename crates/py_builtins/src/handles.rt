@@ -72,7 +72,7 @@ fn told_at(alloc: Global, machine: &mut Machine, at: u32) -> Result<Value, Fault
             machine.change(at, Change::Use)?;
             Ok(told)
         }
-        Some(Object::List(_)) | Some(Object::Dict(_)) | Some(Object::Function(_)) | None => {
+        Some(Object::List(_) | Object::Tuple(_) | Object::Dict(_) | Object::Function(_)) | None => {
             Err(Fault::Raised(wrong_argument(alloc, "tell")?))
         }
     }

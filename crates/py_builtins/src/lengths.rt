@@ -20,7 +20,7 @@ fn object_length(alloc: Global, machine: &Machine, at: u32) -> Result<Value, Fau
     ensures { Still (run (spec.object_length (slice_get machine.now.state.heap at))) machine.now result machine.now }
 {
     match machine.object_at(at) {
-        Some(Object::List(items)) => Ok(length_value(items.len())),
+        Some(Object::List(items) | Object::Tuple(items)) => Ok(length_value(items.len())),
         Some(Object::Dict(dict)) => Ok(length_value(dict.len())),
         Some(Object::Function(_)) | Some(Object::Handle { .. }) | None => {
             Err(Fault::Raised(wrong_argument(alloc, "len")?))

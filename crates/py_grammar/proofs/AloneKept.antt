@@ -3,10 +3,10 @@ use Rattle.std.proofs.Common.{◌≡◌, ℕ, Bool, true, false, List, [], ◌�
 use Rattle.py_token.specs.declared.kinds.Kind.{Kind}
 use Rattle.py_token.specs.declared.kinds.Kind.TheVariants as t
 use Rattle.py_grammar.specs.Words.{if_word, else_word, elif_word, while_word, for_word, in_word, pass_word, break_word, continue_word, return_word, global_word, del_word, def_word, floor_assign_sign, plus_assign_sign, minus_assign_sign, times_assign_sign, mod_assign_sign, assign_sign, open_parenthesis, close_parenthesis, colon, comma}
-use Rattle.py_grammar.specs.Expressions.{Expression}
+use Rattle.py_grammar.specs.Expressions.{Exprs, single}
 use Rattle.py_grammar.specs.Readings.{Reading, begun, read, whole, narrow}
-use Rattle.py_grammar.specs.Statements.{Target, Augmentation, by_plus, by_minus, by_times, by_floor, by_modulo, Names, Word, break_, continue_, Simple, word, declare, Params, compound, Head, choose, otherwise, while_true, for_each, define, Branches, Block, inline, indented, Statements, statements_one}
-use Rattle.py_grammar.specs.States.{Outer, outer, Spot, own, behind_head, Purpose, showing, giving, deleting, Lead, lead_if, lead_elif, lead_while, lead_for, State, line, in_simple, after_word, in_global, has_global, in_test, after_for, after_for_name, after_else, after_def, after_def_name, in_params, has_params, after_params, after_colon, after_newline, done, spot_around, spot_heard, add_name, close, ended, place_read, finished, head_of, Continued, continued, last_branches, if_allowed, then_simple, begins, elif_at, else_at, dedent_at, on_line, ends, assigns, augments, on_simple, on_word, is_new_name, on_global, on_global_name, tested, then_test, on_for, on_for_name, on_else, on_def, on_def_name, on_params, on_param, on_params_end, on_colon, on_newline, step}
+use Rattle.py_grammar.specs.Statements.{Target, Targets, Augmentation, by_plus, by_minus, by_times, by_floor, by_modulo, Names, Word, break_, continue_, Simple, word, declare, Params, compound, Head, choose, otherwise, while_true, for_each, define, Branches, Block, inline, indented, Statements, statements_one}
+use Rattle.py_grammar.specs.States.{Outer, outer, Spot, own, behind_head, Purpose, showing, giving, deleting, Lead, lead_if, lead_elif, lead_while, lead_for, State, line, in_simple, after_word, in_global, has_global, in_test, in_variables, has_variables, after_else, after_def, after_def_name, in_params, has_params, after_params, after_colon, after_newline, done, spot_around, spot_heard, add_name, close, ended, place_of, targets_of, finished, head_of, fits, Continued, continued, last_branches, if_allowed, then_simple, begins, elif_at, else_at, dedent_at, on_line, ends, assigns, augments, on_simple, on_word, is_new_name, on_global, on_global_name, tested, then_test, variables_end, on_variables, on_variable, on_else, on_def, on_def_name, on_params, on_param, on_params_end, on_colon, on_newline, step}
 use Rattle.py_grammar.specs.AloneMachine.{on_first, on_last, step_alone}
 
 -- ---- what may end as one function alone
@@ -61,8 +61,8 @@ ends_alone (after_word os at w) = spot_within os at
 ends_alone (in_global os at ns) = spot_within os at
 ends_alone (has_global os at ns) = spot_within os at
 ends_alone (in_test os before lead r) = all_within os
-ends_alone (after_for os before) = all_within os
-ends_alone (after_for_name os before n) = all_within os
+ends_alone (in_variables os before ns) = all_within os
+ends_alone (has_variables os before ns) = all_within os
 ends_alone (after_else os before bs) = all_within os
 ends_alone (after_def before) = is_nothing before
 ends_alone (after_def_name before n) = is_nothing before
@@ -84,7 +84,7 @@ closed-same : (o : Outer) (os : List Outer) (b : Block) → line_within os (clos
 closed-same (outer None (choose c)) [] b = refl
 closed-same (outer None (otherwise bs)) [] b = refl
 closed-same (outer None (while_true a)) [] b = refl
-closed-same (outer None (for_each n a)) [] b = refl
+closed-same (outer None (for_each vs a)) [] b = refl
 closed-same (outer None (define n ps)) [] b = refl
 closed-same (outer (Some ss) h) [] b = refl
 closed-same o (p ∷ os) b = refl
@@ -103,8 +103,8 @@ ends-same : (os : List Outer) (at : Spot) (s : Option Simple) → Same (spot_wit
 ends-same os at None = tt
 ends-same os at (Some s) = ended-same os at s
 
-assigns-same : (os : List Outer) (at : Spot) (u : Purpose) (to : Option Target) → Same (spot_within os at) (assigns os at u to)
-assigns-same os at showing (Some to) = refl
+assigns-same : (os : List Outer) (at : Spot) (u : Purpose) (ts : Option Targets) → Same (spot_within os at) (assigns os at u ts)
+assigns-same os at showing (Some ts) = refl
 assigns-same os at _ _ = tt
 
 augments-same : (os : List Outer) (at : Spot) (by : Augmentation) (u : Purpose) (to : Option Target) → Same (spot_within os at) (augments os at by u to)
@@ -127,12 +127,12 @@ begins-same os at k = then_simple-same os at showing (read begun k)
 
 on_simple-same : (os : List Outer) (at : Spot) (u : Purpose) (r : Reading) (k : Kind) → Same (spot_within os at) (on_simple os at u r k)
 on_simple-same os at u r t.Newline = ends-same os at (finished u r)
-on_simple-same os at u r assign_sign = assigns-same os at u (place_read r)
-on_simple-same os at u r plus_assign_sign = augments-same os at by_plus u (place_read r)
-on_simple-same os at u r minus_assign_sign = augments-same os at by_minus u (place_read r)
-on_simple-same os at u r times_assign_sign = augments-same os at by_times u (place_read r)
-on_simple-same os at u r floor_assign_sign = augments-same os at by_floor u (place_read r)
-on_simple-same os at u r mod_assign_sign = augments-same os at by_modulo u (place_read r)
+on_simple-same os at u r assign_sign = assigns-same os at u (targets_of (whole r))
+on_simple-same os at u r plus_assign_sign = augments-same os at by_plus u (place_of (whole r))
+on_simple-same os at u r minus_assign_sign = augments-same os at by_minus u (place_of (whole r))
+on_simple-same os at u r times_assign_sign = augments-same os at by_times u (place_of (whole r))
+on_simple-same os at u r floor_assign_sign = augments-same os at by_floor u (place_of (whole r))
+on_simple-same os at u r mod_assign_sign = augments-same os at by_modulo u (place_of (whole r))
 on_simple-same os at u r k = then_simple-same os at u (read r k)
 
 on_word-same : (os : List Outer) (at : Spot) (w : Word) (k : Kind) → Same (spot_within os at) (on_word os at w k)
@@ -150,21 +150,24 @@ on_global_name-same os at ns _ = tt
 
 -- ---- in a head
 
-headed-same : (os : List Outer) (before : Option Statements) (lead : Lead) (a : Expression) → within (outer before (head_of lead a)) os ≡ all_within os
-headed-same [] None lead_if a = refl
-headed-same [] None (lead_elif bs) a = refl
-headed-same [] None lead_while a = refl
-headed-same [] None (lead_for n) a = refl
-headed-same [] (Some ss) lead a = refl
-headed-same (p ∷ os) before lead a = refl
-
-tested-same : (os : List Outer) (before : Option Statements) (lead : Lead) (a : Option Expression) (k : Kind) → Same (all_within os) (tested os before lead a k)
-tested-same os before lead (Some a) colon = headed-same os before lead a
-tested-same os before lead _ _ = tt
+headed-same : (os : List Outer) (before : Option Statements) (lead : Lead) (a : Option Exprs) (k : Kind) → Same (all_within os) (tested os before (head_of lead a) k)
+headed-same [] None lead_if (Some (single a)) colon = refl
+headed-same [] None (lead_elif bs) (Some (single a)) colon = refl
+headed-same [] None lead_while (Some (single a)) colon = refl
+headed-same [] None (lead_for vs) (Some a) colon = refl
+headed-same [] (Some ss) lead_if (Some (single a)) colon = refl
+headed-same [] (Some ss) (lead_elif bs) (Some (single a)) colon = refl
+headed-same [] (Some ss) lead_while (Some (single a)) colon = refl
+headed-same [] (Some ss) (lead_for vs) (Some a) colon = refl
+headed-same (p ∷ os) before lead_if (Some (single a)) colon = refl
+headed-same (p ∷ os) before (lead_elif bs) (Some (single a)) colon = refl
+headed-same (p ∷ os) before lead_while (Some (single a)) colon = refl
+headed-same (p ∷ os) before (lead_for vs) (Some a) colon = refl
+headed-same os before lead a k = tt
 
 then_test-same : (os : List Outer) (before : Option Statements) (lead : Lead) (r : Reading) (k : Kind) (s : Option Reading) → Same (all_within os) (then_test os before lead r k s)
-then_test-same os before lead r k (Some s) = refl
-then_test-same os before lead r k None = tested-same os before lead (whole r) k
+then_test-same os before lead r k (Some s) = allowed-same (fits lead s) (in_test os before lead s) (all_within os) refl
+then_test-same os before lead r k None = headed-same os before lead (whole r) k
 
 elif_at-same : (os : List Outer) (c : Option Continued) → Same (all_within os) (elif_at os c)
 elif_at-same os None = tt
@@ -174,13 +177,19 @@ else_at-same : (os : List Outer) (c : Option Continued) → Same (all_within os)
 else_at-same os None = tt
 else_at-same os (Some (continued before bs)) = refl
 
-on_for-same : (os : List Outer) (before : Option Statements) (k : Kind) → Same (all_within os) (on_for os before k)
-on_for-same os before (t.Name n) = refl
-on_for-same os before _ = tt
+variables_end-same : (os : List Outer) (before : Option Statements) (ns : Option Names) → Same (all_within os) (variables_end os before ns)
+variables_end-same os before None = tt
+variables_end-same os before (Some ns) = refl
 
-on_for_name-same : (os : List Outer) (before : Option Statements) (n : List ℕ) (k : Kind) → Same (all_within os) (on_for_name os before n k)
-on_for_name-same os before n in_word = refl
-on_for_name-same os before n _ = tt
+on_variables-same : (os : List Outer) (before : Option Statements) (ns : Option Names) (k : Kind) → Same (all_within os) (on_variables os before ns k)
+on_variables-same os before ns (t.Name n) = refl
+on_variables-same os before ns in_word = variables_end-same os before ns
+on_variables-same os before ns _ = tt
+
+on_variable-same : (os : List Outer) (before : Option Statements) (ns : Names) (k : Kind) → Same (all_within os) (on_variable os before ns k)
+on_variable-same os before ns comma = refl
+on_variable-same os before ns in_word = refl
+on_variable-same os before ns _ = tt
 
 otherwise-same : (os : List Outer) (before : Option Statements) (bs : Branches) → within (outer before (otherwise bs)) os ≡ all_within os
 otherwise-same [] None bs = refl
@@ -273,8 +282,8 @@ step-same (after_word os at w) k h = on_word-same os at w k
 step-same (in_global os at ns) k h = on_global-same os at ns k
 step-same (has_global os at ns) k h = on_global_name-same os at ns k
 step-same (in_test os before lead r) k h = then_test-same os before lead r k (read r k)
-step-same (after_for os before) k h = on_for-same os before k
-step-same (after_for_name os before n) k h = on_for_name-same os before n k
+step-same (in_variables os before ns) k h = on_variables-same os before ns k
+step-same (has_variables os before ns) k h = on_variable-same os before ns k
 step-same (after_else os before bs) k h = on_else-same os before bs k
 step-same (after_def before) k h = on_def-same before k
 step-same (after_def_name before n) k h = on_def_name-same before n k

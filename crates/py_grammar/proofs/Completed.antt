@@ -4,73 +4,19 @@ use Rattle.py_token.specs.declared.kinds.Kind.{Kind}
 use Rattle.py_token.specs.declared.kinds.Kind.TheVariants as t
 use Rattle.std.specs.Prelude.{pos}
 use Rattle.std.specs.Cmp.Lexicographic.{pointwise}
-use Rattle.std.proofs.lemmas.Bool.{false≢true}
-use Rattle.py_grammar.specs.Words.{in_word, none_word, return_word, global_word, del_word, def_word, open_parenthesis, close_parenthesis, open_bracket, close_bracket, colon}
-use Rattle.py_grammar.specs.Expressions.{Compares, compares_more, compares_none, compares_not_none, not_within, sums_one, products_one, unsigned, Primary, number, call, method, no_args, spell_compares, spell_primary}
-use Rattle.py_grammar.specs.Readings.{Upper, Lower, Opened, opened, Reading, wants, has, has_none, has_not_none, after_is, after_is_not, after_not, after_dot, after_method, begun, compares_of, bare, bare_below, narrow}
-use Rattle.py_grammar.specs.Open.{spell_upper, spell_lower, spell_bracket, spell_opened, spell_reading}
-use Rattle.py_grammar.specs.Statements.{to_item, Names, Simple, word, give, declare, delete, assign, augment, show, spell_names, spell_simple, Params, params, simple, compound, otherwise, define, inline, indented, Statements, statements_one, is_new, simple_stands, Cell, spell_front, front_stands, spelling, cell_stands}
-use Rattle.py_grammar.specs.States.{Outer, outer, Spot, own, behind_head, Purpose, showing, giving, deleting, assigning, augmenting, Lead, lead_for, State, line, in_simple, after_word, in_global, has_global, in_test, after_for, after_for_name, after_else, after_def, after_def_name, in_params, has_params, after_params, after_colon, after_newline, done, around, heard, spot_around, spot_heard, add_statement, add_name, close, ended, head_of, is_new_name, params_of, spell_outers, spell_spot, spell_purpose, spell_lead, spell_state, outers_stand, spot_stands, purpose_stands, state_stands}
-use Rattle.py_grammar.proofs.Spelled.{compares_of-spelled}
-use Rattle.py_grammar.proofs.Ends.{nought, upper-ends, bracket-closes, reading-ends}
-use Rattle.py_grammar.proofs.Stepped.{close-spelled, ended-spelled, add_name-spelled, params_of-spelled, bare_is, head_of-spelled}
-use Rattle.py_grammar.proofs.Keeps.{add_statement-stands, ended-stands, add_name-stands, head_of-stands, params_of-stands}
-
--- ---- a primary alone ends as one
-
-pub record NarrowEnds (f : List Kind → List Kind) : Type 0 where
-  pub more : List Kind → List Kind
-  pub made : Primary
-  pub spelled : (rest : List Kind) → f (more rest) ≡ spell_primary made rest
-
-primary-narrow : (os : List Opened) (u : Upper) (w : Lower) (p : Primary) → IsTrue (bare_below os (bare u w)) → NarrowEnds (λ rest. spell_opened os (spell_upper u (spell_lower w (spell_primary p rest))))
-primary-narrow [] u w p h =
-    let k = bare_is u w h in
-    record { more = λ rest. rest; made = p; spelled = λ rest. ap (λ x. spell_upper x (spell_lower w (spell_primary p rest))) k.0 ∙ ap (λ x. spell_lower x (spell_primary p rest)) k.1 }
-primary-narrow (opened v x b ∷ os) u w p h =
-    let m = upper-ends u (compares_of w p) in
-    let k = bracket-closes b m.made in
-    let r = primary-narrow os v x k.made h in
-    record {
-      more = λ rest. m.more (k.more (r.more rest));
-      made = r.made;
-      spelled = λ rest. ap (λ y. spell_opened os (spell_upper v (spell_lower x (spell_bracket b (spell_upper u y))))) (sym (compares_of-spelled w p (m.more (k.more (r.more rest)))))
-          ∙ ap (λ y. spell_opened os (spell_upper v (spell_lower x (spell_bracket b y)))) (m.spelled (k.more (r.more rest)))
-          ∙ ap (λ y. spell_opened os (spell_upper v (spell_lower x y))) (k.spelled (r.more rest))
-          ∙ r.spelled rest;
-    }
-
-compares-narrow : (os : List Opened) (u : Upper) (c : Compares) → IsTrue (bare_below os false) → NarrowEnds (λ rest. spell_opened os (spell_upper u (spell_compares c rest)))
-compares-narrow [] u c h = absurd (false≢true h)
-compares-narrow (opened v x b ∷ os) u c h =
-    let m = upper-ends u c in
-    let k = bracket-closes b m.made in
-    let r = primary-narrow os v x k.made h in
-    record {
-      more = λ rest. m.more (k.more (r.more rest));
-      made = r.made;
-      spelled = λ rest. ap (λ y. spell_opened os (spell_upper v (spell_lower x (spell_bracket b y)))) (m.spelled (k.more (r.more rest)))
-          ∙ ap (λ y. spell_opened os (spell_upper v (spell_lower x y))) (k.spelled (r.more rest))
-          ∙ r.spelled rest;
-    }
-
-narrow_before : (f g : List Kind → List Kind) → NarrowEnds (λ rest. f (g rest)) → NarrowEnds f
-narrow_before f g e = record { more = λ rest. g (e.more rest); made = e.made; spelled = e.spelled }
-
-narrow-ends : (r : Reading) → IsTrue (narrow r) → NarrowEnds (spell_reading r)
-narrow-ends (wants os u w) h = narrow_before (spell_reading (wants os u w)) (λ rest. t.Number (pos 0) ∷ rest) (primary-narrow os u w (number (pos 0)) h)
-narrow-ends (has os u w p) h = primary-narrow os u w p h
-narrow-ends (has_none os u c) h = compares-narrow os u (compares_none c) h
-narrow-ends (has_not_none os u c) h = compares-narrow os u (compares_not_none c) h
-narrow-ends (after_is os u c) h = narrow_before (spell_reading (after_is os u c)) (λ rest. none_word ∷ rest) (compares-narrow os u (compares_none c) h)
-narrow-ends (after_is_not os u c) h = narrow_before (spell_reading (after_is_not os u c)) (λ rest. none_word ∷ rest) (compares-narrow os u (compares_not_none c) h)
-narrow-ends (after_not os u c) h = narrow_before (spell_reading (after_not os u c)) (λ rest. in_word ∷ t.Number (pos 0) ∷ rest) (compares-narrow os u (compares_more c not_within (sums_one (products_one (unsigned (number (pos 0)))))) h)
-narrow-ends (after_dot os u w p) h = narrow_before (spell_reading (after_dot os u w p)) (λ rest. t.Name (95 ∷ []) ∷ open_parenthesis ∷ close_parenthesis ∷ rest) (primary-narrow os u w (call (method p (95 ∷ [])) no_args) h)
-narrow-ends (after_method os u w p n) h = narrow_before (spell_reading (after_method os u w p n)) (λ rest. open_parenthesis ∷ close_parenthesis ∷ rest) (primary-narrow os u w (call (method p n) no_args) h)
+use Rattle.py_grammar.specs.Words.{for_word, in_word, return_word, global_word, del_word, def_word, open_parenthesis, close_parenthesis, open_bracket, close_bracket, colon}
+use Rattle.py_grammar.specs.Expressions.{single}
+use Rattle.py_grammar.specs.Readings.{Reading, begun, reading_stands}
+use Rattle.py_grammar.specs.Open.{spell_reading}
+use Rattle.py_grammar.specs.Statements.{to_item, variables, Head, choose, if_true, else_if, while_true, for_each, Around, head_stands, spell_head, Names, Simple, word, give, declare, delete, assign, augment, show, spell_names, spell_simple, Params, params, simple, compound, otherwise, define, inline, indented, Statements, statements_one, is_new, simple_stands, Cell, spell_front, front_stands, spelling, cell_stands}
+use Rattle.py_grammar.specs.States.{Outer, outer, Spot, own, behind_head, Purpose, showing, giving, deleting, assigning, augmenting, Lead, lead_if, lead_elif, lead_while, lead_for, State, line, in_simple, after_word, in_global, has_global, in_test, in_variables, has_variables, after_else, after_def, after_def_name, in_params, has_params, after_params, after_colon, after_newline, done, around, heard, spot_around, spot_heard, add_statement, add_name, close, ended, fits, is_new_name, params_of, spell_outers, spell_spot, spell_purpose, spell_lead, spell_state, outers_stand, spot_stands, purpose_stands, lead_stands, state_stands}
+use Rattle.py_grammar.proofs.Ends.{nought, reading-ends, undivided-ends, narrow-ends}
+use Rattle.py_grammar.proofs.Stepped.{close-spelled, ended-spelled, add_name-spelled, params_of-spelled}
+use Rattle.py_grammar.proofs.Keeps.{add_statement-stands, ended-stands, add_name-stands, params_of-stands}
 
 -- ---- a name that is new
 
-abbrev underscores : ℕ → List ℕ
+abbrev pub underscores : ℕ → List ℕ
 underscores zero = []
 underscores (suc n) = 95 ∷ underscores n
 
@@ -79,7 +25,7 @@ underscores-length zero = refl
 underscores-length (suc n) = ap suc (underscores-length n)
 
 -- more than the length of each name among these
-abbrev bound : List Kind → ℕ
+abbrev pub bound : List Kind → ℕ
 bound [] = zero
 bound (t.Name n ∷ ks) = suc (length n) + bound ks
 bound (_ ∷ ks) = bound ks
@@ -103,17 +49,17 @@ longer-new [] n h = refl
 longer-new (t.Name m ∷ ks) n h = both _ _ (shorter-differs m n (omega arith)) (longer-new ks n (omega arith))
 longer-new (_ ∷ ks) n h = longer-new ks n h
 
-abbrev fresh : List Kind → List ℕ
+abbrev pub fresh : List Kind → List ℕ
 fresh ks = underscores (suc (bound ks))
 
 fresh-new : (ks : List Kind) → IsTrue (is_new (fresh ks) ks)
 fresh-new ks = longer-new ks (fresh ks) (let e = underscores-length (suc (bound ks)) in omega arith)
 
-abbrev fresh_name : Option Names → (List Kind → List Kind) → List ℕ
+abbrev pub fresh_name : Option Names → (List Kind → List Kind) → List ℕ
 fresh_name None earlier = fresh (earlier [])
 fresh_name (Some ns) earlier = fresh (earlier (spell_names ns []))
 
-fresh_name-new : (ns : Option Names) (earlier : List Kind → List Kind) → IsTrue (is_new_name ns (fresh_name ns earlier) earlier)
+pub fresh_name-new : (ns : Option Names) (earlier : List Kind → List Kind) → IsTrue (is_new_name ns (fresh_name ns earlier) earlier)
 fresh_name-new None earlier = fresh-new (earlier [])
 fresh_name-new (Some ns) earlier = fresh-new (earlier (spell_names ns []))
 
@@ -131,7 +77,7 @@ line-ends (outer b hd ∷ os) (Some ss) h k =
     let e = line-ends os (close (outer b hd) (indented ss)) h.0 (add_statement-stands b (compound hd (indented ss)) (around os) (heard os) h.1 (h.2, k)) in
     record { more = t.Dedent ∷ e.more; cell = e.cell; spelled = sym (ap (spell_outers os) (close-spelled (outer b hd) (indented ss) e.more)) ∙ e.spelled; stands = e.stands }
 line-ends (outer b hd ∷ os) None h k =
-    let ss = statements_one (simple (show nought)) in
+    let ss = statements_one (simple (show (single nought))) in
     let e = line-ends os (close (outer b hd) (indented ss)) h.0 (add_statement-stands b (compound hd (indented ss)) (around os) (heard os) h.1 (h.2, tt)) in
     record { more = t.Number (pos 0) ∷ t.Newline ∷ t.Dedent ∷ e.more; cell = e.cell; spelled = sym (ap (spell_outers os) (close-spelled (outer b hd) (indented ss) e.more)) ∙ e.spelled; stands = e.stands }
 
@@ -145,21 +91,21 @@ ended-ends os at s h k m q more f =
     let e = state_line-ends os at s (ended-stands os at s h k m) in
     record { more = more (t.Newline ∷ e.more); cell = e.cell; spelled = f (t.Newline ∷ e.more) ∙ sym (ended-spelled os at s e.more) ∙ e.spelled; stands = e.stands }
 
-simple-ends : (os : List Outer) (at : Spot) (u : Purpose) (r : Reading) → outers_stand os → spot_stands os at → purpose_stands u r (spot_around os at) → CellEnds (in_simple os at u r)
-simple-ends os at showing r h k m =
-    let x = reading-ends r in
+simple-ends : (os : List Outer) (at : Spot) (u : Purpose) (r : Reading) → outers_stand os → spot_stands os at → purpose_stands u r (spot_around os at) → reading_stands r → CellEnds (in_simple os at u r)
+simple-ends os at showing r h k m l =
+    let x = reading-ends r l in
     ended-ends os at (show x.made) h k tt _ x.more (λ rest. ap (λ y. spell_outers os (spell_spot at y)) (x.spelled rest))
-simple-ends os at giving r h k m =
-    let x = reading-ends r in
+simple-ends os at giving r h k m l =
+    let x = reading-ends r l in
     ended-ends os at (give x.made) h k m _ x.more (λ rest. ap (λ y. spell_outers os (spell_spot at (return_word ∷ y))) (x.spelled rest))
-simple-ends os at deleting r h k m =
-    let x = narrow-ends r m in
+simple-ends os at deleting r h k m l =
+    let x = narrow-ends r l m in
     ended-ends os at (delete (to_item x.made nought)) h k tt _ (λ rest. x.more (open_bracket ∷ t.Number (pos 0) ∷ close_bracket ∷ rest)) (λ rest. ap (λ y. spell_outers os (spell_spot at (del_word ∷ y))) (x.spelled (open_bracket ∷ t.Number (pos 0) ∷ close_bracket ∷ rest)))
-simple-ends os at (assigning to) r h k m =
-    let x = reading-ends r in
-    ended-ends os at (assign to x.made) h k tt _ x.more (λ rest. ap (λ y. spell_outers os (spell_spot at (spell_purpose (assigning to) y))) (x.spelled rest))
-simple-ends os at (augmenting to by) r h k m =
-    let x = reading-ends r in
+simple-ends os at (assigning ts) r h k m l =
+    let x = reading-ends r l in
+    ended-ends os at (assign ts x.made) h k tt _ x.more (λ rest. ap (λ y. spell_outers os (spell_spot at (spell_purpose (assigning ts) y))) (x.spelled rest))
+simple-ends os at (augmenting to by) r h k m l =
+    let x = reading-ends r l in
     ended-ends os at (augment to by x.made) h k tt _ x.more (λ rest. ap (λ y. spell_outers os (spell_spot at (spell_purpose (augmenting to by) y))) (x.spelled rest))
 
 -- such tokens may come before
@@ -167,21 +113,32 @@ led : (q s : State) (first : List Kind) → ((rest : List Kind) → spell_state 
 led q s first f e = record { more = first ++ e.more; cell = e.cell; spelled = f e.more ∙ e.spelled; stands = e.stands }
 
 colon-ends : (os : List Outer) (o : Outer) → state_stands (after_colon os o) → CellEnds (after_colon os o)
-colon-ends os (outer b hd) h = ended-ends os (behind_head (outer b hd)) (show nought) h.0 (h.1, h.2) tt _ (λ rest. t.Number (pos 0) ∷ rest) (λ rest. refl)
+colon-ends os (outer b hd) h = ended-ends os (behind_head (outer b hd)) (show (single nought)) h.0 (h.1, h.2) tt _ (λ rest. t.Number (pos 0) ∷ rest) (λ rest. refl)
 
 newline-ends : (os : List Outer) (o : Outer) → state_stands (after_newline os o) → CellEnds (after_newline os o)
 newline-ends os (outer b hd) h = led _ (line (outer b hd ∷ os) None) (t.Indent ∷ []) (λ rest. refl) (line-ends (outer b hd ∷ os) None h tt)
 
+-- a head ends, up to its `:`
+record HeadEnds (lead : Lead) (r : Reading) : Type 0 where
+  pub more : List Kind → List Kind
+  pub head : Head
+  pub spelled : (rest : List Kind) → spell_lead lead (spell_reading r (more (colon ∷ rest))) ≡ spell_head head rest
+  pub stands : (a : Around) (e : List Kind → List Kind) → lead_stands lead a e → head_stands head a e
+
+head-ends : (lead : Lead) (r : Reading) → IsTrue (fits lead r) → reading_stands r → HeadEnds lead r
+head-ends lead_if r f l = let x = undivided-ends r l f in record { more = x.more; head = choose (if_true x.made); spelled = λ rest. ap (spell_lead lead_if) (x.spelled (colon ∷ rest)); stands = λ a e h. tt }
+head-ends (lead_elif bs) r f l = let x = undivided-ends r l f in record { more = x.more; head = choose (else_if bs x.made); spelled = λ rest. ap (spell_lead (lead_elif bs)) (x.spelled (colon ∷ rest)); stands = λ a e h. h }
+head-ends lead_while r f l = let x = undivided-ends r l f in record { more = x.more; head = while_true x.made; spelled = λ rest. ap (spell_lead lead_while) (x.spelled (colon ∷ rest)); stands = λ a e h. tt }
+head-ends (lead_for vs) r f l = let x = reading-ends r l in record { more = x.more; head = for_each vs x.made; spelled = λ rest. ap (spell_lead (lead_for vs)) (x.spelled (colon ∷ rest)); stands = λ a e h. tt }
+
 test-ends : (os : List Outer) (before : Option Statements) (lead : Lead) (r : Reading) → state_stands (in_test os before lead r) → CellEnds (in_test os before lead r)
 test-ends os before lead r h =
-    let x = reading-ends r in
-    let e = colon-ends os (outer before (head_of lead x.made)) (h.0, h.1, head_of-stands lead x.made (around os) (λ rest. heard os (spell_front before rest)) h.2) in
+    let x = head-ends lead r h.3 h.4 in
+    let e = colon-ends os (outer before x.head) (h.0, h.1, x.stands (around os) (λ rest. heard os (spell_front before rest)) h.2) in
     record {
       more = x.more (colon ∷ e.more);
       cell = e.cell;
-      spelled = ap (λ y. spell_outers os (spell_front before (spell_lead lead y))) (x.spelled (colon ∷ e.more))
-          ∙ sym (ap (λ y. spell_outers os (spell_front before y)) (head_of-spelled lead x.made e.more))
-          ∙ e.spelled;
+      spelled = ap (λ y. spell_outers os (spell_front before y)) (x.spelled e.more) ∙ e.spelled;
       stands = e.stands;
     }
 
@@ -199,13 +156,15 @@ params-ends before n ns h = led _ (after_params before n (params_of ns)) (close_
 -- each state goes on to a cell
 pub state-ends : (s : State) → state_stands s → CellEnds s
 state-ends (line os before) h = line-ends os before h.0 h.1
-state-ends (in_simple os at u r) h = simple-ends os at u r h.0 h.1 h.2
+state-ends (in_simple os at u r) h = simple-ends os at u r h.0 h.1 h.2 h.3
 state-ends (after_word os at w) h = ended-ends os at (word w) h.0 h.1 h.2 _ (λ rest. rest) (λ rest. refl)
 state-ends (in_global os at ns) h = global-ends os at ns h
 state-ends (has_global os at ns) h = ended-ends os at (declare ns) h.0 h.1 (h.2, h.3) _ (λ rest. rest) (λ rest. refl)
 state-ends (in_test os before lead r) h = test-ends os before lead r h
-state-ends (after_for os before) h = led _ (in_test os before (lead_for (95 ∷ [])) begun) (t.Name (95 ∷ []) ∷ in_word ∷ []) (λ rest. refl) (test-ends os before (lead_for (95 ∷ [])) begun (h.0, h.1, tt))
-state-ends (after_for_name os before n) h = led _ (in_test os before (lead_for n) begun) (in_word ∷ []) (λ rest. refl) (test-ends os before (lead_for n) begun (h.0, h.1, tt))
+state-ends (in_variables os before ns) h =
+    led _ (in_test os before (lead_for (variables (add_name ns (95 ∷ [])))) begun) (t.Name (95 ∷ []) ∷ in_word ∷ []) (λ rest. ap (λ y. spell_outers os (spell_front before (for_word ∷ y))) (sym (add_name-spelled ns (95 ∷ []) (in_word ∷ rest))))
+    (test-ends os before (lead_for (variables (add_name ns (95 ∷ [])))) begun (h.0, h.1, tt, refl, tt))
+state-ends (has_variables os before ns) h = led _ (in_test os before (lead_for (variables ns)) begun) (in_word ∷ []) (λ rest. refl) (test-ends os before (lead_for (variables ns)) begun (h.0, h.1, tt, refl, tt))
 state-ends (after_else os before bs) h = led _ (after_colon os (outer before (otherwise bs))) (colon ∷ []) (λ rest. refl) (colon-ends os (outer before (otherwise bs)) h)
 state-ends (after_def before) h = led _ (in_params before (95 ∷ []) None) (t.Name (95 ∷ []) ∷ open_parenthesis ∷ []) (λ rest. refl) (params-ends before (95 ∷ []) None (h, tt))
 state-ends (after_def_name before n) h = led _ (in_params before n None) (open_parenthesis ∷ []) (λ rest. refl) (params-ends before n None (h, tt))

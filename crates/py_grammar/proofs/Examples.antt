@@ -1,5 +1,5 @@
 -- Small texts, read by hand.
-use Rattle.std.proofs.Common.{◌≡◌, ℕ, zero, suc, true, List, [], ◌∷◌, Option, Some, None, refl}
+use Rattle.std.proofs.Common.{◌≡◌, ℕ, zero, suc, true, false, List, [], ◌∷◌, Option, Some, None, refl}
 use Rattle.py_token.specs.declared.kinds.Kind.{Kind}
 use Rattle.py_token.specs.declared.kinds.Kind.TheVariants as t
 use Rattle.std.specs.Prelude.{pos}
@@ -14,7 +14,7 @@ use Rattle.py_tree.specs.declared.statements.Stmt.TheVariants as s
 use Rattle.py_tree.specs.declared.statements.Def.{roll-Def}
 use Rattle.py_token.specs.declared.kinds.Keyword.TheVariants as k
 use Rattle.py_grammar.specs.declared.constructs.Construct.{Construct}
-use Rattle.py_grammar.specs.declared.constructs.Construct.TheVariants.{Word as Word_, Tuple, Comprehension, Set, Is, Attribute, ChainedAssignment, KeywordArgument, Default, NestedFunction}
+use Rattle.py_grammar.specs.declared.constructs.Construct.TheVariants.{Word as Word_, Comprehension, Set, Is, Attribute, ChainedAssignment, KeywordArgument, Default, NestedFunction}
 use Rattle.py_grammar.specs.Words.{not_word, if_word, else_word, elif_word, while_word, for_word, in_word, is_word, none_word, pass_word, break_word, continue_word, return_word, global_word, del_word, def_word, import_word, plus_assign_sign, plus_sign, minus_sign, times_sign, assign_sign, open_parenthesis, close_parenthesis, open_bracket, close_bracket, open_brace, close_brace, colon, comma, dot}
 use Rattle.py_grammar.specs.States.{State, done, start, step, run}
 use Rattle.py_grammar.specs.Trees.{tree_cell}
@@ -61,7 +61,7 @@ empty = refl
 
 -- a = 1 + 2 * 3 - 4
 sums : tree_of_tokens (t.Name a ∷ assign_sign ∷ digit 1 ∷ plus_sign ∷ digit 2 ∷ times_sign ∷ digit 3 ∷ minus_sign ∷ digit 4 ∷ t.Newline ∷ t.End ∷ [])
-    ≡ Some (s.Assign (place.Name a) (e.Sum (numbered 1) (record { op = o.Plus; value = e.Product (numbered 2) (record { op = o.Times; value = numbered 3 } ∷ []) } ∷ record { op = o.Minus; value = numbered 4 } ∷ [])) ∷ [])
+    ≡ Some (s.Assign (place.Name a ∷ []) false (e.Sum (numbered 1) (record { op = o.Plus; value = e.Product (numbered 2) (record { op = o.Times; value = numbered 3 } ∷ []) } ∷ record { op = o.Minus; value = numbered 4 } ∷ [])) ∷ [])
 unfolding tree_of_tokens cell_of
 sums = refl
 
@@ -93,7 +93,7 @@ branch = refl
 
 -- while a: break, then for a in b: continue
 loops : tree_of_tokens (while_word ∷ t.Name a ∷ colon ∷ break_word ∷ t.Newline ∷ for_word ∷ t.Name a ∷ in_word ∷ t.Name b ∷ colon ∷ continue_word ∷ t.Newline ∷ t.End ∷ [])
-    ≡ Some (s.While (named a) (s.Break ∷ []) ∷ s.For a (named b) (s.Continue ∷ []) ∷ [])
+    ≡ Some (s.While (named a) (s.Break ∷ []) ∷ s.For (a ∷ []) false (named b) (s.Continue ∷ []) ∷ [])
 unfolding tree_of_tokens cell_of
 loops = refl
 
@@ -136,10 +136,53 @@ break_in_function : stops (while_word ∷ t.Name a ∷ colon ∷ def_word ∷ []
 unfolding stops stops_from
 break_in_function = refl
 
--- a, b; a = b = 1; a(b=1); {a, b}; [a for b; a is 1; a.b = 1; (); import
-tuple : stops (t.Name a ∷ comma ∷ t.Name b ∷ []) ≡ Some (1, Some Tuple)
+-- a, b[1], = b, (a,)
+tuples : tree_of_tokens (t.Name a ∷ comma ∷ t.Name b ∷ open_bracket ∷ digit 1 ∷ close_bracket ∷ comma ∷ assign_sign ∷ t.Name b ∷ comma ∷ open_parenthesis ∷ t.Name a ∷ comma ∷ close_parenthesis ∷ t.Newline ∷ t.End ∷ [])
+    ≡ Some (s.Assign (place.Name a ∷ place.Item (named b) (numbered 1) ∷ []) true (e.TupleOf (named b ∷ e.TupleOf (named a ∷ []) ∷ [])) ∷ [])
+unfolding tree_of_tokens cell_of
+tuples = refl
+
+-- a, = (), and (b), which is no tuple
+ones : tree_of_tokens (t.Name a ∷ comma ∷ assign_sign ∷ open_parenthesis ∷ close_parenthesis ∷ t.Newline ∷ open_parenthesis ∷ t.Name b ∷ close_parenthesis ∷ t.Newline ∷ t.End ∷ [])
+    ≡ Some (s.Assign (place.Name a ∷ []) true (e.TupleOf []) ∷ s.Expression (named b) ∷ [])
+unfolding tree_of_tokens cell_of
+ones = refl
+
+-- for a, b in f, : a += 1,
+pairs : tree_of_tokens (for_word ∷ t.Name a ∷ comma ∷ t.Name b ∷ in_word ∷ t.Name f ∷ comma ∷ colon ∷ t.Name a ∷ plus_assign_sign ∷ digit 1 ∷ comma ∷ t.Newline ∷ t.End ∷ [])
+    ≡ Some (s.For (a ∷ b ∷ []) true (e.TupleOf (named f ∷ [])) (s.Augment (place.Name a) o.Plus (e.TupleOf (numbered 1 ∷ [])) ∷ []) ∷ [])
+unfolding tree_of_tokens cell_of
+pairs = refl
+
+-- targets in parentheses; a sum among targets; a, += ; if a, ; del a, ; a comma alone
+enclosed_targets : stops (open_parenthesis ∷ t.Name a ∷ comma ∷ t.Name b ∷ close_parenthesis ∷ assign_sign ∷ []) ≡ Some (5, None)
 unfolding stops stops_from
-tuple = refl
+enclosed_targets = refl
+
+sum_target : stops (t.Name a ∷ comma ∷ t.Name a ∷ plus_sign ∷ t.Name b ∷ assign_sign ∷ []) ≡ Some (5, None)
+unfolding stops stops_from
+sum_target = refl
+
+augmented_list : stops (t.Name a ∷ comma ∷ plus_assign_sign ∷ []) ≡ Some (2, None)
+unfolding stops stops_from
+augmented_list = refl
+
+tested_tuple : stops (if_word ∷ t.Name a ∷ comma ∷ []) ≡ Some (2, None)
+unfolding stops stops_from
+tested_tuple = refl
+
+deleted_tuple : stops (del_word ∷ t.Name a ∷ comma ∷ []) ≡ Some (2, None)
+unfolding stops stops_from
+deleted_tuple = refl
+
+lone_comma : stops (open_parenthesis ∷ comma ∷ []) ≡ Some (1, None)
+unfolding stops stops_from
+lone_comma = refl
+
+-- a, = b, = ; a = b = 1; a(b=1); {a, b}; [a for b; a is 1; a.b = 1; import
+chained_tuples : stops (t.Name a ∷ comma ∷ assign_sign ∷ t.Name b ∷ comma ∷ assign_sign ∷ []) ≡ Some (5, Some ChainedAssignment)
+unfolding stops stops_from
+chained_tuples = refl
 
 chain : stops (t.Name a ∷ assign_sign ∷ t.Name b ∷ assign_sign ∷ digit 1 ∷ []) ≡ Some (3, Some ChainedAssignment)
 unfolding stops stops_from
@@ -164,10 +207,6 @@ is_one = refl
 attribute : stops (t.Name a ∷ dot ∷ t.Name b ∷ assign_sign ∷ []) ≡ Some (3, Some Attribute)
 unfolding stops stops_from
 attribute = refl
-
-empty_tuple : stops (open_parenthesis ∷ close_parenthesis ∷ []) ≡ Some (1, Some Tuple)
-unfolding stops stops_from
-empty_tuple = refl
 
 default_value : stops (def_word ∷ t.Name f ∷ open_parenthesis ∷ t.Name a ∷ assign_sign ∷ []) ≡ Some (4, Some Default)
 unfolding stops stops_from

@@ -1,11 +1,11 @@
 -- What has been read is what its last token makes of what was read before.
-use Rattle.std.proofs.Common.{◌≡◌, ℕ, zero, suc, Bool, false, IsTrue, List, [], ◌∷◌, Option, Some, None, refl, ap, ◌∙◌}
+use Rattle.std.proofs.Common.{◌≡◌, ℕ, zero, suc, Bool, false, IsTrue, List, [], ◌∷◌, Option, Some, None, refl, ap, ◌∙◌, sym, subst}
 use Rattle.py_token.specs.declared.kinds.Kind.{Kind}
 use Rattle.py_token.specs.declared.kinds.Kind.TheVariants as t
 use Rattle.std.proofs.lemmas.Bool.{false≢true}
 use Rattle.py_grammar.specs.Words.{and_word, or_word, not_word, if_word, else_word, in_word, is_word, none_word, true_word, false_word, equal_sign, not_equal_sign, at_most_sign, at_least_sign, floor_sign, plus_sign, minus_sign, times_sign, mod_sign, less_sign, more_sign, open_parenthesis, close_parenthesis, open_bracket, close_bracket, open_brace, close_brace, colon, comma, dot}
-use Rattle.py_grammar.specs.Expressions.{Expression, plain, conditional, Ors, ors_one, ors_more, Ands, ands_one, ands_more, Negation, compared, negated, Compares, compares_one, compares_more, compares_none, compares_not_none, Relational, equal, not_equal, less, at_most, greater, at_least, within, not_within, Sums, sums_one, sums_more, Additive, plus, minus, Products, products_one, products_more, Multiplicative, times, floor, modulo, Signed, unsigned, signed, Primary, name, number, text, nothing, truth, falsity, group, display, dict, call, index, slice, Callee, function, method, unbounded, bounded, no_args, args, args_comma, Elements, elements_one, elements_more, no_entries, entries, entries_comma, Pairs, pairs_one, pairs_more}
-use Rattle.py_grammar.specs.Readings.{Picked, picked, Upper, upper, Related, related, Added, added, Scaled, scaled, Lower, lower, no_upper, no_lower, Bracket, in_group, in_display, in_dict, in_pair, in_call, in_index, in_slice, Opened, opened, Reading, wants, has, has_none, has_not_none, after_is, after_is_not, after_not, after_dot, after_method, begun, add_signs, add_scaled, add_added, add_nots, add_and, add_or, add_picked, compares_of, expression_of, close_parenthesis_after, close_bracket_after, close_brace_after, comma_after, colon_after, behind, operator, read, whole, bare_below, narrow}
+use Rattle.py_grammar.specs.Expressions.{Expression, plain, conditional, Ors, ors_one, ors_more, Ands, ands_one, ands_more, Negation, compared, negated, Compares, compares_one, compares_more, compares_none, compares_not_none, Relational, equal, not_equal, less, at_most, greater, at_least, within, not_within, Sums, sums_one, sums_more, Additive, plus, minus, Products, products_one, products_more, Multiplicative, times, floor, modulo, Signed, unsigned, signed, Primary, name, number, text, nothing, truth, falsity, empty, group, display, dict, call, index, slice, Exprs, single, tuple, tuple_comma, Callee, function, method, unbounded, bounded, no_args, args, args_comma, Elements, elements_one, elements_more, no_entries, entries, entries_comma, Pairs, pairs_one, pairs_more}
+use Rattle.py_grammar.specs.Readings.{Picked, picked, Upper, upper, Related, related, Added, added, Scaled, scaled, Lower, lower, no_upper, no_lower, Bracket, in_group, in_display, in_dict, in_pair, in_call, in_index, in_slice, Opened, opened, listed, Reading, wants, has, has_none, has_not_none, after_is, after_is_not, after_not, after_dot, after_method, begun, add_signs, add_scaled, add_added, add_nots, add_and, add_or, add_picked, compares_of, expression_of, close_parenthesis_after, close_bracket_after, close_brace_after, comma_after, colon_after, behind, operator, read, exprs_after, whole, bare_below, narrow, open_in, one_below, undivided, directly, lists_stand, reading_stands}
 
 -- ---- where a form ends
 
@@ -144,25 +144,56 @@ behind-back (compares_not_none c) os u t h = refl
 pub closed-back : (a : Expression) (os : List Opened) (t : Kind) (k : List Opened → Option Expression → Option Reading) → Falls t → ((u : Upper) (c : Compares) → behind os u c t ≡ k os (expression_of u c)) → read (at_expression os a) t ≡ k os (Some a)
 closed-back a os t k h e = behind-back (core_of a) os (upper_of [] a) t h ∙ e (upper_of [] a) (core_of a) ∙ ap (k os) (expression-back a [])
 
-whole_compares-back : (c : Compares) (u : Upper) → whole (at_compares [] u c) ≡ expression_of u c
-whole_compares-back (compares_one b) u = ap (λ x. expression_of u (compares_one x)) (sums-back b)
-whole_compares-back (compares_more c r b) u = ap (λ x. expression_of u (compares_more c r x)) (sums-back b)
-whole_compares-back (compares_none c) u = refl
-whole_compares-back (compares_not_none c) u = refl
+whole_compares-back : (c : Compares) (os : List Opened) (u : Upper) → whole (at_compares os u c) ≡ exprs_after os (expression_of u c)
+whole_compares-back (compares_one b) os u = ap (λ x. exprs_after os (expression_of u (compares_one x))) (sums-back b)
+whole_compares-back (compares_more c r b) os u = ap (λ x. exprs_after os (expression_of u (compares_more c r x))) (sums-back b)
+whole_compares-back (compares_none c) os u = refl
+whole_compares-back (compares_not_none c) os u = refl
 
--- what has been read after an expression may end as that expression
-pub whole-back : (a : Expression) → whole (at_expression [] a) ≡ Some a
-whole-back a = whole_compares-back (core_of a) (upper_of [] a) ∙ expression-back a []
+whole-back : (a : Expression) (os : List Opened) → whole (at_expression os a) ≡ exprs_after os (Some a)
+whole-back a os = whole_compares-back (core_of a) os (upper_of [] a) ∙ ap (exprs_after os) (expression-back a [])
+
+abbrev pub at_exprs : Exprs → Reading
+at_exprs (single a) = at_expression [] a
+at_exprs (tuple es a) = at_expression (listed es ∷ []) a
+at_exprs (tuple_comma es) = wants (listed es ∷ []) no_upper no_lower
+
+-- what has been read after them may end as them
+pub exprs-back : (a : Exprs) → whole (at_exprs a) ≡ Some a
+exprs-back (single a) = whole-back a []
+exprs-back (tuple es a) = whole-back a (listed es ∷ [])
+exprs-back (tuple_comma es) = refl
+
+open-at : (c : Compares) (os : List Opened) (u : Upper) → open_in (at_compares os u c) ≡ os
+open-at (compares_one b) os u = refl
+open-at (compares_more c r b) os u = refl
+open-at (compares_none c) os u = refl
+open-at (compares_not_none c) os u = refl
+
+pub exprs-stand : (a : Exprs) → reading_stands (at_exprs a)
+exprs-stand (single a) = subst lists_stand (sym (open-at (core_of a) [] (upper_of [] a))) tt
+exprs-stand (tuple es a) = subst lists_stand (sym (open-at (core_of a) (listed es ∷ []) (upper_of [] a))) (refl, tt)
+exprs-stand (tuple_comma es) = (refl, tt)
+
+pub single-undivided : (a : Expression) → IsTrue (undivided (at_expression [] a))
+single-undivided a = ap one_below (open-at (core_of a) [] (upper_of [] a))
 
 -- ---- the last token that was read
 
+-- what holds of a reading holds of the one before it
+pub record Holds (s r : Reading) : Type 0 where
+  pub stands : reading_stands s
+  pub narrows : IsTrue (narrow r) → IsTrue (narrow s)
+  pub undivides : IsTrue (undivided r) → IsTrue (undivided s)
+
 pub data Last (r : Reading) : Type 0 where
   at_start : r ≡ begun → Last r
-  after : (s : Reading) (t : Kind) → read s t ≡ Some r → (IsTrue (narrow r) → IsTrue (narrow s)) → Last r
+  after : (s : Reading) (t : Kind) → read s t ≡ Some r → Holds s r → Last r
 
 weaker : (os : List Opened) (b : Bool) → IsTrue (bare_below os false) → IsTrue (bare_below os b)
 weaker [] b h = absurd (false≢true h)
 weaker (opened u w k ∷ os) b h = h
+weaker (listed es ∷ os) b h = h
 
 any-narrow : (c : Compares) (os : List Opened) (u : Upper) → IsTrue (bare_below os false) → IsTrue (narrow (at_compares os u c))
 any-narrow (compares_one b) os u h = weaker os _ h
@@ -170,116 +201,137 @@ any-narrow (compares_more c r b) os u h = weaker os _ h
 any-narrow (compares_none c) os u h = h
 any-narrow (compares_not_none c) os u h = h
 
-display-last : (es : Elements) (os : List Opened) (u : Upper) (w : Lower) → Last (has os u w (display (args es)))
-display-last (elements_one a) os u w = after (at_expression (opened u w (in_display None) ∷ os) a) close_bracket (closed-back a _ close_bracket close_bracket_after (λ os u w p. refl) (λ u c. refl)) (any-narrow (core_of a) _ _)
-display-last (elements_more es a) os u w = after (at_expression (opened u w (in_display (Some es)) ∷ os) a) close_bracket (closed-back a _ close_bracket close_bracket_after (λ os u w p. refl) (λ u c. refl)) (any-narrow (core_of a) _ _)
+on : {s r : Reading} → reading_stands s → (IsTrue (narrow r) → IsTrue (narrow s)) → (IsTrue (undivided r) → IsTrue (undivided s)) → Holds s r
+on {s} {r} k n d = record { stands = k; narrows = n; undivides = d }
 
-call-last : (es : Elements) (f : Callee) (os : List Opened) (u : Upper) (w : Lower) → Last (has os u w (call f (args es)))
-call-last (elements_one a) f os u w = after (at_expression (opened u w (in_call f None) ∷ os) a) close_parenthesis (closed-back a _ close_parenthesis close_parenthesis_after (λ os u w p. refl) (λ u c. refl)) (any-narrow (core_of a) _ _)
-call-last (elements_more es a) f os u w = after (at_expression (opened u w (in_call f (Some es)) ∷ os) a) close_parenthesis (closed-back a _ close_parenthesis close_parenthesis_after (λ os u w p. refl) (λ u c. refl)) (any-narrow (core_of a) _ _)
+-- before a token behind a comparison
+still : {r : Reading} (c : Compares) (os : List Opened) (u : Upper) → lists_stand os → (IsTrue (narrow r) → IsTrue (bare_below os false)) → (IsTrue (undivided r) → IsTrue (one_below os)) → Holds (at_compares os u c) r
+still {r} c os u k n d = record { stands = subst lists_stand (sym (open-at c os u)) k; narrows = λ h. any-narrow c os u (n h); undivides = λ h. ap one_below (open-at c os u) ∙ d h }
 
-dict-last : (ps : Pairs) (os : List Opened) (u : Upper) (w : Lower) → Last (has os u w (dict (entries ps)))
-dict-last (pairs_one a b) os u w = after (at_expression (opened u w (in_pair None a) ∷ os) b) close_brace (closed-back b _ close_brace close_brace_after (λ os u w p. refl) (λ u c. refl)) (any-narrow (core_of b) _ _)
-dict-last (pairs_more ps a b) os u w = after (at_expression (opened u w (in_pair (Some ps) a) ∷ os) b) close_brace (closed-back b _ close_brace close_brace_after (λ os u w p. refl) (λ u c. refl)) (any-narrow (core_of b) _ _)
+display-last : (es : Elements) (os : List Opened) (u : Upper) (w : Lower) → lists_stand os → Last (has os u w (display (args es)))
+display-last (elements_one a) os u w k = after (at_expression (opened u w (in_display None) ∷ os) a) close_bracket (closed-back a _ close_bracket close_bracket_after (λ os u w p. refl) (λ u c. refl)) (still (core_of a) _ _ k (λ h. h) (λ h. h))
+display-last (elements_more es a) os u w k = after (at_expression (opened u w (in_display (Some es)) ∷ os) a) close_bracket (closed-back a _ close_bracket close_bracket_after (λ os u w p. refl) (λ u c. refl)) (still (core_of a) _ _ k (λ h. h) (λ h. h))
 
-has-last : (p : Primary) (os : List Opened) (u : Upper) (w : Lower) → Last (has os u w p)
-has-last (name n) os u w = after (wants os u w) (t.Name n) refl (λ h. h)
-has-last (number n) os u w = after (wants os u w) (t.Number n) refl (λ h. h)
-has-last (text n) os u w = after (wants os u w) (t.Text n) refl (λ h. h)
-has-last nothing os u w = after (wants os u w) none_word refl (λ h. h)
-has-last truth os u w = after (wants os u w) true_word refl (λ h. h)
-has-last falsity os u w = after (wants os u w) false_word refl (λ h. h)
-has-last (group a) os u w = after (at_expression (opened u w in_group ∷ os) a) close_parenthesis (closed-back a _ close_parenthesis close_parenthesis_after (λ os u w p. refl) (λ u c. refl)) (any-narrow (core_of a) _ _)
-has-last (display no_args) os u w = after (wants (opened u w (in_display None) ∷ os) no_upper no_lower) close_bracket refl (λ h. h)
-has-last (display (args es)) os u w = display-last es os u w
-has-last (display (args_comma es)) os u w = after (wants (opened u w (in_display (Some es)) ∷ os) no_upper no_lower) close_bracket refl (λ h. h)
-has-last (dict no_entries) os u w = after (wants (opened u w (in_dict None) ∷ os) no_upper no_lower) close_brace refl (λ h. h)
-has-last (dict (entries ps)) os u w = dict-last ps os u w
-has-last (dict (entries_comma ps)) os u w = after (wants (opened u w (in_dict (Some ps)) ∷ os) no_upper no_lower) close_brace refl (λ h. h)
-has-last (call f no_args) os u w = after (wants (opened u w (in_call f None) ∷ os) no_upper no_lower) close_parenthesis refl (λ h. h)
-has-last (call f (args es)) os u w = call-last es f os u w
-has-last (call f (args_comma es)) os u w = after (wants (opened u w (in_call f (Some es)) ∷ os) no_upper no_lower) close_parenthesis refl (λ h. h)
-has-last (index p a) os u w = after (at_expression (opened u w (in_index p) ∷ os) a) close_bracket (closed-back a _ close_bracket close_bracket_after (λ os u w p. refl) (λ u c. refl)) (any-narrow (core_of a) _ _)
-has-last (slice p a unbounded) os u w = after (wants (opened u w (in_slice p a) ∷ os) no_upper no_lower) close_bracket refl (λ h. h)
-has-last (slice p a (bounded b)) os u w = after (at_expression (opened u w (in_slice p a) ∷ os) b) close_bracket (closed-back b _ close_bracket close_bracket_after (λ os u w p. refl) (λ u c. refl)) (any-narrow (core_of b) _ _)
+call-last : (es : Elements) (f : Callee) (os : List Opened) (u : Upper) (w : Lower) → lists_stand os → Last (has os u w (call f (args es)))
+call-last (elements_one a) f os u w k = after (at_expression (opened u w (in_call f None) ∷ os) a) close_parenthesis (closed-back a _ close_parenthesis close_parenthesis_after (λ os u w p. refl) (λ u c. refl)) (still (core_of a) _ _ k (λ h. h) (λ h. h))
+call-last (elements_more es a) f os u w k = after (at_expression (opened u w (in_call f (Some es)) ∷ os) a) close_parenthesis (closed-back a _ close_parenthesis close_parenthesis_after (λ os u w p. refl) (λ u c. refl)) (still (core_of a) _ _ k (λ h. h) (λ h. h))
 
-display_element-last : (es : Elements) (os : List Opened) (u : Upper) (w : Lower) → Last (wants (opened u w (in_display (Some es)) ∷ os) no_upper no_lower)
-display_element-last (elements_one a) os u w = after (at_expression (opened u w (in_display None) ∷ os) a) comma (closed-back a _ comma comma_after (λ os u w p. refl) (λ u c. refl)) (any-narrow (core_of a) _ _)
-display_element-last (elements_more es a) os u w = after (at_expression (opened u w (in_display (Some es)) ∷ os) a) comma (closed-back a _ comma comma_after (λ os u w p. refl) (λ u c. refl)) (any-narrow (core_of a) _ _)
+dict-last : (ps : Pairs) (os : List Opened) (u : Upper) (w : Lower) → lists_stand os → Last (has os u w (dict (entries ps)))
+dict-last (pairs_one a b) os u w k = after (at_expression (opened u w (in_pair None a) ∷ os) b) close_brace (closed-back b _ close_brace close_brace_after (λ os u w p. refl) (λ u c. refl)) (still (core_of b) _ _ k (λ h. h) (λ h. h))
+dict-last (pairs_more ps a b) os u w k = after (at_expression (opened u w (in_pair (Some ps) a) ∷ os) b) close_brace (closed-back b _ close_brace close_brace_after (λ os u w p. refl) (λ u c. refl)) (still (core_of b) _ _ k (λ h. h) (λ h. h))
 
-call_element-last : (es : Elements) (f : Callee) (os : List Opened) (u : Upper) (w : Lower) → Last (wants (opened u w (in_call f (Some es)) ∷ os) no_upper no_lower)
-call_element-last (elements_one a) f os u w = after (at_expression (opened u w (in_call f None) ∷ os) a) comma (closed-back a _ comma comma_after (λ os u w p. refl) (λ u c. refl)) (any-narrow (core_of a) _ _)
-call_element-last (elements_more es a) f os u w = after (at_expression (opened u w (in_call f (Some es)) ∷ os) a) comma (closed-back a _ comma comma_after (λ os u w p. refl) (λ u c. refl)) (any-narrow (core_of a) _ _)
+has-last : (p : Primary) (os : List Opened) (u : Upper) (w : Lower) → lists_stand os → Last (has os u w p)
+has-last (name n) os u w k = after (wants os u w) (t.Name n) refl (on k (λ h. h) (λ h. h))
+has-last (number n) os u w k = after (wants os u w) (t.Number n) refl (on k (λ h. h) (λ h. h))
+has-last (text n) os u w k = after (wants os u w) (t.Text n) refl (on k (λ h. h) (λ h. h))
+has-last nothing os u w k = after (wants os u w) none_word refl (on k (λ h. h) (λ h. h))
+has-last truth os u w k = after (wants os u w) true_word refl (on k (λ h. h) (λ h. h))
+has-last falsity os u w k = after (wants os u w) false_word refl (on k (λ h. h) (λ h. h))
+has-last empty os u w k = after (wants (opened u w in_group ∷ os) no_upper no_lower) close_parenthesis refl (on k (λ h. h) (λ h. h))
+has-last (group (tuple es a)) os u w k = after (at_expression (listed es ∷ opened u w in_group ∷ os) a) close_parenthesis (closed-back a _ close_parenthesis close_parenthesis_after (λ os u w p. refl) (λ u c. refl)) (still (core_of a) _ _ (refl, k) (λ h. h) (λ h. h))
+has-last (group (tuple_comma es)) os u w k = after (wants (listed es ∷ opened u w in_group ∷ os) no_upper no_lower) close_parenthesis refl (on (refl, k) (λ h. h) (λ h. h))
+has-last (group (single a)) os u w k = after (at_expression (opened u w in_group ∷ os) a) close_parenthesis (closed-back a _ close_parenthesis close_parenthesis_after (λ os u w p. refl) (λ u c. refl)) (still (core_of a) _ _ k (λ h. h) (λ h. h))
+has-last (display no_args) os u w k = after (wants (opened u w (in_display None) ∷ os) no_upper no_lower) close_bracket refl (on k (λ h. h) (λ h. h))
+has-last (display (args es)) os u w k = display-last es os u w k
+has-last (display (args_comma es)) os u w k = after (wants (opened u w (in_display (Some es)) ∷ os) no_upper no_lower) close_bracket refl (on k (λ h. h) (λ h. h))
+has-last (dict no_entries) os u w k = after (wants (opened u w (in_dict None) ∷ os) no_upper no_lower) close_brace refl (on k (λ h. h) (λ h. h))
+has-last (dict (entries ps)) os u w k = dict-last ps os u w k
+has-last (dict (entries_comma ps)) os u w k = after (wants (opened u w (in_dict (Some ps)) ∷ os) no_upper no_lower) close_brace refl (on k (λ h. h) (λ h. h))
+has-last (call f no_args) os u w k = after (wants (opened u w (in_call f None) ∷ os) no_upper no_lower) close_parenthesis refl (on k (λ h. h) (λ h. h))
+has-last (call f (args es)) os u w k = call-last es f os u w k
+has-last (call f (args_comma es)) os u w k = after (wants (opened u w (in_call f (Some es)) ∷ os) no_upper no_lower) close_parenthesis refl (on k (λ h. h) (λ h. h))
+has-last (index p a) os u w k = after (at_expression (opened u w (in_index p) ∷ os) a) close_bracket (closed-back a _ close_bracket close_bracket_after (λ os u w p. refl) (λ u c. refl)) (still (core_of a) _ _ k (λ h. h) (λ h. h))
+has-last (slice p a unbounded) os u w k = after (wants (opened u w (in_slice p a) ∷ os) no_upper no_lower) close_bracket refl (on k (λ h. h) (λ h. h))
+has-last (slice p a (bounded b)) os u w k = after (at_expression (opened u w (in_slice p a) ∷ os) b) close_bracket (closed-back b _ close_bracket close_bracket_after (λ os u w p. refl) (λ u c. refl)) (still (core_of b) _ _ k (λ h. h) (λ h. h))
 
-pair-last : (ps : Pairs) (os : List Opened) (u : Upper) (w : Lower) → Last (wants (opened u w (in_dict (Some ps)) ∷ os) no_upper no_lower)
-pair-last (pairs_one a b) os u w = after (at_expression (opened u w (in_pair None a) ∷ os) b) comma (closed-back b _ comma comma_after (λ os u w p. refl) (λ u c. refl)) (any-narrow (core_of b) _ _)
-pair-last (pairs_more ps a b) os u w = after (at_expression (opened u w (in_pair (Some ps) a) ∷ os) b) comma (closed-back b _ comma comma_after (λ os u w p. refl) (λ u c. refl)) (any-narrow (core_of b) _ _)
+display_element-last : (es : Elements) (os : List Opened) (u : Upper) (w : Lower) → lists_stand os → Last (wants (opened u w (in_display (Some es)) ∷ os) no_upper no_lower)
+display_element-last (elements_one a) os u w k = after (at_expression (opened u w (in_display None) ∷ os) a) comma (closed-back a _ comma comma_after (λ os u w p. refl) (λ u c. refl)) (still (core_of a) _ _ k (λ h. h) (λ h. h))
+display_element-last (elements_more es a) os u w k = after (at_expression (opened u w (in_display (Some es)) ∷ os) a) comma (closed-back a _ comma comma_after (λ os u w p. refl) (λ u c. refl)) (still (core_of a) _ _ k (λ h. h) (λ h. h))
 
-bracket-last : (b : Bracket) (os : List Opened) (u : Upper) (w : Lower) → Last (wants (opened u w b ∷ os) no_upper no_lower)
-bracket-last in_group os u w = after (wants os u w) open_parenthesis refl (λ h. h)
-bracket-last (in_display None) os u w = after (wants os u w) open_bracket refl (λ h. h)
-bracket-last (in_display (Some es)) os u w = display_element-last es os u w
-bracket-last (in_dict None) os u w = after (wants os u w) open_brace refl (λ h. h)
-bracket-last (in_dict (Some ps)) os u w = pair-last ps os u w
-bracket-last (in_pair ps a) os u w = after (at_expression (opened u w (in_dict ps) ∷ os) a) colon (closed-back a _ colon colon_after (λ os u w p. refl) (λ u c. refl)) (any-narrow (core_of a) _ _)
-bracket-last (in_call (function p) None) os u w = after (has os u w p) open_parenthesis refl (λ h. h)
-bracket-last (in_call (method p n) None) os u w = after (after_method os u w p n) open_parenthesis refl (λ h. h)
-bracket-last (in_call f (Some es)) os u w = call_element-last es f os u w
-bracket-last (in_index p) os u w = after (has os u w p) open_bracket refl (λ h. h)
-bracket-last (in_slice p unbounded) os u w = after (wants (opened u w (in_index p) ∷ os) no_upper no_lower) colon refl (λ h. h)
-bracket-last (in_slice p (bounded a)) os u w = after (at_expression (opened u w (in_index p) ∷ os) a) colon (closed-back a _ colon colon_after (λ os u w p. refl) (λ u c. refl)) (any-narrow (core_of a) _ _)
+call_element-last : (es : Elements) (f : Callee) (os : List Opened) (u : Upper) (w : Lower) → lists_stand os → Last (wants (opened u w (in_call f (Some es)) ∷ os) no_upper no_lower)
+call_element-last (elements_one a) f os u w k = after (at_expression (opened u w (in_call f None) ∷ os) a) comma (closed-back a _ comma comma_after (λ os u w p. refl) (λ u c. refl)) (still (core_of a) _ _ k (λ h. h) (λ h. h))
+call_element-last (elements_more es a) f os u w k = after (at_expression (opened u w (in_call f (Some es)) ∷ os) a) comma (closed-back a _ comma comma_after (λ os u w p. refl) (λ u c. refl)) (still (core_of a) _ _ k (λ h. h) (λ h. h))
 
-opened-last : (os : List Opened) → Last (wants os no_upper no_lower)
-opened-last [] = at_start refl
-opened-last (opened u w b ∷ os) = bracket-last b os u w
+pair-last : (ps : Pairs) (os : List Opened) (u : Upper) (w : Lower) → lists_stand os → Last (wants (opened u w (in_dict (Some ps)) ∷ os) no_upper no_lower)
+pair-last (pairs_one a b) os u w k = after (at_expression (opened u w (in_pair None a) ∷ os) b) comma (closed-back b _ comma comma_after (λ os u w p. refl) (λ u c. refl)) (still (core_of b) _ _ k (λ h. h) (λ h. h))
+pair-last (pairs_more ps a b) os u w k = after (at_expression (opened u w (in_pair (Some ps) a) ∷ os) b) comma (closed-back b _ comma comma_after (λ os u w p. refl) (λ u c. refl)) (still (core_of b) _ _ k (λ h. h) (λ h. h))
 
-upper-last : (u : Upper) (os : List Opened) → Last (wants os u no_lower)
-upper-last (upper ps test o a (suc n)) os = after (wants os (upper ps test o a n) no_lower) not_word refl (λ h. weaker os _ h)
-upper-last (upper ps test o (Some a) zero) os =
-    after (at_ands os ps test o a) and_word (behind-back (core (ands_last a)) os _ and_word (λ os u w p. refl) ∙ ap (λ x. Some (wants os (upper ps test o (Some x) zero) no_lower)) (ands-back a)) (any-narrow (core (ands_last a)) os _)
-upper-last (upper ps test (Some o) None zero) os =
-    after (at_ors os ps test o) or_word (behind-back (core (ands_last (ors_last o))) os _ or_word (λ os u w p. refl) ∙ ap (λ x. Some (wants os (upper ps test (Some x) None zero) no_lower)) (ors-back o)) (any-narrow (core (ands_last (ors_last o))) os _)
-upper-last (upper ps (Some b) None None zero) os =
-    after (at_ors os ps None b) if_word (behind-back (core (ands_last (ors_last b))) os _ if_word (λ os u w p. refl) ∙ ap (λ x. Some (wants os (upper ps (Some x) None None zero) no_lower)) (ors-back b)) (any-narrow (core (ands_last (ors_last b))) os _)
-upper-last (upper (picked a b ∷ ps) None None None zero) os =
-    after (at_ors os ps (Some a) b) else_word (behind-back (core (ands_last (ors_last b))) os _ else_word (λ os u w p. refl) ∙ ap (λ x. Some (wants os (upper (picked a x ∷ ps) None None None zero) no_lower)) (ors-back b)) (any-narrow (core (ands_last (ors_last b))) os _)
-upper-last (upper [] None None None zero) os = opened-last os
+bracket-last : (b : Bracket) (os : List Opened) (u : Upper) (w : Lower) → lists_stand os → Last (wants (opened u w b ∷ os) no_upper no_lower)
+bracket-last in_group os u w k = after (wants os u w) open_parenthesis refl (on k (λ h. h) (λ h. h))
+bracket-last (in_display None) os u w k = after (wants os u w) open_bracket refl (on k (λ h. h) (λ h. h))
+bracket-last (in_display (Some es)) os u w k = display_element-last es os u w k
+bracket-last (in_dict None) os u w k = after (wants os u w) open_brace refl (on k (λ h. h) (λ h. h))
+bracket-last (in_dict (Some ps)) os u w k = pair-last ps os u w k
+bracket-last (in_pair ps a) os u w k = after (at_expression (opened u w (in_dict ps) ∷ os) a) colon (closed-back a _ colon colon_after (λ os u w p. refl) (λ u c. refl)) (still (core_of a) _ _ k (λ h. h) (λ h. h))
+bracket-last (in_call (function p) None) os u w k = after (has os u w p) open_parenthesis refl (on k (λ h. h) (λ h. h))
+bracket-last (in_call (method p n) None) os u w k = after (after_method os u w p n) open_parenthesis refl (on k (λ h. h) (λ h. h))
+bracket-last (in_call f (Some es)) os u w k = call_element-last es f os u w k
+bracket-last (in_index p) os u w k = after (has os u w p) open_bracket refl (on k (λ h. h) (λ h. h))
+bracket-last (in_slice p unbounded) os u w k = after (wants (opened u w (in_index p) ∷ os) no_upper no_lower) colon refl (on k (λ h. h) (λ h. h))
+bracket-last (in_slice p (bounded a)) os u w k = after (at_expression (opened u w (in_index p) ∷ os) a) colon (closed-back a _ colon colon_after (λ os u w p. refl) (λ u c. refl)) (still (core_of a) _ _ k (λ h. h) (λ h. h))
 
-related-last : (r : Relational) (c : Compares) (os : List Opened) (u : Upper) → Last (wants os u (lower (Some (related c r)) None None []))
-related-last equal c os u = after (at_compares os u c) equal_sign (behind-back c os u equal_sign (λ os u w p. refl)) (any-narrow c os u)
-related-last not_equal c os u = after (at_compares os u c) not_equal_sign (behind-back c os u not_equal_sign (λ os u w p. refl)) (any-narrow c os u)
-related-last less c os u = after (at_compares os u c) less_sign (behind-back c os u less_sign (λ os u w p. refl)) (any-narrow c os u)
-related-last at_most c os u = after (at_compares os u c) at_most_sign (behind-back c os u at_most_sign (λ os u w p. refl)) (any-narrow c os u)
-related-last greater c os u = after (at_compares os u c) more_sign (behind-back c os u more_sign (λ os u w p. refl)) (any-narrow c os u)
-related-last at_least c os u = after (at_compares os u c) at_least_sign (behind-back c os u at_least_sign (λ os u w p. refl)) (any-narrow c os u)
-related-last within c os u = after (at_compares os u c) in_word (behind-back c os u in_word (λ os u w p. refl)) (any-narrow c os u)
-related-last not_within c os u = after (after_not os u c) in_word refl (λ h. h)
+more-undivided : (es xs : Elements) (os : List Opened) → IsTrue (one_below (listed xs ∷ os)) → IsTrue (one_below (listed es ∷ os))
+more-undivided es xs [] h = h
+more-undivided es xs (o ∷ os) h = h
 
-added-last : (s : Additive) (b : Sums) (r : Option Related) (os : List Opened) (u : Upper) → Last (wants os u (lower r (Some (added b s)) None []))
-added-last plus b r os u = after (at_sums os u r b) plus_sign (ap (λ x. Some (wants os u (lower r (Some (added x plus)) None []))) (sums-back b)) (λ h. weaker os _ h)
-added-last minus b r os u = after (at_sums os u r b) minus_sign (ap (λ x. Some (wants os u (lower r (Some (added x minus)) None []))) (sums-back b)) (λ h. weaker os _ h)
+listed-last : (es : Elements) (os : List Opened) → IsTrue (directly os) → lists_stand os → Last (wants (listed es ∷ os) no_upper no_lower)
+listed-last (elements_one a) [] d k = after (at_expression [] a) comma (closed-back a _ comma comma_after (λ os u w p. refl) (λ u c. refl)) (still (core_of a) _ _ k (λ h. h) (λ h. refl))
+listed-last (elements_one a) (opened v x in_group ∷ os) d k = after (at_expression (opened v x in_group ∷ os) a) comma (closed-back a _ comma comma_after (λ os u w p. refl) (λ u c. refl)) (still (core_of a) _ _ k (λ h. h) (λ h. h))
+listed-last (elements_one a) _ d k = absurd (false≢true d)
+listed-last (elements_more es a) os d k = after (at_expression (listed es ∷ os) a) comma (closed-back a _ comma comma_after (λ os u w p. refl) (λ u c. refl)) (still (core_of a) _ _ (d, k) (λ h. h) (more-undivided es (elements_more es a) os))
 
-scaled-last : (s : Multiplicative) (b : Products) (a : Option Added) (r : Option Related) (os : List Opened) (u : Upper) → Last (wants os u (lower r a (Some (scaled b s)) []))
-scaled-last times b a r os u = after (at_products os u r a b) times_sign (ap (λ x. Some (wants os u (lower r a (Some (scaled x times)) []))) (products-back b)) (λ h. weaker os _ h)
-scaled-last floor b a r os u = after (at_products os u r a b) floor_sign (ap (λ x. Some (wants os u (lower r a (Some (scaled x floor)) []))) (products-back b)) (λ h. weaker os _ h)
-scaled-last modulo b a r os u = after (at_products os u r a b) mod_sign (ap (λ x. Some (wants os u (lower r a (Some (scaled x modulo)) []))) (products-back b)) (λ h. weaker os _ h)
+opened-last : (os : List Opened) → lists_stand os → Last (wants os no_upper no_lower)
+opened-last [] k = at_start refl
+opened-last (opened u w b ∷ os) k = bracket-last b os u w k
+opened-last (listed es ∷ os) k = listed-last es os k.0 k.1
 
-wants-last : (w : Lower) (u : Upper) (os : List Opened) → Last (wants os u w)
-wants-last (lower r a m (plus ∷ ss)) u os = after (wants os u (lower r a m ss)) plus_sign refl (λ h. weaker os _ h)
-wants-last (lower r a m (minus ∷ ss)) u os = after (wants os u (lower r a m ss)) minus_sign refl (λ h. weaker os _ h)
-wants-last (lower r a (Some (scaled b s)) []) u os = scaled-last s b a r os u
-wants-last (lower r (Some (added b s)) None []) u os = added-last s b r os u
-wants-last (lower (Some (related c r)) None None []) u os = related-last r c os u
-wants-last (lower None None None []) u os = upper-last u os
+upper-last : (u : Upper) (os : List Opened) → lists_stand os → Last (wants os u no_lower)
+upper-last (upper ps test o a (suc n)) os k = after (wants os (upper ps test o a n) no_lower) not_word refl (on k (λ h. weaker os _ h) (λ h. h))
+upper-last (upper ps test o (Some a) zero) os k =
+    after (at_ands os ps test o a) and_word (behind-back (core (ands_last a)) os _ and_word (λ os u w p. refl) ∙ ap (λ x. Some (wants os (upper ps test o (Some x) zero) no_lower)) (ands-back a)) (still (core (ands_last a)) os _ k (λ h. h) (λ h. h))
+upper-last (upper ps test (Some o) None zero) os k =
+    after (at_ors os ps test o) or_word (behind-back (core (ands_last (ors_last o))) os _ or_word (λ os u w p. refl) ∙ ap (λ x. Some (wants os (upper ps test (Some x) None zero) no_lower)) (ors-back o)) (still (core (ands_last (ors_last o))) os _ k (λ h. h) (λ h. h))
+upper-last (upper ps (Some b) None None zero) os k =
+    after (at_ors os ps None b) if_word (behind-back (core (ands_last (ors_last b))) os _ if_word (λ os u w p. refl) ∙ ap (λ x. Some (wants os (upper ps (Some x) None None zero) no_lower)) (ors-back b)) (still (core (ands_last (ors_last b))) os _ k (λ h. h) (λ h. h))
+upper-last (upper (picked a b ∷ ps) None None None zero) os k =
+    after (at_ors os ps (Some a) b) else_word (behind-back (core (ands_last (ors_last b))) os _ else_word (λ os u w p. refl) ∙ ap (λ x. Some (wants os (upper (picked a x ∷ ps) None None None zero) no_lower)) (ors-back b)) (still (core (ands_last (ors_last b))) os _ k (λ h. h) (λ h. h))
+upper-last (upper [] None None None zero) os k = opened-last os k
+
+related-last : (r : Relational) (c : Compares) (os : List Opened) (u : Upper) → lists_stand os → Last (wants os u (lower (Some (related c r)) None None []))
+related-last equal c os u k = after (at_compares os u c) equal_sign (behind-back c os u equal_sign (λ os u w p. refl)) (still c os u k (λ h. h) (λ h. h))
+related-last not_equal c os u k = after (at_compares os u c) not_equal_sign (behind-back c os u not_equal_sign (λ os u w p. refl)) (still c os u k (λ h. h) (λ h. h))
+related-last less c os u k = after (at_compares os u c) less_sign (behind-back c os u less_sign (λ os u w p. refl)) (still c os u k (λ h. h) (λ h. h))
+related-last at_most c os u k = after (at_compares os u c) at_most_sign (behind-back c os u at_most_sign (λ os u w p. refl)) (still c os u k (λ h. h) (λ h. h))
+related-last greater c os u k = after (at_compares os u c) more_sign (behind-back c os u more_sign (λ os u w p. refl)) (still c os u k (λ h. h) (λ h. h))
+related-last at_least c os u k = after (at_compares os u c) at_least_sign (behind-back c os u at_least_sign (λ os u w p. refl)) (still c os u k (λ h. h) (λ h. h))
+related-last within c os u k = after (at_compares os u c) in_word (behind-back c os u in_word (λ os u w p. refl)) (still c os u k (λ h. h) (λ h. h))
+related-last not_within c os u k = after (after_not os u c) in_word refl (on k (λ h. h) (λ h. h))
+
+added-last : (s : Additive) (b : Sums) (r : Option Related) (os : List Opened) (u : Upper) → lists_stand os → Last (wants os u (lower r (Some (added b s)) None []))
+added-last plus b r os u k = after (at_sums os u r b) plus_sign (ap (λ x. Some (wants os u (lower r (Some (added x plus)) None []))) (sums-back b)) (on k (λ h. weaker os _ h) (λ h. h))
+added-last minus b r os u k = after (at_sums os u r b) minus_sign (ap (λ x. Some (wants os u (lower r (Some (added x minus)) None []))) (sums-back b)) (on k (λ h. weaker os _ h) (λ h. h))
+
+scaled-last : (s : Multiplicative) (b : Products) (a : Option Added) (r : Option Related) (os : List Opened) (u : Upper) → lists_stand os → Last (wants os u (lower r a (Some (scaled b s)) []))
+scaled-last times b a r os u k = after (at_products os u r a b) times_sign (ap (λ x. Some (wants os u (lower r a (Some (scaled x times)) []))) (products-back b)) (on k (λ h. weaker os _ h) (λ h. h))
+scaled-last floor b a r os u k = after (at_products os u r a b) floor_sign (ap (λ x. Some (wants os u (lower r a (Some (scaled x floor)) []))) (products-back b)) (on k (λ h. weaker os _ h) (λ h. h))
+scaled-last modulo b a r os u k = after (at_products os u r a b) mod_sign (ap (λ x. Some (wants os u (lower r a (Some (scaled x modulo)) []))) (products-back b)) (on k (λ h. weaker os _ h) (λ h. h))
+
+wants-last : (w : Lower) (u : Upper) (os : List Opened) → lists_stand os → Last (wants os u w)
+wants-last (lower r a m (plus ∷ ss)) u os k = after (wants os u (lower r a m ss)) plus_sign refl (on k (λ h. weaker os _ h) (λ h. h))
+wants-last (lower r a m (minus ∷ ss)) u os k = after (wants os u (lower r a m ss)) minus_sign refl (on k (λ h. weaker os _ h) (λ h. h))
+wants-last (lower r a (Some (scaled b s)) []) u os k = scaled-last s b a r os u k
+wants-last (lower r (Some (added b s)) None []) u os k = added-last s b r os u k
+wants-last (lower (Some (related c r)) None None []) u os k = related-last r c os u k
+wants-last (lower None None None []) u os k = upper-last u os k
 
 -- each reading but the first is what one token makes of another
-pub reading-last : (r : Reading) → Last r
-reading-last (wants os u w) = wants-last w u os
-reading-last (has os u w p) = has-last p os u w
-reading-last (has_none os u c) = after (after_is os u c) none_word refl (λ h. h)
-reading-last (has_not_none os u c) = after (after_is_not os u c) none_word refl (λ h. h)
-reading-last (after_is os u c) = after (at_compares os u c) is_word (behind-back c os u is_word (λ os u w p. refl)) (any-narrow c os u)
-reading-last (after_is_not os u c) = after (after_is os u c) not_word refl (λ h. h)
-reading-last (after_not os u c) = after (at_compares os u c) not_word (behind-back c os u not_word (λ os u w p. refl)) (any-narrow c os u)
-reading-last (after_dot os u w p) = after (has os u w p) dot refl (λ h. h)
-reading-last (after_method os u w p n) = after (after_dot os u w p) (t.Name n) refl (λ h. h)
+pub reading-last : (r : Reading) → reading_stands r → Last r
+reading-last (wants os u w) k = wants-last w u os k
+reading-last (has os u w p) k = has-last p os u w k
+reading-last (has_none os u c) k = after (after_is os u c) none_word refl (on k (λ h. h) (λ h. h))
+reading-last (has_not_none os u c) k = after (after_is_not os u c) none_word refl (on k (λ h. h) (λ h. h))
+reading-last (after_is os u c) k = after (at_compares os u c) is_word (behind-back c os u is_word (λ os u w p. refl)) (still c os u k (λ h. h) (λ h. h))
+reading-last (after_is_not os u c) k = after (after_is os u c) not_word refl (on k (λ h. h) (λ h. h))
+reading-last (after_not os u c) k = after (at_compares os u c) not_word (behind-back c os u not_word (λ os u w p. refl)) (still c os u k (λ h. h) (λ h. h))
+reading-last (after_dot os u w p) k = after (has os u w p) dot refl (on k (λ h. h) (λ h. h))
+reading-last (after_method os u w p n) k = after (after_dot os u w p) (t.Name n) refl (on k (λ h. h) (λ h. h))

@@ -1,4 +1,6 @@
 pub mod Spelled
+pub mod Bare
+pub mod Lists
 pub mod Standing
 pub mod Last
 pub mod Ends

@@ -2,9 +2,9 @@
 use Rattle.std.proofs.Common.{List, [], ◌∷◌, Option, Some, None}
 use Rattle.py_token.specs.declared.kinds.Kind.TheVariants as t
 use Rattle.py_grammar.specs.Words.{if_word, else_word, elif_word, while_word, for_word, in_word, return_word, global_word, del_word, def_word, assign_sign, open_parenthesis, close_parenthesis, open_bracket, close_bracket, colon, comma}
-use Rattle.py_grammar.specs.Statements.{Target, to_name, to_item, Names, names_one, names_more, Simple, word, return_, give, declare, delete, assign, augment, show, spell_target, augmentation_sign, spell_names, keyword, spell_simple, Params, no_params, params, params_comma, Statement, simple, compound, Head, choose, otherwise, while_true, for_each, define, Condition, if_true, else_if, Branches, branches, Block, inline, indented, Statements, statements_one, statements_more, spell_params, spell_statement, spell_head, spell_condition, spell_branches, spell_block, spell_statements, spell_front}
-use Rattle.py_grammar.specs.States.{Outer, outer, Spot, own, behind_head, Purpose, showing, giving, deleting, assigning, augmenting, Lead, lead_if, lead_elif, lead_while, lead_for, State, line, in_simple, after_word, in_global, has_global, in_test, after_for, after_for_name, after_else, after_def, after_def_name, in_params, has_params, after_params, after_colon, after_newline, done, spell_names_before, spell_outer, spell_outers, spell_spot, spell_purpose, spell_lead, spell_state}
-use Rattle.py_grammar.proofs.Standing.{Spelling, none, first, joined, expression-tokens, primary-tokens, reading-tokens}
+use Rattle.py_grammar.specs.Statements.{Target, to_name, to_item, Places, places_one, places_more, Targets, targets, targets_comma, Variables, variables, variables_comma, Names, names_one, names_more, Simple, word, return_, give, declare, delete, assign, augment, show, spell_target, spell_places, spell_targets, spell_variables, augmentation_sign, spell_names, keyword, spell_simple, Params, no_params, params, params_comma, Statement, simple, compound, Head, choose, otherwise, while_true, for_each, define, Condition, if_true, else_if, Branches, branches, Block, inline, indented, Statements, statements_one, statements_more, spell_params, spell_statement, spell_head, spell_condition, spell_branches, spell_block, spell_statements, spell_front}
+use Rattle.py_grammar.specs.States.{Outer, outer, Spot, own, behind_head, Purpose, showing, giving, deleting, assigning, augmenting, Lead, lead_if, lead_elif, lead_while, lead_for, State, line, in_simple, after_word, in_global, has_global, in_test, in_variables, has_variables, after_else, after_def, after_def_name, in_params, has_params, after_params, after_colon, after_newline, done, spell_names_before, spell_outer, spell_outers, spell_spot, spell_purpose, spell_lead, spell_state}
+use Rattle.py_grammar.proofs.Standing.{Spelling, none, first, joined, expression-tokens, exprs-tokens, primary-tokens, reading-tokens}
 
 place-tokens : (to : Target) → Spelling (spell_target to)
 place-tokens (to_name n) = first (t.Name n) none
@@ -14,15 +14,27 @@ names-tokens : (ns : Names) → Spelling (spell_names ns)
 names-tokens (names_one n) = first (t.Name n) none
 names-tokens (names_more ns n) = joined (names-tokens ns) (first comma (first (t.Name n) none))
 
+places-tokens : (ps : Places) → Spelling (spell_places ps)
+places-tokens (places_one to) = place-tokens to
+places-tokens (places_more ps to) = joined (places-tokens ps) (first comma (place-tokens to))
+
+targets-tokens : (ts : Targets) → Spelling (spell_targets ts)
+targets-tokens (targets ps) = places-tokens ps
+targets-tokens (targets_comma ps) = joined (places-tokens ps) (first comma none)
+
+variables-tokens : (vs : Variables) → Spelling (spell_variables vs)
+variables-tokens (variables ns) = names-tokens ns
+variables-tokens (variables_comma ns) = joined (names-tokens ns) (first comma none)
+
 simple-tokens : (s : Simple) → Spelling (spell_simple s)
 simple-tokens (word w) = first (keyword w) none
 simple-tokens return_ = first return_word none
-simple-tokens (give a) = first return_word (expression-tokens a)
+simple-tokens (give a) = first return_word (exprs-tokens a)
 simple-tokens (declare ns) = first global_word (names-tokens ns)
 simple-tokens (delete to) = first del_word (place-tokens to)
-simple-tokens (assign to a) = joined (place-tokens to) (first assign_sign (expression-tokens a))
-simple-tokens (augment to by a) = joined (place-tokens to) (first (augmentation_sign by) (expression-tokens a))
-simple-tokens (show a) = expression-tokens a
+simple-tokens (assign ts a) = joined (targets-tokens ts) (first assign_sign (exprs-tokens a))
+simple-tokens (augment to by a) = joined (place-tokens to) (first (augmentation_sign by) (exprs-tokens a))
+simple-tokens (show a) = exprs-tokens a
 
 params-tokens : (ps : Params) → Spelling (spell_params ps)
 params-tokens no_params = none
@@ -38,7 +50,7 @@ mutual
   head-tokens (choose c) = condition-tokens c
   head-tokens (otherwise bs) = joined (branches-tokens bs) (first else_word (first colon none))
   head-tokens (while_true a) = first while_word (joined (expression-tokens a) (first colon none))
-  head-tokens (for_each n a) = first for_word (first (t.Name n) (first in_word (joined (expression-tokens a) (first colon none))))
+  head-tokens (for_each vs a) = first for_word (joined (variables-tokens vs) (first in_word (joined (exprs-tokens a) (first colon none))))
   head-tokens (define n ps) = first def_word (first (t.Name n) (first open_parenthesis (joined (params-tokens ps) (first close_parenthesis (first colon none)))))
 
   pub condition-tokens : (c : Condition) → Spelling (spell_condition c)
@@ -75,14 +87,14 @@ purpose-tokens : (u : Purpose) → Spelling (spell_purpose u)
 purpose-tokens showing = none
 purpose-tokens giving = first return_word none
 purpose-tokens deleting = first del_word none
-purpose-tokens (assigning to) = joined (place-tokens to) (first assign_sign none)
+purpose-tokens (assigning ts) = joined (targets-tokens ts) (first assign_sign none)
 purpose-tokens (augmenting to by) = joined (place-tokens to) (first (augmentation_sign by) none)
 
 lead-tokens : (l : Lead) → Spelling (spell_lead l)
 lead-tokens lead_if = first if_word none
 lead-tokens (lead_elif bs) = joined (branches-tokens bs) (first elif_word none)
 lead-tokens lead_while = first while_word none
-lead-tokens (lead_for n) = first for_word (first (t.Name n) (first in_word none))
+lead-tokens (lead_for vs) = first for_word (joined (variables-tokens vs) (first in_word none))
 
 names_before-tokens : (ns : Option Names) → Spelling (spell_names_before ns)
 names_before-tokens None = none
@@ -95,8 +107,8 @@ state-tokens (after_word os at w) = joined (outers-tokens os) (joined (spot-toke
 state-tokens (in_global os at ns) = joined (outers-tokens os) (joined (spot-tokens at) (first global_word (names_before-tokens ns)))
 state-tokens (has_global os at ns) = joined (outers-tokens os) (joined (spot-tokens at) (first global_word (names-tokens ns)))
 state-tokens (in_test os before lead r) = joined (outers-tokens os) (joined (front-tokens before) (joined (lead-tokens lead) (reading-tokens r)))
-state-tokens (after_for os before) = joined (outers-tokens os) (joined (front-tokens before) (first for_word none))
-state-tokens (after_for_name os before n) = joined (outers-tokens os) (joined (front-tokens before) (first for_word (first (t.Name n) none)))
+state-tokens (in_variables os before ns) = joined (outers-tokens os) (joined (front-tokens before) (first for_word (names_before-tokens ns)))
+state-tokens (has_variables os before ns) = joined (outers-tokens os) (joined (front-tokens before) (first for_word (names-tokens ns)))
 state-tokens (after_else os before bs) = joined (outers-tokens os) (joined (front-tokens before) (joined (branches-tokens bs) (first else_word none)))
 state-tokens (after_def before) = joined (front-tokens before) (first def_word none)
 state-tokens (after_def_name before n) = joined (front-tokens before) (first def_word (first (t.Name n) none))

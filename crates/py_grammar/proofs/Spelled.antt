@@ -3,8 +3,8 @@ use Rattle.std.proofs.Common.{◌≡◌, ℕ, zero, suc, List, [], ◌∷◌, Op
 use Rattle.py_token.specs.declared.kinds.Kind.{Kind}
 use Rattle.py_token.specs.declared.kinds.Kind.TheVariants as t
 use Rattle.py_grammar.specs.Words.{and_word, or_word, not_word, if_word, else_word, in_word, is_word, none_word, true_word, false_word, equal_sign, not_equal_sign, at_most_sign, at_least_sign, floor_sign, plus_sign, minus_sign, times_sign, mod_sign, less_sign, more_sign, open_parenthesis, close_parenthesis, open_bracket, close_bracket, open_brace, close_brace, colon, comma, dot}
-use Rattle.py_grammar.specs.Expressions.{Expression, plain, conditional, Ors, Ands, Negation, compared, negated, Compares, compares_none, compares_not_none, Sums, Additive, plus, minus, Products, Multiplicative, times, floor, modulo, Signed, unsigned, signed, Primary, Elements, Pairs, additive_sign, multiplicative_sign, spell_expression, spell_ors, spell_ands, spell_negation, spell_compares, spell_sums, spell_products, spell_signed, spell_primary, spell_callee, spell_bound, spell_args, spell_elements, spell_entries, spell_pairs}
-use Rattle.py_grammar.specs.Readings.{Picked, picked, Upper, upper, Related, related, Added, added, Scaled, scaled, Lower, lower, in_group, in_display, in_dict, in_pair, in_call, in_index, in_slice, Opened, opened, Reading, wants, has, has_none, has_not_none, after_is, after_is_not, after_not, after_dot, after_method, add_signs, add_scaled, add_added, add_related, add_nots, add_and, add_or, add_picked, add_element, add_pair, args_of, entries_of, compares_of, expression_of, close_parenthesis_after, close_bracket_after, close_brace_after, comma_after, colon_after, if_after, else_after, or_after, and_after, behind, add, scale, operator, close_parenthesis_at, close_bracket_at, close_brace_at, colon_at, if_nothing, deny, sign, operand, is_what, is_not_what, not_what, dot_what, method_what, read, whole}
+use Rattle.py_grammar.specs.Expressions.{Expression, plain, conditional, Ors, Ands, Negation, compared, negated, Compares, compares_none, compares_not_none, Sums, Additive, plus, minus, Products, Multiplicative, times, floor, modulo, Signed, unsigned, signed, Primary, Exprs, Elements, Pairs, additive_sign, multiplicative_sign, spell_expression, spell_ors, spell_ands, spell_negation, spell_compares, spell_sums, spell_products, spell_signed, spell_primary, spell_exprs, spell_callee, spell_bound, spell_args, spell_elements, spell_entries, spell_pairs}
+use Rattle.py_grammar.specs.Readings.{Picked, picked, Upper, upper, Related, related, Added, added, Scaled, scaled, Lower, lower, in_group, in_display, in_dict, in_pair, in_call, in_index, in_slice, Opened, opened, listed, Reading, wants, has, has_none, has_not_none, after_is, after_is_not, after_not, after_dot, after_method, add_signs, add_scaled, add_added, add_related, add_nots, add_and, add_or, add_picked, add_element, add_pair, args_of, entries_of, compares_of, expression_of, close_parenthesis_after, close_bracket_after, close_brace_after, comma_after, colon_after, if_after, else_after, or_after, and_after, behind, add, scale, operator, close_parenthesis_at, close_bracket_at, close_brace_at, colon_at, if_nothing, deny, sign, operand, is_what, is_not_what, not_what, dot_what, method_what, read, exprs_after, exprs_at, if_begun, whole}
 use Rattle.py_grammar.specs.Open.{spell_picked, spell_test, front_or, front_and, nots, front_related, front_added, front_scaled, signs, spell_upper, spell_lower, front_element, front_pair, spell_opened, spell_reading}
 
 -- ---- what is closed spells what was open
@@ -95,6 +95,7 @@ expression_of-spelled (upper ps (Some b) o a n) c = tt
 
 close_parenthesis_after-adds : (os : List Opened) (a : Option Expression) (f : List Kind → List Kind) → Spells a f → Adds (λ rest. spell_opened os (f rest)) close_parenthesis (close_parenthesis_after os a)
 close_parenthesis_after-adds (opened u w in_group ∷ os) (Some a) f e = λ rest. ap (λ x. spell_opened os (spell_upper u (spell_lower w (open_parenthesis ∷ x)))) (e (close_parenthesis ∷ rest))
+close_parenthesis_after-adds (listed es ∷ opened u w in_group ∷ os) (Some a) f e = λ rest. ap (λ x. spell_opened os (spell_upper u (spell_lower w (open_parenthesis ∷ spell_elements es (comma ∷ x))))) (e (close_parenthesis ∷ rest))
 close_parenthesis_after-adds (opened u w (in_call g es) ∷ os) (Some a) f e =
     λ rest. ap (λ x. spell_opened os (spell_upper u (spell_lower w (spell_callee g (open_parenthesis ∷ x))))) (add_element-spelled es a (close_parenthesis ∷ rest) ∙ ap (front_element es) (e (close_parenthesis ∷ rest)))
 close_parenthesis_after-adds _ _ f e = tt
@@ -119,6 +120,9 @@ comma_after-adds (opened u w (in_call g es) ∷ os) (Some a) f e =
     λ rest. ap (λ x. spell_opened os (spell_upper u (spell_lower w (spell_callee g (open_parenthesis ∷ x))))) (add_element-spelled es a (comma ∷ rest) ∙ ap (front_element es) (e (comma ∷ rest)))
 comma_after-adds (opened u w (in_pair ps b) ∷ os) (Some a) f e =
     λ rest. ap (λ x. spell_opened os (spell_upper u (spell_lower w (open_brace ∷ x)))) (add_pair-spelled ps b a (comma ∷ rest) ∙ ap (λ x. front_pair ps (spell_expression b (colon ∷ x))) (e (comma ∷ rest)))
+comma_after-adds (opened u w in_group ∷ os) (Some a) f e = λ rest. ap (λ x. spell_opened os (spell_upper u (spell_lower w (open_parenthesis ∷ x)))) (e (comma ∷ rest))
+comma_after-adds (listed es ∷ os) (Some a) f e = λ rest. ap (λ x. spell_opened os (spell_elements es (comma ∷ x))) (e (comma ∷ rest))
+comma_after-adds [] (Some a) f e = λ rest. e (comma ∷ rest)
 comma_after-adds _ _ f e = tt
 
 colon_after-adds : (os : List Opened) (a : Option Expression) (f : List Kind → List Kind) → Spells a f → Adds (λ rest. spell_opened os (f rest)) colon (colon_after os a)
@@ -187,6 +191,8 @@ operator-adds os u w p t = primary-adds os u w p t
 
 close_parenthesis_at-adds : (os : List Opened) → Adds (spell_opened os) close_parenthesis (close_parenthesis_at os)
 close_parenthesis_at-adds (opened u w (in_call f es) ∷ os) = λ rest. ap (λ x. spell_opened os (spell_upper u (spell_lower w (spell_callee f (open_parenthesis ∷ x))))) (args_of-spelled es (close_parenthesis ∷ rest))
+close_parenthesis_at-adds (opened u w in_group ∷ os) = λ rest. refl
+close_parenthesis_at-adds (listed es ∷ opened u w in_group ∷ os) = λ rest. refl
 close_parenthesis_at-adds _ = tt
 
 close_bracket_at-adds : (os : List Opened) → Adds (spell_opened os) close_bracket (close_bracket_at os)
@@ -265,13 +271,33 @@ read-adds (after_not os u c) t = not_what-adds os u c t
 read-adds (after_dot os u w p) t = dot_what-adds os u w p t
 read-adds (after_method os u w p n) t = method_what-adds os u w p n t
 
+-- ---- what may end
+
+abbrev pub SpellsAll : Option Exprs → (List Kind → List Kind) → Type 0
+SpellsAll None f = Unit {0}
+SpellsAll (Some a) f = (rest : List Kind) → spell_exprs a rest ≡ f rest
+
+exprs_after-spelled : (os : List Opened) (a : Option Expression) (f : List Kind → List Kind) → Spells a f → SpellsAll (exprs_after os a) (λ rest. spell_opened os (f rest))
+exprs_after-spelled [] (Some a) f h = h
+exprs_after-spelled (listed es ∷ []) (Some a) f h = λ rest. ap (λ x. spell_elements es (comma ∷ x)) (h rest)
+exprs_after-spelled _ _ f h = tt
+
+exprs_at-spelled : (os : List Opened) → SpellsAll (exprs_at os) (spell_opened os)
+exprs_at-spelled (listed es ∷ []) = λ rest. refl
+exprs_at-spelled _ = tt
+
+begun-spelled : (os : List Opened) (u : Upper) (w : Lower) (a : Option Exprs) → SpellsAll a (spell_opened os) → SpellsAll (if_begun u w a) (λ rest. spell_opened os (spell_upper u (spell_lower w rest)))
+begun-spelled os (upper [] None None None zero) (lower None None None []) a h = h
+begun-spelled os _ _ a h = tt
+
+spells_same : (a : Option Expression) (f g : List Kind → List Kind) → ((rest : List Kind) → f rest ≡ g rest) → Spells a f → Spells a g
+spells_same None f g e h = tt
+spells_same (Some a) f g e h = λ rest. h rest ∙ e rest
+
 -- what may end spells what has been read
-pub whole-spelled : (r : Reading) → Spells (whole r) (spell_reading r)
-whole-spelled (has [] u w p) = spells_same (expression_of u (compares_of w p)) _ _ (λ rest. ap (spell_upper u) (compares_of-spelled w p rest)) (expression_of-spelled u (compares_of w p))
-  where
-    spells_same : (a : Option Expression) (f g : List Kind → List Kind) → ((rest : List Kind) → f rest ≡ g rest) → Spells a f → Spells a g
-    spells_same None f g e h = tt
-    spells_same (Some a) f g e h = λ rest. h rest ∙ e rest
-whole-spelled (has_none [] u c) = expression_of-spelled u (compares_none c)
-whole-spelled (has_not_none [] u c) = expression_of-spelled u (compares_not_none c)
+pub whole-spelled : (r : Reading) → SpellsAll (whole r) (spell_reading r)
+whole-spelled (wants os u w) = begun-spelled os u w (exprs_at os) (exprs_at-spelled os)
+whole-spelled (has os u w p) = exprs_after-spelled os (expression_of u (compares_of w p)) _ (spells_same (expression_of u (compares_of w p)) _ _ (λ rest. ap (spell_upper u) (compares_of-spelled w p rest)) (expression_of-spelled u (compares_of w p)))
+whole-spelled (has_none os u c) = exprs_after-spelled os (expression_of u (compares_none c)) _ (expression_of-spelled u (compares_none c))
+whole-spelled (has_not_none os u c) = exprs_after-spelled os (expression_of u (compares_not_none c)) _ (expression_of-spelled u (compares_not_none c))
 whole-spelled _ = tt

@@ -3,8 +3,8 @@ use Rattle.std.proofs.Common.{◌≡◌, ℕ, zero, suc, List, [], ◌∷◌, �
 use Rattle.py_token.specs.declared.kinds.Kind.{Kind}
 use Rattle.py_token.specs.declared.kinds.Kind.TheVariants as t
 use Rattle.py_grammar.specs.Words.{and_word, or_word, not_word, if_word, else_word, in_word, is_word, none_word, true_word, false_word, equal_sign, not_equal_sign, at_most_sign, at_least_sign, less_sign, more_sign, open_parenthesis, close_parenthesis, open_bracket, close_bracket, open_brace, close_brace, colon, comma, dot}
-use Rattle.py_grammar.specs.Expressions.{Expression, plain, conditional, Ors, ors_one, ors_more, Ands, ands_one, ands_more, Negation, compared, negated, Compares, compares_one, compares_more, compares_none, compares_not_none, Relational, equal, not_equal, less, at_most, greater, at_least, within, not_within, Sums, sums_one, sums_more, Additive, Products, products_one, products_more, Signed, unsigned, signed, Primary, name, number, text, nothing, truth, falsity, group, display, dict, call, index, slice, Callee, function, method, Bound, unbounded, bounded, Args, no_args, args, args_comma, Elements, elements_one, elements_more, Entries, no_entries, entries, entries_comma, Pairs, pairs_one, pairs_more, spell_relational, additive_sign, multiplicative_sign, spell_expression, spell_ors, spell_ands, spell_negation, spell_compares, spell_sums, spell_products, spell_signed, spell_primary, spell_callee, spell_bound, spell_args, spell_elements, spell_entries, spell_pairs}
-use Rattle.py_grammar.specs.Readings.{Picked, picked, Upper, upper, Related, related, Added, added, Scaled, scaled, Lower, lower, Bracket, in_group, in_display, in_dict, in_pair, in_call, in_index, in_slice, Opened, opened, Reading, wants, has, has_none, has_not_none, after_is, after_is_not, after_not, after_dot, after_method}
+use Rattle.py_grammar.specs.Expressions.{Expression, plain, conditional, Ors, ors_one, ors_more, Ands, ands_one, ands_more, Negation, compared, negated, Compares, compares_one, compares_more, compares_none, compares_not_none, Relational, equal, not_equal, less, at_most, greater, at_least, within, not_within, Sums, sums_one, sums_more, Additive, Products, products_one, products_more, Signed, unsigned, signed, Primary, name, number, text, nothing, truth, falsity, empty, group, display, dict, call, index, slice, Exprs, single, tuple, tuple_comma, Callee, function, method, Bound, unbounded, bounded, Args, no_args, args, args_comma, Elements, elements_one, elements_more, Entries, no_entries, entries, entries_comma, Pairs, pairs_one, pairs_more, spell_relational, additive_sign, multiplicative_sign, spell_expression, spell_ors, spell_ands, spell_negation, spell_compares, spell_sums, spell_products, spell_signed, spell_primary, spell_exprs, spell_callee, spell_bound, spell_args, spell_elements, spell_entries, spell_pairs}
+use Rattle.py_grammar.specs.Readings.{Picked, picked, Upper, upper, Related, related, Added, added, Scaled, scaled, Lower, lower, Bracket, in_group, in_display, in_dict, in_pair, in_call, in_index, in_slice, Opened, opened, listed, Reading, wants, has, has_none, has_not_none, after_is, after_is_not, after_not, after_dot, after_method}
 use Rattle.py_grammar.specs.Open.{spell_picked, spell_test, front_or, front_and, nots, front_related, front_added, front_scaled, signs, spell_upper, spell_lower, front_element, front_pair, spell_bracket, spell_opened, spell_reading}
 
 -- what is spelled are tokens that don't depend on what follows
@@ -73,12 +73,18 @@ mutual
   primary-tokens nothing = first none_word none
   primary-tokens truth = first true_word none
   primary-tokens falsity = first false_word none
-  primary-tokens (group a) = first open_parenthesis (joined (expression-tokens a) (first close_parenthesis none))
+  primary-tokens empty = first open_parenthesis (first close_parenthesis none)
+  primary-tokens (group a) = first open_parenthesis (joined (exprs-tokens a) (first close_parenthesis none))
   primary-tokens (display a) = first open_bracket (joined (args-tokens a) (first close_bracket none))
   primary-tokens (dict a) = first open_brace (joined (entries-tokens a) (first close_brace none))
   primary-tokens (call f a) = joined (callee-tokens f) (first open_parenthesis (joined (args-tokens a) (first close_parenthesis none)))
   primary-tokens (index p a) = joined (primary-tokens p) (first open_bracket (joined (expression-tokens a) (first close_bracket none)))
   primary-tokens (slice p a b) = joined (primary-tokens p) (first open_bracket (joined (bound-tokens a) (first colon (joined (bound-tokens b) (first close_bracket none)))))
+
+  pub exprs-tokens : (a : Exprs) → Spelling (spell_exprs a)
+  exprs-tokens (single a) = expression-tokens a
+  exprs-tokens (tuple es a) = joined (elements-tokens es) (first comma (expression-tokens a))
+  exprs-tokens (tuple_comma es) = joined (elements-tokens es) (first comma none)
 
   pub callee-tokens : (a : Callee) → Spelling (spell_callee a)
   callee-tokens (function p) = primary-tokens p
@@ -169,6 +175,7 @@ bracket-tokens (in_slice p a) = joined (primary-tokens p) (first open_bracket (j
 
 opened-tokens : (os : List Opened) → Spelling (spell_opened os)
 opened-tokens [] = none
+opened-tokens (listed es ∷ os) = joined (opened-tokens os) (joined (elements-tokens es) (first comma none))
 opened-tokens (opened u w b ∷ os) = joined (opened-tokens os) (joined (upper-tokens u) (joined (lower-tokens w) (bracket-tokens b)))
 
 pub reading-tokens : (r : Reading) → Spelling (spell_reading r)

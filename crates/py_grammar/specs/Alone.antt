@@ -14,6 +14,10 @@ alone called takes block = Some (statements_one (compound (define called takes) 
 abbrev pub IsDefinition : List Kind → List ℕ → Params → Block → Type 0
 IsDefinition tokens called takes block = IsCell tokens (alone called takes block)
 
+-- these tokens spell this cell, which is one function
+abbrev pub IsFunction : List Kind → Cell → Type 0
+IsFunction tokens c = (called : List ℕ) × (takes : Params) × (block : Block) × (c ≡ alone called takes block) × IsCell tokens c
+
 -- one function alone begins with these tokens
 abbrev pub BeginsDefinition : List Kind → Type 0
 BeginsDefinition tokens = (more : List Kind) × (called : List ℕ) × (takes : Params) × (block : Block) × IsDefinition (tokens ++ more) called takes block

@@ -69,7 +69,7 @@ mutual
     unsigned : Primary → Signed
     signed : Additive → Signed → Signed
 
-  -- atom | callee "(" args ")" | primary "[" expression "]" | primary "[" [ expression ] ":" [ expression ] "]"
+  -- atom, "(" [ exprs ] ")" among them | callee "(" args ")" | primary "[" expression "]" | primary "[" [ expression ] ":" [ expression ] "]"
   pub data Primary : Type 0 where
     name : List ℕ → Primary
     number : ℤ → Primary
@@ -77,12 +77,19 @@ mutual
     nothing : Primary
     truth : Primary
     falsity : Primary
-    group : Expression → Primary
+    empty : Primary
+    group : Exprs → Primary
     display : Args → Primary
     dict : Entries → Primary
     call : Callee → Args → Primary
     index : Primary → Expression → Primary
     slice : Primary → Bound → Bound → Primary
+
+  -- expression { "," expression } [ "," ]: with a comma a tuple display
+  pub data Exprs : Type 0 where
+    single : Expression → Exprs
+    tuple : Elements → Expression → Exprs
+    tuple_comma : Elements → Exprs
 
   -- primary [ "." NAME ]
   pub data Callee : Type 0 where
@@ -178,12 +185,18 @@ abbrev mutual
   spell_primary nothing rest = none_word ∷ rest
   spell_primary truth rest = true_word ∷ rest
   spell_primary falsity rest = false_word ∷ rest
-  spell_primary (group a) rest = open_parenthesis ∷ spell_expression a (close_parenthesis ∷ rest)
+  spell_primary empty rest = open_parenthesis ∷ close_parenthesis ∷ rest
+  spell_primary (group a) rest = open_parenthesis ∷ spell_exprs a (close_parenthesis ∷ rest)
   spell_primary (display a) rest = open_bracket ∷ spell_args a (close_bracket ∷ rest)
   spell_primary (dict a) rest = open_brace ∷ spell_entries a (close_brace ∷ rest)
   spell_primary (call f a) rest = spell_callee f (open_parenthesis ∷ spell_args a (close_parenthesis ∷ rest))
   spell_primary (index p a) rest = spell_primary p (open_bracket ∷ spell_expression a (close_bracket ∷ rest))
   spell_primary (slice p a b) rest = spell_primary p (open_bracket ∷ spell_bound a (colon ∷ spell_bound b (close_bracket ∷ rest)))
+
+  pub spell_exprs : Exprs → List Kind → List Kind
+  spell_exprs (single a) rest = spell_expression a rest
+  spell_exprs (tuple es a) rest = spell_elements es (comma ∷ spell_expression a rest)
+  spell_exprs (tuple_comma es) rest = spell_elements es (comma ∷ rest)
 
   pub spell_callee : Callee → List Kind → List Kind
   spell_callee (function p) rest = spell_primary p rest

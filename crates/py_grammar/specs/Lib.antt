@@ -7,4 +7,5 @@ pub mod States
 pub mod Trees
 pub mod Outside
 pub mod Alone
+pub mod Depth
 pub mod AloneMachine

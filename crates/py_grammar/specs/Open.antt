@@ -4,7 +4,7 @@ use Rattle.py_token.specs.declared.kinds.Kind.{Kind}
 use Rattle.py_token.specs.declared.kinds.Kind.TheVariants as t
 use Rattle.py_grammar.specs.Words.{and_word, or_word, not_word, if_word, else_word, is_word, none_word, open_parenthesis, open_bracket, open_brace, colon, comma, dot}
 use Rattle.py_grammar.specs.Expressions.{Ors, Ands, Additive, Elements, Pairs, spell_relational, additive_sign, multiplicative_sign, spell_expression, spell_ors, spell_ands, spell_compares, spell_sums, spell_products, spell_primary, spell_callee, spell_bound, spell_elements, spell_pairs}
-use Rattle.py_grammar.specs.Readings.{Picked, picked, Upper, upper, Related, related, Added, added, Scaled, scaled, Lower, lower, Bracket, in_group, in_display, in_dict, in_pair, in_call, in_index, in_slice, Opened, opened, Reading, wants, has, has_none, has_not_none, after_is, after_is_not, after_not, after_dot, after_method}
+use Rattle.py_grammar.specs.Readings.{Picked, picked, Upper, upper, Related, related, Added, added, Scaled, scaled, Lower, lower, Bracket, in_group, in_display, in_dict, in_pair, in_call, in_index, in_slice, Opened, opened, listed, Reading, wants, has, has_none, has_not_none, after_is, after_is_not, after_not, after_dot, after_method}
 
 abbrev pub spell_picked : List Picked → List Kind → List Kind
 spell_picked [] rest = rest
@@ -67,6 +67,7 @@ spell_bracket (in_slice p a) rest = spell_primary p (open_bracket ∷ spell_boun
 
 abbrev pub spell_opened : List Opened → List Kind → List Kind
 spell_opened [] rest = rest
+spell_opened (listed es ∷ os) rest = spell_opened os (spell_elements es (comma ∷ rest))
 spell_opened (opened u w b ∷ os) rest = spell_opened os (spell_upper u (spell_lower w (spell_bracket b rest)))
 
 abbrev pub spell_reading : Reading → List Kind → List Kind

@@ -1,14 +1,14 @@
 -- Which construct outside the grammar a token begins, by the forms that are open before it.
-use Rattle.std.specs.Prelude.{◌≡◌, ℕ, zero, Bool, false, if◌then◌else◌, List, [], ◌∷◌, take, slice_get, Option, Some, None}
+use Rattle.std.specs.Prelude.{◌≡◌, ℕ, List, ◌∷◌, take, slice_get, Option, Some, None}
 use Rattle.py_token.specs.declared.kinds.Kind.{Kind}
 use Rattle.py_grammar.specs.declared.constructs.Construct.{Construct}
-use Rattle.py_grammar.specs.declared.constructs.Construct.TheVariants.{Word as Word_, Tuple, Comprehension, Set, Is, Attribute, ChainedAssignment, KeywordArgument, Default, NestedFunction}
+use Rattle.py_grammar.specs.declared.constructs.Construct.TheVariants.{Word as Word_, Comprehension, Set, Is, Attribute, ChainedAssignment, KeywordArgument, Default, NestedFunction}
 use Rattle.py_token.specs.declared.kinds.Keyword.TheVariants as k
-use Rattle.py_grammar.specs.Words.{not_word, for_word, none_word, def_word, as_word, assert_word, async_word, await_word, class_word, except_word, finally_word, from_word, import_word, lambda_word, nonlocal_word, raise_word, try_word, with_word, yield_word, assign_sign, open_parenthesis, close_parenthesis, close_brace, comma}
-use Rattle.py_grammar.specs.Expressions.{Expression, compares_none, compares_not_none}
-use Rattle.py_grammar.specs.Readings.{Upper, upper, Lower, lower, in_group, in_display, in_dict, in_call, Opened, opened, Reading, wants, has, has_none, has_not_none, after_is, after_is_not, after_method, is_empty, compares_of, expression_of, whole}
+use Rattle.py_grammar.specs.Words.{not_word, for_word, none_word, def_word, as_word, assert_word, async_word, await_word, class_word, except_word, finally_word, from_word, import_word, lambda_word, nonlocal_word, raise_word, try_word, with_word, yield_word, assign_sign, open_parenthesis, close_brace, comma}
+use Rattle.py_grammar.specs.Expressions.{Expression, Exprs, compares_none, compares_not_none}
+use Rattle.py_grammar.specs.Readings.{in_display, in_dict, in_call, Opened, opened, Reading, has, has_none, has_not_none, after_is, after_is_not, after_method, compares_of, expression_of, whole}
 use Rattle.py_grammar.specs.Statements.{IsFailing}
-use Rattle.py_grammar.specs.States.{Outer, Purpose, deleting, assigning, State, line, in_simple, in_test, has_params, after_colon, StandsAt, state_stands}
+use Rattle.py_grammar.specs.States.{Outer, Purpose, assigning, State, line, in_simple, in_test, has_params, after_colon, StandsAt, state_stands}
 
 -- a keyword that no rule has
 abbrev pub ruleless : Kind → Option Construct
@@ -35,10 +35,8 @@ first_of (Some c) other = Some c
 
 -- ---- after a whole expression
 
--- `,` at statement level or in parentheses, or after the first expression in braces
+-- `,` after the first expression in braces
 abbrev pub comma_begins : List Opened → Option Expression → Option Construct
-comma_begins [] (Some a) = Some Tuple
-comma_begins (opened u w in_group ∷ os) (Some a) = Some Tuple
 comma_begins (opened u w (in_dict None) ∷ os) (Some a) = Some Set
 comma_begins _ _ = None
 
@@ -68,15 +66,6 @@ behind_whole os a _ = None
 
 -- ---- elsewhere
 
--- `)` directly after the `(` of an atom
-abbrev pub empty_group : List Opened → Upper → Lower → Option Construct
-empty_group (opened v x in_group ∷ os) (upper [] None None None zero) (lower None None None []) = Some Tuple
-empty_group _ _ _ = None
-
-abbrev pub at_operand : List Opened → Upper → Lower → Kind → Option Construct
-at_operand os u w close_parenthesis = empty_group os u w
-at_operand os u w _ = None
-
 -- anything but `None`
 abbrev pub not_none : Kind → Option Construct
 not_none none_word = None
@@ -93,7 +82,6 @@ no_call open_parenthesis = None
 no_call _ = Some Attribute
 
 abbrev pub outside_reading : Reading → Kind → Option Construct
-outside_reading (wants os u w) t = at_operand os u w t
 outside_reading (has os u w p) t = behind_whole os (expression_of u (compares_of w p)) t
 outside_reading (has_none os u c) t = behind_whole os (expression_of u (compares_none c)) t
 outside_reading (has_not_none os u c) t = behind_whole os (expression_of u (compares_not_none c)) t
@@ -102,24 +90,14 @@ outside_reading (after_is_not os u c) t = not_none t
 outside_reading (after_method os u w p n) t = no_call t
 outside_reading _ t = None
 
--- `=` after `target = expression`
-abbrev pub chained_by : Purpose → Option Expression → Option Construct
-chained_by (assigning to) (Some a) = Some ChainedAssignment
+-- `=` after `targets = exprs`
+abbrev pub chained_by : Purpose → Option Exprs → Option Construct
+chained_by (assigning ts) (Some a) = Some ChainedAssignment
 chained_by _ _ = None
 
-abbrev pub chained : Purpose → Option Expression → Kind → Option Construct
+abbrev pub chained : Purpose → Option Exprs → Kind → Option Construct
 chained u a assign_sign = chained_by u a
 chained u a _ = None
-
--- a whole operand has been read, outside all brackets
-abbrev pub ends_target : Reading → Bool
-ends_target (has os u w p) = is_empty os
-ends_target _ = false
-
--- `,` after a whole target that is deleted, which is no expression
-abbrev pub after_deleted : Purpose → Reading → Kind → Bool
-after_deleted deleting r comma = ends_target r
-after_deleted _ r t = false
 
 abbrev pub default_at : Kind → Option Construct
 default_at assign_sign = Some Default
@@ -136,7 +114,7 @@ inline_function _ = None
 
 abbrev pub outside_state : State → Kind → Option Construct
 outside_state (line os before) t = nested os t
-outside_state (in_simple os at u r) t = if after_deleted u r t then None else first_of (chained u (whole r) t) (outside_reading r t)
+outside_state (in_simple os at u r) t = first_of (chained u (whole r) t) (outside_reading r t)
 outside_state (in_test os before lead r) t = outside_reading r t
 outside_state (has_params before n ns) t = default_at t
 outside_state (after_colon os o) t = inline_function t

@@ -1,9 +1,9 @@
 -- Reading an expression: what has been read, as forms that are still open, and what one more token makes of it.
-use Rattle.std.specs.Prelude.{ℕ, zero, suc, Bool, true, false, List, [], ◌∷◌, Option, Some, None, ◌&&◌}
+use Rattle.std.specs.Prelude.{ℕ, zero, suc, Bool, true, false, IsTrue, List, [], ◌∷◌, Option, Some, None, ◌&&◌}
 use Rattle.py_token.specs.declared.kinds.Kind.{Kind}
 use Rattle.py_token.specs.declared.kinds.Kind.TheVariants as t
 use Rattle.py_grammar.specs.Words.{and_word, or_word, not_word, if_word, else_word, in_word, is_word, none_word, true_word, false_word, equal_sign, not_equal_sign, at_most_sign, at_least_sign, floor_sign, plus_sign, minus_sign, times_sign, mod_sign, less_sign, more_sign, open_parenthesis, close_parenthesis, open_bracket, close_bracket, open_brace, close_brace, colon, comma, dot}
-use Rattle.py_grammar.specs.Expressions.{Expression, plain, conditional, Ors, ors_one, ors_more, Ands, ands_one, ands_more, Negation, compared, negated, Compares, compares_one, compares_more, compares_none, compares_not_none, Relational, equal, not_equal, less, at_most, greater, at_least, within, not_within, Sums, sums_one, sums_more, Additive, plus, minus, Products, products_one, products_more, Multiplicative, times, floor, modulo, Signed, unsigned, signed, Primary, name, number, text, nothing, truth, falsity, group, display, dict, call, index, slice, Callee, function, method, Bound, unbounded, bounded, Args, no_args, args, args_comma, Elements, elements_one, elements_more, Entries, no_entries, entries, entries_comma, Pairs, pairs_one, pairs_more}
+use Rattle.py_grammar.specs.Expressions.{Expression, plain, conditional, Ors, ors_one, ors_more, Ands, ands_one, ands_more, Negation, compared, negated, Compares, compares_one, compares_more, compares_none, compares_not_none, Relational, equal, not_equal, less, at_most, greater, at_least, within, not_within, Sums, sums_one, sums_more, Additive, plus, minus, Products, products_one, products_more, Multiplicative, times, floor, modulo, Signed, unsigned, signed, Primary, name, number, text, nothing, truth, falsity, empty, group, display, dict, call, index, slice, Exprs, single, tuple, tuple_comma, Callee, function, method, Bound, unbounded, bounded, Args, no_args, args, args_comma, Elements, elements_one, elements_more, Entries, no_entries, entries, entries_comma, Pairs, pairs_one, pairs_more}
 
 -- ---- an expression up to where an operand is to come
 
@@ -49,8 +49,10 @@ pub data Bracket : Type 0 where
   in_index : Primary → Bracket
   in_slice : Primary → Bound → Bracket
 
+-- what is open: a bracket, or the elements of a tuple so far, which are directly in parentheses or in no bracket
 pub data Opened : Type 0 where
   opened : Upper → Lower → Bracket → Opened
+  listed : Elements → Opened
 
 -- what has been read of an expression
 pub data Reading : Type 0 where
@@ -128,7 +130,8 @@ expression_of (upper ps (Some b) o a n) c = None
 -- ---- one more token after a whole expression
 
 abbrev pub close_parenthesis_after : List Opened → Option Expression → Option Reading
-close_parenthesis_after (opened u w in_group ∷ os) (Some a) = Some (has os u w (group a))
+close_parenthesis_after (opened u w in_group ∷ os) (Some a) = Some (has os u w (group (single a)))
+close_parenthesis_after (listed es ∷ opened u w in_group ∷ os) (Some a) = Some (has os u w (group (tuple es a)))
 close_parenthesis_after (opened u w (in_call f es) ∷ os) (Some a) = Some (has os u w (call f (args (add_element es a))))
 close_parenthesis_after _ _ = None
 
@@ -146,6 +149,9 @@ abbrev pub comma_after : List Opened → Option Expression → Option Reading
 comma_after (opened u w (in_display es) ∷ os) (Some a) = Some (wants (opened u w (in_display (Some (add_element es a))) ∷ os) no_upper no_lower)
 comma_after (opened u w (in_call f es) ∷ os) (Some a) = Some (wants (opened u w (in_call f (Some (add_element es a))) ∷ os) no_upper no_lower)
 comma_after (opened u w (in_pair ps b) ∷ os) (Some a) = Some (wants (opened u w (in_dict (Some (add_pair ps b a))) ∷ os) no_upper no_lower)
+comma_after (opened u w in_group ∷ os) (Some a) = Some (wants (listed (elements_one a) ∷ opened u w in_group ∷ os) no_upper no_lower)
+comma_after (listed es ∷ os) (Some a) = Some (wants (listed (elements_more es a) ∷ os) no_upper no_lower)
+comma_after [] (Some a) = Some (wants (listed (elements_one a) ∷ []) no_upper no_lower)
 comma_after _ _ = None
 
 abbrev pub colon_after : List Opened → Option Expression → Option Reading
@@ -216,6 +222,8 @@ operator os u w p t = behind os u (compares_of w p) t
 -- when nothing of the expression has been read, a bracket ends without it
 abbrev pub close_parenthesis_at : List Opened → Option Reading
 close_parenthesis_at (opened u w (in_call f es) ∷ os) = Some (has os u w (call f (args_of es)))
+close_parenthesis_at (opened u w in_group ∷ os) = Some (has os u w empty)
+close_parenthesis_at (listed es ∷ opened u w in_group ∷ os) = Some (has os u w (group (tuple_comma es)))
 close_parenthesis_at _ = None
 
 abbrev pub close_bracket_at : List Opened → Option Reading
@@ -297,14 +305,30 @@ read (after_not os u c) t = not_what os u c t
 read (after_dot os u w p) t = dot_what os u w p t
 read (after_method os u w p n) t = method_what os u w p n t
 
--- the expression, if it may end
-abbrev pub whole : Reading → Option Expression
-whole (has [] u w p) = expression_of u (compares_of w p)
-whole (has_none [] u c) = expression_of u (compares_none c)
-whole (has_not_none [] u c) = expression_of u (compares_not_none c)
+-- ---- where an expression ends outside all brackets
+
+abbrev pub exprs_after : List Opened → Option Expression → Option Exprs
+exprs_after [] (Some a) = Some (single a)
+exprs_after (listed es ∷ []) (Some a) = Some (tuple es a)
+exprs_after _ _ = None
+
+abbrev pub exprs_at : List Opened → Option Exprs
+exprs_at (listed es ∷ []) = Some (tuple_comma es)
+exprs_at _ = None
+
+abbrev pub if_begun : Upper → Lower → Option Exprs → Option Exprs
+if_begun (upper [] None None None zero) (lower None None None []) a = a
+if_begun _ _ a = None
+
+-- the whole, if it may end
+abbrev pub whole : Reading → Option Exprs
+whole (wants os u w) = if_begun u w (exprs_at os)
+whole (has os u w p) = exprs_after os (expression_of u (compares_of w p))
+whole (has_none os u c) = exprs_after os (expression_of u (compares_none c))
+whole (has_not_none os u c) = exprs_after os (expression_of u (compares_not_none c))
 whole _ = None
 
--- ---- a primary alone
+-- ---- a primary alone, and an expression alone
 
 abbrev pub is_none : {A : Type 0} → Option A → Bool
 is_none None = true
@@ -332,6 +356,7 @@ bare u w = no_lower_part w && no_upper_part u
 abbrev pub bare_below : List Opened → Bool → Bool
 bare_below [] b = b
 bare_below (opened u w k ∷ os) b = bare_below os (bare u w)
+bare_below (listed es ∷ os) b = bare_below os false
 
 -- what has been read begins a primary and nothing wider
 abbrev pub narrow : Reading → Bool
@@ -345,6 +370,41 @@ narrow (after_not os u c) = bare_below os false
 narrow (after_dot os u w p) = bare_below os (bare u w)
 narrow (after_method os u w p n) = bare_below os (bare u w)
 
-abbrev pub read_all : Reading → List Kind → Option Reading
-read_all r [] = Some r
-read_all r (t ∷ ts) = elim (read r t) [ None ↦ None | Some s ↦ read_all s ts ]
+-- what is open of it
+abbrev pub open_in : Reading → List Opened
+open_in (wants os u w) = os
+open_in (has os u w p) = os
+open_in (has_none os u c) = os
+open_in (has_not_none os u c) = os
+open_in (after_is os u c) = os
+open_in (after_is_not os u c) = os
+open_in (after_not os u c) = os
+open_in (after_dot os u w p) = os
+open_in (after_method os u w p n) = os
+
+-- no tuple is outside all brackets
+abbrev pub one_below : List Opened → Bool
+one_below [] = true
+one_below (opened u w k ∷ os) = one_below os
+one_below (listed es ∷ []) = false
+one_below (listed es ∷ o ∷ os) = one_below (o ∷ os)
+
+-- what has been read begins an expression, and no tuple without parentheses
+abbrev pub undivided : Reading → Bool
+undivided r = one_below (open_in r)
+
+-- ---- where the elements of a tuple are
+
+abbrev pub directly : List Opened → Bool
+directly [] = true
+directly (opened u w in_group ∷ os) = true
+directly _ = false
+
+-- directly in parentheses or in no bracket
+abbrev pub lists_stand : List Opened → Type 0
+lists_stand [] = Unit {0}
+lists_stand (opened u w k ∷ os) = lists_stand os
+lists_stand (listed es ∷ os) = IsTrue (directly os) × lists_stand os
+
+abbrev pub reading_stands : Reading → Type 0
+reading_stands r = lists_stand (open_in r)

@@ -4,7 +4,7 @@ use Rattle.py_token.specs.declared.kinds.Kind.{Kind}
 use Rattle.py_token.specs.declared.kinds.Kind.TheVariants as t
 use Rattle.std.specs.Cmp.Lexicographic.{pointwise}
 use Rattle.py_grammar.specs.Words.{if_word, else_word, elif_word, while_word, for_word, in_word, pass_word, break_word, continue_word, return_word, global_word, del_word, def_word, floor_assign_sign, plus_assign_sign, minus_assign_sign, times_assign_sign, mod_assign_sign, assign_sign, open_parenthesis, close_parenthesis, open_bracket, close_bracket, colon, comma}
-use Rattle.py_grammar.specs.Expressions.{Expression, Primary, spell_expression, spell_primary}
+use Rattle.py_grammar.specs.Expressions.{Expression, Primary, Exprs, spell_expression, spell_primary, spell_exprs}
 
 -- ---- simple statements
 
@@ -12,6 +12,16 @@ use Rattle.py_grammar.specs.Expressions.{Expression, Primary, spell_expression, 
 pub data Target : Type 0 where
   to_name : List ℕ → Target
   to_item : Primary → Expression → Target
+
+-- target { "," target }
+pub data Places : Type 0 where
+  places_one : Target → Places
+  places_more : Places → Target → Places
+
+-- places [ "," ]
+pub data Targets : Type 0 where
+  targets : Places → Targets
+  targets_comma : Places → Targets
 
 -- "+=" | "-=" | "*=" | "//=" | "%="
 pub data Augmentation : Type 0 where
@@ -32,21 +42,29 @@ pub data Word : Type 0 where
   break_ : Word
   continue_ : Word
 
--- "pass" | "break" | "continue" | "return" [ expression ] | "global" names | "del" target
--- | target "=" expression | target augmentation expression | expression
+-- "pass" | "break" | "continue" | "return" [ exprs ] | "global" names | "del" target
+-- | targets "=" exprs | target augmentation exprs | exprs
 pub data Simple : Type 0 where
   word : Word → Simple
   return_ : Simple
-  give : Expression → Simple
+  give : Exprs → Simple
   declare : Names → Simple
   delete : Target → Simple
-  assign : Target → Expression → Simple
-  augment : Target → Augmentation → Expression → Simple
-  show : Expression → Simple
+  assign : Targets → Exprs → Simple
+  augment : Target → Augmentation → Exprs → Simple
+  show : Exprs → Simple
 
 abbrev pub spell_target : Target → List Kind → List Kind
 spell_target (to_name n) rest = t.Name n ∷ rest
 spell_target (to_item p a) rest = spell_primary p (open_bracket ∷ spell_expression a (close_bracket ∷ rest))
+
+abbrev pub spell_places : Places → List Kind → List Kind
+spell_places (places_one to) rest = spell_target to rest
+spell_places (places_more ps to) rest = spell_places ps (comma ∷ spell_target to rest)
+
+abbrev pub spell_targets : Targets → List Kind → List Kind
+spell_targets (targets ps) rest = spell_places ps rest
+spell_targets (targets_comma ps) rest = spell_places ps (comma ∷ rest)
 
 abbrev pub augmentation_sign : Augmentation → Kind
 augmentation_sign by_plus = plus_assign_sign
@@ -67,14 +85,19 @@ keyword continue_ = continue_word
 abbrev pub spell_simple : Simple → List Kind → List Kind
 spell_simple (word w) rest = keyword w ∷ rest
 spell_simple return_ rest = return_word ∷ rest
-spell_simple (give a) rest = return_word ∷ spell_expression a rest
+spell_simple (give a) rest = return_word ∷ spell_exprs a rest
 spell_simple (declare ns) rest = global_word ∷ spell_names ns rest
 spell_simple (delete to) rest = del_word ∷ spell_target to rest
-spell_simple (assign to a) rest = spell_target to (assign_sign ∷ spell_expression a rest)
-spell_simple (augment to by a) rest = spell_target to (augmentation_sign by ∷ spell_expression a rest)
-spell_simple (show a) rest = spell_expression a rest
+spell_simple (assign ts a) rest = spell_targets ts (assign_sign ∷ spell_exprs a rest)
+spell_simple (augment to by a) rest = spell_target to (augmentation_sign by ∷ spell_exprs a rest)
+spell_simple (show a) rest = spell_exprs a rest
 
 -- ---- statements
+
+-- names [ "," ]
+pub data Variables : Type 0 where
+  variables : Names → Variables
+  variables_comma : Names → Variables
 
 -- [ names [ "," ] ]
 pub data Params : Type 0 where
@@ -88,12 +111,12 @@ mutual
     simple : Simple → Statement
     compound : Head → Block → Statement
 
-  -- condition | branches "else" ":" | "while" expression ":" | "for" NAME "in" expression ":" | "def" NAME "(" params ")" ":"
+  -- condition | branches "else" ":" | "while" expression ":" | "for" variables "in" exprs ":" | "def" NAME "(" params ")" ":"
   pub data Head : Type 0 where
     choose : Condition → Head
     otherwise : Branches → Head
     while_true : Expression → Head
-    for_each : List ℕ → Expression → Head
+    for_each : Variables → Exprs → Head
     define : List ℕ → Params → Head
 
   -- "if" expression ":" | branches "elif" expression ":"
@@ -115,6 +138,10 @@ mutual
     statements_one : Statement → Statements
     statements_more : Statements → Statement → Statements
 
+abbrev pub spell_variables : Variables → List Kind → List Kind
+spell_variables (variables ns) rest = spell_names ns rest
+spell_variables (variables_comma ns) rest = spell_names ns (comma ∷ rest)
+
 abbrev pub spell_params : Params → List Kind → List Kind
 spell_params no_params rest = rest
 spell_params (params ns) rest = spell_names ns rest
@@ -129,7 +156,7 @@ abbrev mutual
   spell_head (choose c) rest = spell_condition c rest
   spell_head (otherwise bs) rest = spell_branches bs (else_word ∷ colon ∷ rest)
   spell_head (while_true a) rest = while_word ∷ spell_expression a (colon ∷ rest)
-  spell_head (for_each n a) rest = for_word ∷ t.Name n ∷ in_word ∷ spell_expression a (colon ∷ rest)
+  spell_head (for_each vs a) rest = for_word ∷ spell_variables vs (in_word ∷ spell_exprs a (colon ∷ rest))
   spell_head (define n ps) rest = def_word ∷ t.Name n ∷ open_parenthesis ∷ spell_params ps (close_parenthesis ∷ colon ∷ rest)
 
   pub spell_condition : Condition → List Kind → List Kind
@@ -163,7 +190,7 @@ abbrev pub inside : Head → Around → Around
 inside (choose c) a = record { top = false; in_function = a.in_function; in_loop = a.in_loop }
 inside (otherwise bs) a = record { top = false; in_function = a.in_function; in_loop = a.in_loop }
 inside (while_true e) a = record { top = false; in_function = a.in_function; in_loop = true }
-inside (for_each n e) a = record { top = false; in_function = a.in_function; in_loop = true }
+inside (for_each vs e) a = record { top = false; in_function = a.in_function; in_loop = true }
 inside (define n ps) a = record { top = false; in_function = true; in_loop = false }
 
 -- the tokens of the function so far, its parameters first, before a block of such a head: those before the head, and its own
@@ -171,7 +198,7 @@ abbrev pub hear : Head → (List Kind → List Kind) → List Kind → List Kind
 hear (choose c) earlier rest = earlier (spell_condition c rest)
 hear (otherwise bs) earlier rest = earlier (spell_head (otherwise bs) rest)
 hear (while_true e) earlier rest = earlier (spell_head (while_true e) rest)
-hear (for_each n e) earlier rest = earlier (spell_head (for_each n e) rest)
+hear (for_each vs e) earlier rest = earlier (spell_head (for_each vs e) rest)
 hear (define n ps) earlier rest = spell_params ps rest
 
 abbrev pub is_name : List ℕ → Kind → Bool
@@ -204,7 +231,7 @@ simple_stands return_ a earlier = IsTrue a.in_function
 simple_stands (give e) a earlier = IsTrue a.in_function
 simple_stands (declare ns) a earlier = IsTrue a.in_function × names_new ns earlier
 simple_stands (delete to) a earlier = Unit {0}
-simple_stands (assign to e) a earlier = Unit {0}
+simple_stands (assign ts e) a earlier = Unit {0}
 simple_stands (augment to by e) a earlier = Unit {0}
 simple_stands (show e) a earlier = Unit {0}
 
@@ -217,7 +244,7 @@ abbrev mutual
   head_stands (choose c) a earlier = condition_stands c a earlier
   head_stands (otherwise bs) a earlier = branches_stand bs a earlier
   head_stands (while_true e) a earlier = Unit {0}
-  head_stands (for_each n e) a earlier = Unit {0}
+  head_stands (for_each vs e) a earlier = Unit {0}
   head_stands (define n ps) a earlier = IsTrue a.top × params_new ps
 
   pub condition_stands : Condition → Around → (List Kind → List Kind) → Type 0

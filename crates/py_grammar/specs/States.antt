@@ -1,12 +1,12 @@
 -- Reading a cell: what has been read, as forms that are still open, and what one more token makes of it.
-use Rattle.std.specs.Prelude.{◌≡◌, ℕ, zero, Bool, true, false, IsTrue, if◌then◌else◌, List, [], ◌∷◌, ◌++◌, Option, Some, None}
+use Rattle.std.specs.Prelude.{◌≡◌, ℕ, Bool, true, false, IsTrue, if◌then◌else◌, List, [], ◌∷◌, ◌++◌, Option, Some, None}
 use Rattle.py_token.specs.declared.kinds.Kind.{Kind}
 use Rattle.py_token.specs.declared.kinds.Kind.TheVariants as t
 use Rattle.py_grammar.specs.Words.{if_word, else_word, elif_word, while_word, for_word, in_word, pass_word, break_word, continue_word, return_word, global_word, del_word, def_word, floor_assign_sign, plus_assign_sign, minus_assign_sign, times_assign_sign, mod_assign_sign, assign_sign, open_parenthesis, close_parenthesis, colon, comma}
-use Rattle.py_grammar.specs.Expressions.{Expression, Primary, name, index}
-use Rattle.py_grammar.specs.Readings.{Upper, upper, Lower, lower, Reading, wants, has, begun, read, whole, bare, narrow}
+use Rattle.py_grammar.specs.Expressions.{Expression, plain, ors_one, ands_one, compared, compares_one, sums_one, products_one, unsigned, Primary, name, index, Elements, elements_one, elements_more, Exprs, single, tuple, tuple_comma}
+use Rattle.py_grammar.specs.Readings.{Reading, wants, begun, read, whole, bare, narrow, undivided, reading_stands}
 use Rattle.py_grammar.specs.Open.{spell_reading}
-use Rattle.py_grammar.specs.Statements.{Target, to_name, to_item, Augmentation, by_plus, by_minus, by_times, by_floor, by_modulo, Names, names_one, names_more, Word, pass_, break_, continue_, Simple, word, return_, give, declare, delete, assign, augment, show, spell_target, augmentation_sign, spell_names, keyword, Params, no_params, params, params_comma, Statement, simple, compound, Head, choose, otherwise, while_true, for_each, define, if_true, else_if, Branches, branches, Block, inline, indented, Statements, statements_one, statements_more, spell_params, spell_head, spell_branches, Around, outside_all, inside, hear, is_new, names_new, params_new, word_stands, head_stands, branches_stand, spell_front, front_stands, cell_stands}
+use Rattle.py_grammar.specs.Statements.{Target, to_name, to_item, Places, places_one, places_more, Targets, targets, targets_comma, Variables, variables, variables_comma, Augmentation, by_plus, by_minus, by_times, by_floor, by_modulo, Names, names_one, names_more, Word, pass_, break_, continue_, Simple, word, return_, give, declare, delete, assign, augment, show, spell_target, spell_targets, spell_variables, augmentation_sign, spell_names, keyword, Params, no_params, params, params_comma, Statement, simple, compound, Head, choose, otherwise, while_true, for_each, define, if_true, else_if, Branches, branches, Block, inline, indented, Statements, statements_one, statements_more, spell_params, spell_head, spell_branches, Around, outside_all, inside, hear, is_new, names_new, params_new, word_stands, head_stands, branches_stand, spell_front, front_stands, cell_stands}
 
 -- a compound statement whose block is open: what is before it in its own block, and its head
 pub data Outer : Type 0 where
@@ -22,7 +22,7 @@ pub data Purpose : Type 0 where
   showing : Purpose
   giving : Purpose
   deleting : Purpose
-  assigning : Target → Purpose
+  assigning : Targets → Purpose
   augmenting : Target → Augmentation → Purpose
 
 -- what an expression of a head is for
@@ -30,7 +30,7 @@ pub data Lead : Type 0 where
   lead_if : Lead
   lead_elif : Branches → Lead
   lead_while : Lead
-  lead_for : List ℕ → Lead
+  lead_for : Variables → Lead
 
 -- what has been read of a cell; a function is only at its top, so its head has nothing around it
 pub data State : Type 0 where
@@ -40,8 +40,8 @@ pub data State : Type 0 where
   in_global : List Outer → Spot → Option Names → State
   has_global : List Outer → Spot → Names → State
   in_test : List Outer → Option Statements → Lead → Reading → State
-  after_for : List Outer → Option Statements → State
-  after_for_name : List Outer → Option Statements → List ℕ → State
+  in_variables : List Outer → Option Statements → Option Names → State
+  has_variables : List Outer → Option Statements → Names → State
   after_else : List Outer → Option Statements → Branches → State
   after_def : Option Statements → State
   after_def_name : Option Statements → List ℕ → State
@@ -54,6 +54,49 @@ pub data State : Type 0 where
 
 abbrev pub start : State
 start = line [] None
+
+-- ---- expressions that may be targets
+
+-- the primary, if the expression is one alone
+abbrev pub primary_alone : Expression → Option Primary
+primary_alone (plain (ors_one (ands_one (compared (compares_one (sums_one (products_one (unsigned p)))))))) = Some p
+primary_alone _ = None
+
+abbrev pub target_of : Option Primary → Option Target
+target_of (Some (name n)) = Some (to_name n)
+target_of (Some (index p a)) = Some (to_item p a)
+target_of _ = None
+
+abbrev pub first_place : Option Target → Option Places
+first_place None = None
+first_place (Some to) = Some (places_one to)
+
+abbrev pub more_places : Option Places → Option Target → Option Places
+more_places (Some ps) (Some to) = Some (places_more ps to)
+more_places _ _ = None
+
+abbrev pub places_of : Elements → Option Places
+places_of (elements_one a) = first_place (target_of (primary_alone a))
+places_of (elements_more es a) = more_places (places_of es) (target_of (primary_alone a))
+
+abbrev pub undivided_targets : Option Places → Option Targets
+undivided_targets None = None
+undivided_targets (Some ps) = Some (targets ps)
+
+abbrev pub divided_targets : Option Places → Option Targets
+divided_targets None = None
+divided_targets (Some ps) = Some (targets_comma ps)
+
+-- the one target that it is, if it is one
+abbrev pub target_in : Exprs → Option Target
+target_in (single a) = target_of (primary_alone a)
+target_in _ = None
+
+-- the targets that it is, if it is targets
+abbrev pub targets_in : Exprs → Option Targets
+targets_in (single a) = undivided_targets (first_place (target_of (primary_alone a)))
+targets_in (tuple es a) = undivided_targets (more_places (places_of es) (target_of (primary_alone a)))
+targets_in (tuple_comma es) = divided_targets (places_of es)
 
 -- ---- where it is
 
@@ -92,28 +135,20 @@ abbrev pub ended : List Outer → Spot → Simple → State
 ended os (own before) s = line os (add_statement before (simple s))
 ended os (behind_head o) s = line os (close o (inline s))
 
--- a target, if nothing is before it
-abbrev pub place_of : Upper → Lower → Primary → Option Target
-place_of (upper [] None None None zero) (lower None None None []) (name n) = Some (to_name n)
-place_of (upper [] None None None zero) (lower None None None []) (index p a) = Some (to_item p a)
-place_of _ _ _ = None
+-- the one target that has been read, if it is one
+abbrev pub place_of : Option Exprs → Option Target
+place_of None = None
+place_of (Some a) = target_in a
 
-abbrev pub place_read : Reading → Option Target
-place_read (has [] u w p) = place_of u w p
-place_read _ = None
+abbrev pub targets_of : Option Exprs → Option Targets
+targets_of None = None
+targets_of (Some a) = targets_in a
 
 abbrev pub is_begun : Reading → Bool
 is_begun (wants [] u w) = bare u w
 is_begun _ = false
 
-abbrev pub made : Purpose → Expression → Simple
-made showing a = show a
-made giving a = give a
-made deleting a = show a
-made (assigning to) a = assign to a
-made (augmenting to by) a = augment to by a
-
-abbrev pub if_made : (Expression → Simple) → Option Expression → Option Simple
+abbrev pub if_made : (Exprs → Simple) → Option Exprs → Option Simple
 if_made f None = None
 if_made f (Some a) = Some (f a)
 
@@ -125,15 +160,21 @@ if_deleted (Some to) = Some (delete to)
 abbrev pub finished : Purpose → Reading → Option Simple
 finished showing r = if_made show (whole r)
 finished giving r = if is_begun r then Some return_ else if_made give (whole r)
-finished deleting r = if_deleted (place_read r)
-finished (assigning to) r = if_made (assign to) (whole r)
+finished deleting r = if_deleted (place_of (whole r))
+finished (assigning ts) r = if_made (assign ts) (whole r)
 finished (augmenting to by) r = if_made (augment to by) (whole r)
 
-abbrev pub head_of : Lead → Expression → Head
-head_of lead_if a = choose (if_true a)
-head_of (lead_elif bs) a = choose (else_if bs a)
-head_of lead_while a = while_true a
-head_of (lead_for n) a = for_each n a
+-- the head, if what has been read fits: a tuple without parentheses is only what a `for` goes over
+abbrev pub head_of : Lead → Option Exprs → Option Head
+head_of lead_if (Some (single a)) = Some (choose (if_true a))
+head_of (lead_elif bs) (Some (single a)) = Some (choose (else_if bs a))
+head_of lead_while (Some (single a)) = Some (while_true a)
+head_of (lead_for vs) (Some a) = Some (for_each vs a)
+head_of _ _ = None
+
+abbrev pub fits : Lead → Reading → Bool
+fits (lead_for vs) r = true
+fits _ r = undivided r
 
 -- the branches that are last, and what is before them
 pub data Continued : Type 0 where
@@ -190,7 +231,7 @@ on_line os before if_word = Some (in_test os before lead_if begun)
 on_line os before elif_word = elif_at os (last_branches before)
 on_line os before else_word = else_at os (last_branches before)
 on_line os before while_word = Some (in_test os before lead_while begun)
-on_line os before for_word = Some (after_for os before)
+on_line os before for_word = Some (in_variables os before None)
 on_line os before def_word = def_at os before
 on_line os before t.Dedent = dedent_at os before
 on_line os before t.End = end_at os before
@@ -200,8 +241,8 @@ abbrev pub ends : List Outer → Spot → Option Simple → Option State
 ends os at None = None
 ends os at (Some s) = Some (ended os at s)
 
-abbrev pub assigns : List Outer → Spot → Purpose → Option Target → Option State
-assigns os at showing (Some to) = Some (in_simple os at (assigning to) begun)
+abbrev pub assigns : List Outer → Spot → Purpose → Option Targets → Option State
+assigns os at showing (Some ts) = Some (in_simple os at (assigning ts) begun)
 assigns os at _ _ = None
 
 abbrev pub augments : List Outer → Spot → Augmentation → Purpose → Option Target → Option State
@@ -210,12 +251,12 @@ augments os at by _ _ = None
 
 abbrev pub on_simple : List Outer → Spot → Purpose → Reading → Kind → Option State
 on_simple os at u r t.Newline = ends os at (finished u r)
-on_simple os at u r assign_sign = assigns os at u (place_read r)
-on_simple os at u r plus_assign_sign = augments os at by_plus u (place_read r)
-on_simple os at u r minus_assign_sign = augments os at by_minus u (place_read r)
-on_simple os at u r times_assign_sign = augments os at by_times u (place_read r)
-on_simple os at u r floor_assign_sign = augments os at by_floor u (place_read r)
-on_simple os at u r mod_assign_sign = augments os at by_modulo u (place_read r)
+on_simple os at u r assign_sign = assigns os at u (targets_of (whole r))
+on_simple os at u r plus_assign_sign = augments os at by_plus u (place_of (whole r))
+on_simple os at u r minus_assign_sign = augments os at by_minus u (place_of (whole r))
+on_simple os at u r times_assign_sign = augments os at by_times u (place_of (whole r))
+on_simple os at u r floor_assign_sign = augments os at by_floor u (place_of (whole r))
+on_simple os at u r mod_assign_sign = augments os at by_modulo u (place_of (whole r))
 on_simple os at u r t = then_simple os at u (read r t)
 
 abbrev pub on_word : List Outer → Spot → Word → Kind → Option State
@@ -240,22 +281,28 @@ on_global_name os at ns comma = Some (in_global os at (Some ns))
 on_global_name os at ns t.Newline = Some (ended os at (declare ns))
 on_global_name os at ns _ = None
 
-abbrev pub tested : List Outer → Option Statements → Lead → Option Expression → Kind → Option State
-tested os before lead (Some a) colon = Some (after_colon os (outer before (head_of lead a)))
-tested os before lead _ _ = None
+abbrev pub tested : List Outer → Option Statements → Option Head → Kind → Option State
+tested os before (Some h) colon = Some (after_colon os (outer before h))
+tested os before _ _ = None
 
 -- a `:` in a bracket belongs to it, and one outside all brackets ends the head
 abbrev pub then_test : List Outer → Option Statements → Lead → Reading → Kind → Option Reading → Option State
-then_test os before lead r t (Some s) = Some (in_test os before lead s)
-then_test os before lead r t None = tested os before lead (whole r) t
+then_test os before lead r t (Some s) = if_allowed (fits lead s) (in_test os before lead s)
+then_test os before lead r t None = tested os before (head_of lead (whole r)) t
 
-abbrev pub on_for : List Outer → Option Statements → Kind → Option State
-on_for os before (t.Name n) = Some (after_for_name os before n)
-on_for os before _ = None
+abbrev pub variables_end : List Outer → Option Statements → Option Names → Option State
+variables_end os before None = None
+variables_end os before (Some ns) = Some (in_test os before (lead_for (variables_comma ns)) begun)
 
-abbrev pub on_for_name : List Outer → Option Statements → List ℕ → Kind → Option State
-on_for_name os before n in_word = Some (in_test os before (lead_for n) begun)
-on_for_name os before n _ = None
+abbrev pub on_variables : List Outer → Option Statements → Option Names → Kind → Option State
+on_variables os before ns (t.Name n) = Some (has_variables os before (add_name ns n))
+on_variables os before ns in_word = variables_end os before ns
+on_variables os before ns _ = None
+
+abbrev pub on_variable : List Outer → Option Statements → Names → Kind → Option State
+on_variable os before ns comma = Some (in_variables os before (Some ns))
+on_variable os before ns in_word = Some (in_test os before (lead_for (variables ns)) begun)
+on_variable os before ns _ = None
 
 abbrev pub on_else : List Outer → Option Statements → Branches → Kind → Option State
 on_else os before bs colon = Some (after_colon os (outer before (otherwise bs)))
@@ -303,8 +350,8 @@ step (after_word os at w) t = on_word os at w t
 step (in_global os at ns) t = on_global os at ns t
 step (has_global os at ns) t = on_global_name os at ns t
 step (in_test os before lead r) t = then_test os before lead r t (read r t)
-step (after_for os before) t = on_for os before t
-step (after_for_name os before n) t = on_for_name os before n t
+step (in_variables os before ns) t = on_variables os before ns t
+step (has_variables os before ns) t = on_variable os before ns t
 step (after_else os before bs) t = on_else os before bs t
 step (after_def before) t = on_def before t
 step (after_def_name before n) t = on_def_name before n t
@@ -336,14 +383,14 @@ abbrev pub spell_purpose : Purpose → List Kind → List Kind
 spell_purpose showing rest = rest
 spell_purpose giving rest = return_word ∷ rest
 spell_purpose deleting rest = del_word ∷ rest
-spell_purpose (assigning to) rest = spell_target to (assign_sign ∷ rest)
+spell_purpose (assigning ts) rest = spell_targets ts (assign_sign ∷ rest)
 spell_purpose (augmenting to by) rest = spell_target to (augmentation_sign by ∷ rest)
 
 abbrev pub spell_lead : Lead → List Kind → List Kind
 spell_lead lead_if rest = if_word ∷ rest
 spell_lead (lead_elif bs) rest = spell_branches bs (elif_word ∷ rest)
 spell_lead lead_while rest = while_word ∷ rest
-spell_lead (lead_for n) rest = for_word ∷ t.Name n ∷ in_word ∷ rest
+spell_lead (lead_for vs) rest = for_word ∷ spell_variables vs (in_word ∷ rest)
 
 abbrev pub spell_state : State → List Kind → List Kind
 spell_state (line os before) rest = spell_outers os (spell_front before rest)
@@ -352,8 +399,8 @@ spell_state (after_word os at w) rest = spell_outers os (spell_spot at (keyword 
 spell_state (in_global os at ns) rest = spell_outers os (spell_spot at (global_word ∷ spell_names_before ns rest))
 spell_state (has_global os at ns) rest = spell_outers os (spell_spot at (global_word ∷ spell_names ns rest))
 spell_state (in_test os before lead r) rest = spell_outers os (spell_front before (spell_lead lead (spell_reading r rest)))
-spell_state (after_for os before) rest = spell_outers os (spell_front before (for_word ∷ rest))
-spell_state (after_for_name os before n) rest = spell_outers os (spell_front before (for_word ∷ t.Name n ∷ rest))
+spell_state (in_variables os before ns) rest = spell_outers os (spell_front before (for_word ∷ spell_names_before ns rest))
+spell_state (has_variables os before ns) rest = spell_outers os (spell_front before (for_word ∷ spell_names ns rest))
 spell_state (after_else os before bs) rest = spell_outers os (spell_front before (spell_branches bs (else_word ∷ rest)))
 spell_state (after_def before) rest = spell_front before (def_word ∷ rest)
 spell_state (after_def_name before n) rest = spell_front before (def_word ∷ t.Name n ∷ rest)
@@ -382,14 +429,14 @@ abbrev pub purpose_stands : Purpose → Reading → Around → Type 0
 purpose_stands showing r a = (r ≡ begun) → ⊥
 purpose_stands giving r a = IsTrue a.in_function
 purpose_stands deleting r a = IsTrue (narrow r)
-purpose_stands (assigning to) r a = Unit {0}
+purpose_stands (assigning ts) r a = Unit {0}
 purpose_stands (augmenting to by) r a = Unit {0}
 
 abbrev pub lead_stands : Lead → Around → (List Kind → List Kind) → Type 0
 lead_stands lead_if a earlier = Unit {0}
 lead_stands (lead_elif bs) a earlier = branches_stand bs a earlier
 lead_stands lead_while a earlier = Unit {0}
-lead_stands (lead_for n) a earlier = Unit {0}
+lead_stands (lead_for vs) a earlier = Unit {0}
 
 abbrev pub some_names_new : Option Names → (List Kind → List Kind) → Type 0
 some_names_new None earlier = Unit {0}
@@ -397,13 +444,13 @@ some_names_new (Some ns) earlier = names_new ns earlier
 
 abbrev pub state_stands : State → Type 0
 state_stands (line os before) = outers_stand os × front_stands before (around os) (heard os)
-state_stands (in_simple os at u r) = outers_stand os × spot_stands os at × purpose_stands u r (spot_around os at)
+state_stands (in_simple os at u r) = outers_stand os × spot_stands os at × purpose_stands u r (spot_around os at) × reading_stands r
 state_stands (after_word os at w) = outers_stand os × spot_stands os at × word_stands w (spot_around os at)
 state_stands (in_global os at ns) = outers_stand os × spot_stands os at × IsTrue (spot_around os at).in_function × some_names_new ns (spot_heard os at)
 state_stands (has_global os at ns) = outers_stand os × spot_stands os at × IsTrue (spot_around os at).in_function × names_new ns (spot_heard os at)
-state_stands (in_test os before lead r) = outers_stand os × front_stands before (around os) (heard os) × lead_stands lead (around os) (λ rest. heard os (spell_front before rest))
-state_stands (after_for os before) = outers_stand os × front_stands before (around os) (heard os)
-state_stands (after_for_name os before n) = outers_stand os × front_stands before (around os) (heard os)
+state_stands (in_test os before lead r) = outers_stand os × front_stands before (around os) (heard os) × lead_stands lead (around os) (λ rest. heard os (spell_front before rest)) × IsTrue (fits lead r) × reading_stands r
+state_stands (in_variables os before ns) = outers_stand os × front_stands before (around os) (heard os)
+state_stands (has_variables os before ns) = outers_stand os × front_stands before (around os) (heard os)
 state_stands (after_else os before bs) = outers_stand os × front_stands before (around os) (heard os) × branches_stand bs (around os) (λ rest. heard os (spell_front before rest))
 state_stands (after_def before) = front_stands before outside_all (λ rest. rest)
 state_stands (after_def_name before n) = front_stands before outside_all (λ rest. rest)

@@ -16,10 +16,10 @@ use Rattle.py_tree.specs.declared.statements.Stmt.{Stmt}
 use Rattle.py_tree.specs.declared.statements.Stmt.TheVariants as s
 use Rattle.py_tree.specs.declared.statements.Arm.{Arm}
 use Rattle.py_tree.specs.declared.statements.Def.{roll-Def}
-use Rattle.py_grammar.specs.Expressions.{Expression, plain, conditional, Ors, ors_one, ors_more, Ands, ands_one, ands_more, Negation, compared, negated, Compares, compares_one, compares_more, compares_none, compares_not_none, Relational, equal, not_equal, less, at_most, greater, at_least, within, not_within, Sums, sums_one, sums_more, Additive, plus, minus, Products, products_one, products_more, Multiplicative, times, floor, modulo, Signed, unsigned, signed, Primary, name, number, text, nothing, truth, falsity, group, display, dict, call, index, slice, Callee, function, method, Bound, unbounded, bounded, Args, no_args, args, args_comma, Elements, elements_one, elements_more, Entries, no_entries, entries, entries_comma, Pairs, pairs_one, pairs_more}
-use Rattle.py_grammar.specs.Statements.{Target, to_name, to_item, Augmentation, by_plus, by_minus, by_times, by_floor, by_modulo, Names, names_one, names_more, Word, pass_, break_, continue_, Simple, word, return_, give, declare, delete, assign, augment, show, Params, no_params, params, params_comma, Statement, simple, compound, Head, choose, otherwise, while_true, for_each, define, Condition, if_true, else_if, Branches, branches, Block, inline, indented, Statements, statements_one, statements_more, spell_statement, spell_statements, Cell, IsCell}
+use Rattle.py_grammar.specs.Expressions.{Expression, plain, conditional, Ors, ors_one, ors_more, Ands, ands_one, ands_more, Negation, compared, negated, Compares, compares_one, compares_more, compares_none, compares_not_none, Relational, equal, not_equal, less, at_most, greater, at_least, within, not_within, Sums, sums_one, sums_more, Additive, plus, minus, Products, products_one, products_more, Multiplicative, times, floor, modulo, Signed, unsigned, signed, Primary, name, number, text, nothing, truth, falsity, empty, group, display, dict, call, index, slice, Exprs, single, tuple, tuple_comma, Callee, function, method, Bound, unbounded, bounded, Args, no_args, args, args_comma, Elements, elements_one, elements_more, Entries, no_entries, entries, entries_comma, Pairs, pairs_one, pairs_more}
+use Rattle.py_grammar.specs.Statements.{Target, to_name, to_item, Places, places_one, places_more, Targets, targets, targets_comma, Variables, variables, variables_comma, Augmentation, by_plus, by_minus, by_times, by_floor, by_modulo, Names, names_one, names_more, Word, pass_, break_, continue_, Simple, word, return_, give, declare, delete, assign, augment, show, Params, no_params, params, params_comma, Statement, simple, compound, Head, choose, otherwise, while_true, for_each, define, Condition, if_true, else_if, Branches, branches, Block, inline, indented, Statements, statements_one, statements_more, spell_statement, spell_statements, Cell, IsCell}
 
-abbrev relational_op : Relational → operator.Op
+abbrev pub relational_op : Relational → operator.Op
 relational_op equal = o.Equal
 relational_op not_equal = o.NotEqual
 relational_op less = o.Less
@@ -29,16 +29,16 @@ relational_op at_least = o.AtLeast
 relational_op within = o.In
 relational_op not_within = o.NotIn
 
-abbrev additive_op : Additive → operator.Op
+abbrev pub additive_op : Additive → operator.Op
 additive_op plus = o.Plus
 additive_op minus = o.Minus
 
-abbrev multiplicative_op : Multiplicative → operator.Op
+abbrev pub multiplicative_op : Multiplicative → operator.Op
 multiplicative_op times = o.Times
 multiplicative_op floor = o.Floor
 multiplicative_op modulo = o.Mod
 
-abbrev is_minus : Additive → Bool
+abbrev pub is_minus : Additive → Bool
 is_minus plus = false
 is_minus minus = true
 
@@ -120,12 +120,18 @@ abbrev mutual
   tree_primary nothing = e.Literal literal.Nothing
   tree_primary truth = e.Literal (literal.Bool true)
   tree_primary falsity = e.Literal (literal.Bool false)
-  tree_primary (group a) = tree_expression a
+  tree_primary empty = e.TupleOf []
+  tree_primary (group a) = tree_exprs a
   tree_primary (display a) = e.ListOf (tree_args a)
   tree_primary (dict a) = e.DictOf (tree_entries a)
   tree_primary (call f a) = tree_call f (tree_args a)
   tree_primary (index p a) = e.Index (tree_primary p) (tree_expression a)
   tree_primary (slice p a b) = e.Slice (tree_primary p) (tree_bound a) (tree_bound b)
+
+  pub tree_exprs : Exprs → Expr
+  tree_exprs (single a) = tree_expression a
+  tree_exprs (tuple es a) = e.TupleOf (tree_elements es ++ tree_expression a ∷ [])
+  tree_exprs (tuple_comma es) = e.TupleOf (tree_elements es)
 
   pub tree_call : Callee → List Expr → Expr
   tree_call (function p) given = e.Call (tree_primary p) given
@@ -166,6 +172,19 @@ abbrev pub tree_target : Target → tree_of.Target
 tree_target (to_name n) = target.Name n
 tree_target (to_item p a) = target.Item (tree_primary p) (tree_expression a)
 
+abbrev pub tree_places : Places → List tree_of.Target
+tree_places (places_one to) = tree_target to ∷ []
+tree_places (places_more ps to) = tree_places ps ++ tree_target to ∷ []
+
+abbrev pub tree_targets : Targets → List tree_of.Target
+tree_targets (targets ps) = tree_places ps
+tree_targets (targets_comma ps) = tree_places ps
+
+-- whether a comma stands among them
+abbrev pub targets_divided : Targets → Bool
+targets_divided (targets (places_one to)) = false
+targets_divided _ = true
+
 abbrev pub tree_names : Names → List (List ℕ)
 tree_names (names_one n) = n ∷ []
 tree_names (names_more ns n) = tree_names ns ++ n ∷ []
@@ -175,6 +194,14 @@ tree_params no_params = []
 tree_params (params ns) = tree_names ns
 tree_params (params_comma ns) = tree_names ns
 
+abbrev pub tree_variables : Variables → List (List ℕ)
+tree_variables (variables ns) = tree_names ns
+tree_variables (variables_comma ns) = tree_names ns
+
+abbrev pub variables_divided : Variables → Bool
+variables_divided (variables (names_one n)) = false
+variables_divided _ = true
+
 abbrev tree_word : Word → Stmt
 tree_word pass_ = s.Pass
 tree_word break_ = s.Break
@@ -183,14 +210,14 @@ tree_word continue_ = s.Continue
 abbrev pub tree_simple : Simple → Stmt
 tree_simple (word w) = tree_word w
 tree_simple return_ = s.Return None
-tree_simple (give a) = s.Return (Some (tree_expression a))
+tree_simple (give a) = s.Return (Some (tree_exprs a))
 tree_simple (declare ns) = s.Global (tree_names ns)
 tree_simple (delete to) = s.Delete (tree_target to)
-tree_simple (assign to a) = s.Assign (tree_target to) (tree_expression a)
-tree_simple (augment to by a) = s.Augment (tree_target to) (augmentation_op by) (tree_expression a)
-tree_simple (show a) = s.Expression (tree_expression a)
+tree_simple (assign ts a) = s.Assign (tree_targets ts) (targets_divided ts) (tree_exprs a)
+tree_simple (augment to by a) = s.Augment (tree_target to) (augmentation_op by) (tree_exprs a)
+tree_simple (show a) = s.Expression (tree_exprs a)
 
-abbrev condition_test : Condition → Expr
+abbrev pub condition_test : Condition → Expr
 condition_test (if_true a) = tree_expression a
 condition_test (else_if bs a) = tree_expression a
 
@@ -204,7 +231,7 @@ abbrev mutual
   tree_compound source (choose c) body = s.If (arms_before c ++ record { test = condition_test c; body = body } ∷ []) []
   tree_compound source (otherwise bs) body = s.If (arms bs) body
   tree_compound source (while_true a) body = s.While (tree_expression a) body
-  tree_compound source (for_each n a) body = s.For n (tree_expression a) body
+  tree_compound source (for_each vs a) body = s.For (tree_variables vs) (variables_divided vs) (tree_exprs a) body
   tree_compound source (define n ps) body = s.Function (roll-Def (record { name = n; params = tree_params ps; body = body; source = source }))
 
   pub arms_before : Condition → List Arm

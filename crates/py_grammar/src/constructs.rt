@@ -5,8 +5,6 @@ use py_token::Keyword;
 pub enum Construct {
     /// A keyword that no rule has.
     Word(Keyword),
-    /// `a, b` without brackets or in parentheses, and `()`.
-    Tuple,
     /// `[a for b in c]` or `f(a for b in c)`
     Comprehension,
     /// `{a, b}`

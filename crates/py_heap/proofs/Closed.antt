@@ -82,6 +82,7 @@ items_closed s at items c l = object_closed s at (object.List items) c
 live_of : (heap : List Object) (o : Option Object) → ((held : Object) → o ≡ Some held → AreLive heap (object_refs held)) → ItemsLive heap (items_of o)
 live_of heap None h = All-nil _
 live_of heap (Some (object.List items)) h = λ k d k_in. All-flat_map_at (λ n. n < length heap) value_refs items k d k_in (h (object.List items) refl)
+live_of heap (Some (object.Tuple items)) h = λ k d k_in. All-flat_map_at (λ n. n < length heap) value_refs items k d k_in (h (object.Tuple items) refl)
 live_of heap (Some (object.Dict pairs)) h = All-nil _
 live_of heap (Some (object.Function def)) h = All-nil _
 live_of heap (Some (object.Handle name uses)) h = All-nil _
@@ -131,6 +132,7 @@ live_pairs_of : (heap : List Object) (o : Option Object) → ((held : Object) �
 live_pairs_of heap (Some (object.Dict pairs)) h = λ k d k_in. All-flat_map_at (λ n. n < length heap) pair_refs pairs k d k_in (h (object.Dict pairs) refl)
 live_pairs_of heap None h = All-nil _
 live_pairs_of heap (Some (object.List held)) h = All-nil _
+live_pairs_of heap (Some (object.Tuple held)) h = All-nil _
 live_pairs_of heap (Some (object.Function def)) h = All-nil _
 live_pairs_of heap (Some (object.Handle name uses)) h = All-nil _
 

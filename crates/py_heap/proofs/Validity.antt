@@ -109,6 +109,7 @@ module _ (IsOfKind : Def → Type 0) where
   distinct_in (Some (object.Dict pairs)) h = h (object.Dict pairs) refl
   distinct_in None h = tt
   distinct_in (Some (object.List items)) h = tt
+  distinct_in (Some (object.Tuple items)) h = tt
   distinct_in (Some (object.Function def)) h = tt
   distinct_in (Some (object.Handle name uses)) h = tt
 

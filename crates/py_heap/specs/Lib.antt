@@ -1,5 +1,6 @@
 pub mod Dicts
 pub mod Objects
+pub mod Sequences
 pub mod States
 pub mod References
 pub mod Reaching

@@ -38,9 +38,10 @@ IsHandleAt heap at = IsTrue (is_handle (slice_get heap at))
 abbrev pub IsListOrDictAt : List Object → ℕ → Type 0
 IsListOrDictAt heap at = IsTrue (is_list (slice_get heap at) || is_dict (slice_get heap at))
 
--- the items of a list, and none of anything else
+-- the items of a list or a tuple, and none of anything else
 abbrev pub items_of : Option Object → List Value
 items_of (Some (object.List items)) = items
+items_of (Some (object.Tuple items)) = items
 items_of _ = []
 
 -- the pairs of a dict, and none of anything else
@@ -57,7 +58,7 @@ abbrev pub uses_of : Option Object → ℕ
 uses_of (Some (object.Handle name uses)) = uses
 uses_of _ = 0
 
--- the items of the list at this address, and so on
+-- the items of the list or the tuple at this address, and so on
 abbrev pub items_at : List Object → ℕ → List Value
 items_at heap at = items_of (slice_get heap at)
 

@@ -25,6 +25,7 @@ pair_refs pair = value_refs pair.1
 -- the addresses that an object names, in order
 abbrev pub object_refs : Object → List ℕ
 object_refs (object.List items) = flat_map value_refs items
+object_refs (object.Tuple items) = flat_map value_refs items
 object_refs (object.Dict pairs) = flat_map pair_refs pairs
 object_refs (object.Function def) = []
 object_refs (object.Handle name uses) = []

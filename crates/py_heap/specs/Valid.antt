@@ -13,6 +13,7 @@ use Rattle.py_heap.specs.References.{IsClosed}
 -- no dict has a key twice, and each function's definition is of the kind that is asked for
 abbrev pub IsValidObject : (Def → Type 0) → Object → Type 0
 IsValidObject IsOfKind (object.List items) = Unit {0}
+IsValidObject IsOfKind (object.Tuple items) = Unit {0}
 IsValidObject IsOfKind (object.Dict pairs) = HasNoKeyTwice pairs
 IsValidObject IsOfKind (object.Function def) = IsOfKind def
 IsValidObject IsOfKind (object.Handle name uses) = Unit {0}

@@ -96,7 +96,7 @@ impl Object {
         match self {
             Object::List(items) => items.clear(),
             Object::Dict(dict) => dict.clear(),
-            Object::Function(_) | Object::Handle { .. } => {}
+            Object::Tuple(_) | Object::Function(_) | Object::Handle { .. } => {}
         }
     }
 

@@ -1,4 +1,5 @@
 ghost use Rattle.std.specs.Prelude.{◌≡◌, []};
+ghost use Rattle.py_heap.specs.Sequences as spec;
 
 use crate::dict::Dict;
 use crate::function::Function;
@@ -11,10 +12,31 @@ use std::marker::Model;
 #[derive(Drop)]
 pub enum Object {
     List(Items<Value>),
+    /// A list of values that never changes.
+    Tuple(Items<Value>),
     Dict(Dict),
     Function(Function),
     /// A thing on the session's host that doesn't move, by its name, with how many times it was used.
     Handle { name: SharedText, uses: u64 },
+}
+
+/// Which kind of sequence of values an object is.
+#[derive(Clone, Copy, Debug, PartialEq, Eq)]
+pub enum SequenceKind {
+    List,
+    Tuple,
+}
+
+impl Object {
+    /// The list or the tuple of these values.
+    pub fn sequence(kind: SequenceKind, items: Items<Value>) -> Object
+        ensures { result ≡ spec.sequence kind items }
+    {
+        match kind {
+            SequenceKind::List => Object::List(items),
+            SequenceKind::Tuple => Object::Tuple(items),
+        }
+    }
 }
 
 /// The objects by their addresses, which contracts see as the list of them.

@@ -18,7 +18,7 @@ mod state;
 
 pub use dict::Dict;
 pub use function::Function;
-pub use heap::{Heap, Object};
+pub use heap::{Heap, Object, SequenceKind};
 pub use laws::{
     closed_states_list_what_is_reached, first_reached_is_one_list, operations_keep_closed,
     operations_keep_valid,

@@ -103,7 +103,7 @@ impl Search {
         ensures room { vec_len self.new.marks ≡ vec_len self.old.marks }
     {
         match object {
-            Object::List(items) => self.note_values(items.as_slice()),
+            Object::List(items) | Object::Tuple(items) => self.note_values(items.as_slice()),
             Object::Dict(dict) => self.note_pairs(dict),
             Object::Function(_) | Object::Handle { .. } => Ok(()),
         }

@@ -12,7 +12,7 @@ fn next_item(machine: &Machine, at: u32, next: usize) -> Result<Option<(Value, I
     ensures { Still (run (spec.next_item at next (slice_get machine.now.state.heap at))) machine.now result machine.now }
 {
     match machine.object_at(at) {
-        Some(Object::List(items)) => {
+        Some(Object::List(items) | Object::Tuple(items)) => {
             if next >= items.len() {
                 return Ok(None);
             }

@@ -93,6 +93,7 @@ fn object_deleted(
             let count = items.len();
             list_deleted(alloc, machine, address, count, at)
         }
+        Some(Object::Tuple(_)) => Err(Fault::Raised(no_item_deletion(alloc, ValueKind::Tuple)?)),
         Some(Object::Dict(_)) => dict_deleted(alloc, machine, address, at),
         Some(Object::Function(_)) => {
             Err(Fault::Raised(no_item_deletion(alloc, ValueKind::Function)?))

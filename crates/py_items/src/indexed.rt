@@ -6,27 +6,27 @@ ghost use Rattle.py_meaning.specs.Items as spec;
 
 use crate::positions::{item_at, position_in};
 use plain_data::{Items, SharedText, Text};
-use py_heap::{Dict, Object};
+use py_heap::{Dict, Object, SequenceKind};
 use py_machine::{
-    Fault, Machine, ValueKind, no_key, no_list_index, no_text_index, not_an_index,
-    not_subscriptable,
+    Fault, Machine, ValueKind, no_index, no_key, no_text_index, not_an_index, not_subscriptable,
 };
 use py_ops::{keyed, kind_of, made_text, sign_of};
 use py_value::{Value, key_text};
 use std::alloc::Global;
 
-fn list_indexed(
+fn sequence_indexed(
     alloc: Global,
     machine: &Machine,
+    kind: SequenceKind,
     items: &Items<Value>,
     at: &Value,
 ) -> Result<Value, Fault>
-    ensures { Still (run (spec.list_indexed items.now (as_number at.now))) machine.now result machine.now }
+    ensures { Still (run (spec.sequence_indexed kind items.now (as_number at.now))) machine.now result machine.now }
 {
     match sign_of(at) {
         Some(index) => match item_at(items, index) {
             Some(item) => Ok(item.copy()?),
-            None => Err(Fault::Raised(no_list_index(alloc)?)),
+            None => Err(Fault::Raised(no_index(alloc, kind)?)),
         },
         None => Err(Fault::Raised(not_an_index(alloc)?)),
     }
@@ -52,7 +52,12 @@ fn object_indexed(
     ensures { Still (run (spec.object_indexed at.now (slice_get machine.now.state.heap address))) machine.now result machine.now }
 {
     match machine.object_at(address) {
-        Some(Object::List(items)) => list_indexed(alloc, machine, items, at),
+        Some(Object::List(items)) => {
+            sequence_indexed(alloc, machine, SequenceKind::List, items, at)
+        }
+        Some(Object::Tuple(items)) => {
+            sequence_indexed(alloc, machine, SequenceKind::Tuple, items, at)
+        }
         Some(Object::Dict(pairs)) => dict_indexed(alloc, machine, pairs, at),
         Some(Object::Function(_)) => {
             Err(Fault::Raised(not_subscriptable(alloc, ValueKind::Function)?))
@@ -94,7 +99,7 @@ pub(crate) fn not_indexed(alloc: Global, machine: &Machine, value: &Value) -> Re
     Err(Fault::Raised(not_subscriptable(alloc, kind)?))
 }
 
-/// What a value holds at an index or under a key: an item of a list, a value of a dict, or a character of a text, which is a text
+/// What a value holds at an index or under a key: an item of a list or a tuple, a value of a dict, or a character of a text, which is a text
 /// and charged by its bytes. A number below 0 counts from the end. An IndexError past the ends, a KeyError at a key that isn't
 /// there, and a TypeError at a value that holds nothing, at an index that is no number, and at a key that is none. A MemoryError
 /// if the meter has no room for a character. (Python reference: subscriptions.)

@@ -16,7 +16,7 @@ fn object_iterated(alloc: Global, machine: &Machine, at: u32) -> Result<Iteratio
     ensures { Still (run (spec.object_iterated at (slice_get machine.now.state.heap at))) machine.now result machine.now }
 {
     match machine.object_at(at) {
-        Some(Object::List(_)) => Ok(Iteration::Items { at, next: 0 }),
+        Some(Object::List(_) | Object::Tuple(_)) => Ok(Iteration::Items { at, next: 0 }),
         Some(Object::Dict(pairs)) => {
             let size = pairs.len();
             Ok(Iteration::Keys { at, next: 0, size })
@@ -35,7 +35,7 @@ fn not_iterated(alloc: Global, machine: &Machine, value: &Value) -> Result<Itera
     Err(Fault::Raised(not_iterable(alloc, kind)?))
 }
 
-/// What a `for` goes over: a list by its items, a dict by its keys, a text by its characters. A TypeError at any other value.
+/// What a `for` goes over: a list or a tuple by its items, a dict by its keys, a text by its characters. A TypeError at any other value.
 /// (Python reference: the `for` statement.)
 #[tactic(auto, unfolding(py_meaning::specs::Iterating::iterated, py_machine::specs::Runs::object_at))]
 pub fn iterate(alloc: Global, machine: &Machine, value: &Value) -> Result<Iteration, Fault>

@@ -1,4 +1,5 @@
-//! Items of lists, dicts and texts: what an index and a slice give, what is stored and deleted, and what a `for` goes over.
+//! Items of lists, tuples, dicts and texts: what an index and a slice give, what is stored and deleted, what a `for` goes over,
+//! and what a value is unpacked into.
 //! (Python reference: subscriptions, slicings, assignment statements, the `for` statement.)
 #![tactic(auto)]
 
@@ -10,6 +11,7 @@ mod iterated;
 mod positions;
 mod sliced;
 mod stored;
+mod unpacked;
 
 pub use advanced::advance;
 pub use deleted::delete_item;
@@ -19,3 +21,4 @@ pub use iterated::{iterate, range_of};
 pub use positions::{clipped, item_at, position_in, short_position};
 pub use sliced::slice;
 pub use stored::{put, store_item};
+pub use unpacked::unpack;

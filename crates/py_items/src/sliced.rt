@@ -7,7 +7,7 @@ ghost use Rattle.py_meaning.specs.Items as spec;
 use crate::indexed::not_indexed;
 use crate::positions::clipped;
 use plain_data::{Items, SharedText, Text};
-use py_heap::Object;
+use py_heap::{Object, SequenceKind};
 use py_machine::{Fault, Machine, ValueKind, not_an_index, not_subscriptable};
 use py_ops::{as_number, by_sign, copy_items, joined, made_text};
 use py_value::Value;
@@ -111,7 +111,7 @@ fn cut_items(
     copy_items(alloc, range(items.as_slice(), from, to))
 }
 
-#[tactic(auto, unfolding(py_meaning::specs::Items::list_sliced))]
+#[tactic(auto, unfolding(py_meaning::specs::Items::sequence_sliced))]
 fn ref_sliced(
     alloc: Global,
     machine: &mut Machine,
@@ -127,7 +127,13 @@ fn ref_sliced(
             let from = bound(alloc, machine, from)?;
             let to = bound(alloc, machine, to)?;
             let slice = cut_items(alloc, items, &from, &to)?;
-            joined(alloc, machine, slice)
+            joined(alloc, machine, SequenceKind::List, slice)
+        }
+        Some(Object::Tuple(items)) => {
+            let from = bound(alloc, machine, from)?;
+            let to = bound(alloc, machine, to)?;
+            let slice = cut_items(alloc, items, &from, &to)?;
+            joined(alloc, machine, SequenceKind::Tuple, slice)
         }
         Some(Object::Dict(_)) => Err(Fault::Raised(not_subscriptable(alloc, ValueKind::Dict)?)),
         Some(Object::Function(_)) => {
@@ -140,7 +146,7 @@ fn ref_sliced(
     }
 }
 
-/// The slice of a list, as a new list, or of a text from one position up to another. A bound that is `None` is the start or the
+/// The slice of a list or a tuple, as a new one, or of a text from one position up to another. A bound that is `None` is the start or the
 /// end; one below 0 counts from the end, and one past an end is that end. A TypeError at a value that has no slices and at a
 /// bound that is no number; a MemoryError if the meter has no room. (Python reference: slicings.)
 #[tactic(auto, unfolding(py_meaning::specs::Items::sliced, py_machine::specs::Runs::object_at))]

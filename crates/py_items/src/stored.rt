@@ -129,6 +129,7 @@ fn object_stored(
             let count = items.len();
             list_stored(alloc, machine, address, count, at, value)
         }
+        Some(Object::Tuple(_)) => Err(Fault::Raised(no_item_assignment(alloc, ValueKind::Tuple)?)),
         Some(Object::Dict(_)) => dict_stored(alloc, machine, address, at, value),
         Some(Object::Function(_)) => {
             Err(Fault::Raised(no_item_assignment(alloc, ValueKind::Function)?))

@@ -1,5 +1,5 @@
 -- A loop with turns left makes one, and goes on with one turn less; one with none left ends.
-use Rattle.std.proofs.Common.{◌≡◌, ℕ, suc, ◌+◌, ◌-◌, ◌<◌, ◌≤◌, List, ap, arith}
+use Rattle.std.proofs.Common.{◌≡◌, ℕ, suc, Bool, ◌+◌, ◌-◌, ◌<◌, ◌≤◌, List, ap, arith}
 use Rattle.nb_outside.specs.declared.feed.Drawn.{Drawn}
 use Rattle.py_tree.specs.declared.expressions.Expr.{Expr}
 use Rattle.py_tree.specs.declared.statements.Stmt.{Stmt}
@@ -28,17 +28,17 @@ turns_spent inner n i test body draws m none =
     let e : n - i ≡ 0 = omega arith in
     ap (λ k. run (turns inner k test body) draws m) e
 
-pub rounded : (inner : Inner) (n i : ℕ) (name : Name) (body : List Stmt) (from : Iteration) (draws : List Drawn) (m : Machine) → i < n
-    → run (rounds inner (n - i) name body from) draws m
-    ≡ run (advance from >>= (λ next. turn inner name next (λ rest. block inner body >>= (λ ended. after_turn ended (rounds inner (n - (i + 1)) name body rest))))) draws m
+pub rounded : (inner : Inner) (n i : ℕ) (names : List Name) (comma : Bool) (body : List Stmt) (from : Iteration) (draws : List Drawn) (m : Machine) → i < n
+    → run (rounds inner (n - i) names comma body from) draws m
+    ≡ run (advance from >>= (λ next. turn inner names comma next (λ rest. block inner body >>= (λ ended. after_turn ended (rounds inner (n - (i + 1)) names comma body rest))))) draws m
 unfolding rounds
-rounded inner n i name body from draws m some =
+rounded inner n i names comma body from draws m some =
     let e : n - i ≡ suc (n - (i + 1)) = omega arith in
-    ap (λ k. run (rounds inner k name body from) draws m) e
+    ap (λ k. run (rounds inner k names comma body from) draws m) e
 
-pub rounds_spent : (inner : Inner) (n i : ℕ) (name : Name) (body : List Stmt) (from : Iteration) (draws : List Drawn) (m : Machine) → n ≤ i
-    → run (rounds inner (n - i) name body from) draws m ≡ raise step_limit_error m
+pub rounds_spent : (inner : Inner) (n i : ℕ) (names : List Name) (comma : Bool) (body : List Stmt) (from : Iteration) (draws : List Drawn) (m : Machine) → n ≤ i
+    → run (rounds inner (n - i) names comma body from) draws m ≡ raise step_limit_error m
 unfolding rounds
-rounds_spent inner n i name body from draws m none =
+rounds_spent inner n i names comma body from draws m none =
     let e : n - i ≡ 0 = omega arith in
-    ap (λ k. run (rounds inner k name body from) draws m) e
+    ap (λ k. run (rounds inner k names comma body from) draws m) e

@@ -187,6 +187,9 @@ impl<
                 self.function_called(machine, feed, &function, args)
             }
             Some(Object::List(_)) => Err(Fault::Raised(not_callable(self.alloc, ValueKind::List)?)),
+            Some(Object::Tuple(_)) => {
+                Err(Fault::Raised(not_callable(self.alloc, ValueKind::Tuple)?))
+            }
             Some(Object::Dict(_)) => Err(Fault::Raised(not_callable(self.alloc, ValueKind::Dict)?)),
             Some(Object::Handle { .. }) => {
                 Err(Fault::Raised(not_callable(self.alloc, ValueKind::Handle)?))

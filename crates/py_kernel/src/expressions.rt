@@ -10,9 +10,9 @@ ghost use Rattle.py_kernel.specs.Nests.{Evals, Execs};
 use crate::below::Below;
 use nb_outside::Feed;
 use plain_data::Text;
-use py_heap::Object;
+use py_heap::SequenceKind;
 use py_machine::{Fault, Flow, Machine};
-use py_ops::{binary, charge_list, signed, truth_of};
+use py_ops::{binary, charge_sequence, made, signed, truth_of};
 use py_tree::{Expr, Literal, Op, Operand, Relation, Stmt};
 use py_value::Value;
 use std::alloc::Global;
@@ -63,19 +63,25 @@ impl<
     E: Fn(Global, u32, &mut Machine, &mut F, &Expr) -> Result<Value, Fault>,
     X: Fn(Global, u32, &mut Machine, &mut F, &Stmt) -> Result<Flow, Fault>,
 > Below<F, E, X> {
+    /// Makes a list or a tuple.
     #[tactic(auto, unfolding(py_meaning::specs::Meaning::display))]
-    fn display(&self, machine: &mut Machine, feed: &mut F, items: &[Expr]) -> Result<Value, Fault>
+    fn display(
+        &self,
+        machine: &mut Machine,
+        feed: &mut F,
+        kind: SequenceKind,
+        items: &[Expr],
+    ) -> Result<Value, Fault>
         requires evals { Evals F.seen self.now.left (E.pre self.now.eval) (E.post self.now.eval) }
         requires execs { Execs F.seen self.now.left (X.pre self.now.exec) (X.post self.now.exec) }
-        ensures runs { Runs (run (spec.display (level self.now.left) items.now)) machine.old result machine.new }
+        ensures runs { Runs (run (spec.display (level self.now.left) kind items.now)) machine.old result machine.new }
         ensures grows { Grows machine.old machine.new }
         ensures fed { Feeding machine.old.drawn (F.seen feed.old) machine.new.drawn (F.seen feed.new) }
     {
         machine.step(self.alloc)?;
         let values = self.items(machine, feed, items)?;
-        charge_list(self.alloc, machine, values.as_slice())?;
-        let at = machine.add(Object::List(values))?;
-        Ok(Value::Ref(at))
+        charge_sequence(self.alloc, machine, values.as_slice())?;
+        made(machine, kind, values)
     }
 
     /// Applies the operators of a chain to what is to their right, from left to right.
@@ -380,7 +386,12 @@ impl<
         match expression {
             Expr::Name(name) => name_value(self.alloc, machine, name),
             Expr::Literal(literal) => literal_value(self.alloc, machine, literal),
-            Expr::ListOf(items) => self.display(machine, feed, items.as_slice()),
+            Expr::ListOf(items) => {
+                self.display(machine, feed, SequenceKind::List, items.as_slice())
+            }
+            Expr::TupleOf(items) => {
+                self.display(machine, feed, SequenceKind::Tuple, items.as_slice())
+            }
             Expr::Conditional { test, yes, no } => {
                 self.conditional(machine, feed, test.get(), yes.get(), no.get())
             }

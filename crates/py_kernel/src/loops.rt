@@ -7,7 +7,7 @@ ghost use Rattle.py_meaning.specs.Meaning as spec;
 ghost use Rattle.py_kernel.specs.Nests.{Evals, Execs};
 
 use crate::below::Below;
-use crate::statements::store;
+use crate::statements::give_names;
 use nb_outside::Feed;
 use plain_data::{Items, Text};
 use py_items::{advance, iterate, range_of};
@@ -165,13 +165,14 @@ impl<
         &self,
         machine: &mut Machine,
         feed: &mut F,
-        name: &Text,
+        names: &[Text],
+        comma: bool,
         body: &[Stmt],
         first: Iteration,
     ) -> Result<Flow, Fault>
         requires evals { Evals F.seen self.now.left (E.pre self.now.eval) (E.post self.now.eval) }
         requires execs { Execs F.seen self.now.left (X.pre self.now.exec) (X.post self.now.exec) }
-        ensures runs { Runs (run (spec.rounds (level self.now.left) spec.most_turns name.now body.now first)) machine.old result machine.new }
+        ensures runs { Runs (run (spec.rounds (level self.now.left) spec.most_turns names.now comma body.now first)) machine.old result machine.new }
         ensures grows { Grows machine.old machine.new }
         ensures fed { Feeding machine.old.drawn (F.seen feed.old) machine.new.drawn (F.seen feed.new) }
     {
@@ -180,7 +181,7 @@ impl<
             match advance(self.alloc, machine, from)? {
                 Some((value, rest)) => {
                     machine.step(self.alloc)?;
-                    store(self.alloc, machine, name, value)?;
+                    give_names(self.alloc, machine, comma, names, value)?;
                     from = rest;
                 }
                 None => return Ok(Flow::Next),
@@ -199,18 +200,19 @@ impl<
         &self,
         machine: &mut Machine,
         feed: &mut F,
-        name: &Text,
+        names: &[Text],
+        comma: bool,
         source: &Expr,
         body: &[Stmt],
     ) -> Result<Flow, Fault>
         requires evals { Evals F.seen self.now.left (E.pre self.now.eval) (E.post self.now.eval) }
         requires execs { Execs F.seen self.now.left (X.pre self.now.exec) (X.post self.now.exec) }
-        ensures runs { Runs (run (spec.for_each (level self.now.left) name.now source.now body.now)) machine.old result machine.new }
+        ensures runs { Runs (run (spec.for_each (level self.now.left) names.now comma source.now body.now)) machine.old result machine.new }
         ensures grows { Grows machine.old machine.new }
         ensures fed { Feeding machine.old.drawn (F.seen feed.old) machine.new.drawn (F.seen feed.new) }
     {
         machine.step(self.alloc)?;
         let first = self.source_of(machine, feed, source)?;
-        self.rounds(machine, feed, name, body, first)
+        self.rounds(machine, feed, names, comma, body, first)
     }
 }

@@ -11,7 +11,7 @@ use crate::below::Below;
 use nb_outside::Feed;
 use plain_data::{Shared, Text};
 use py_heap::{Function, Object};
-use py_items::{delete_item, index, store_item};
+use py_items::{delete_item, index, store_item, unpack};
 use py_machine::{Fault, Flow, Machine, recursion_error};
 use py_methods::extend;
 use py_ops::{binary, list_at, truth_of};
@@ -32,12 +32,7 @@ fn text_units(value: &Value) -> u64
 /// Binds a name. A text that a global name is bound to is charged by its bytes.
 #[inline(always)]
 #[tactic(auto, unfolding(py_meaning::specs::Meaning::store))]
-pub(crate) fn store(
-    alloc: Global,
-    machine: &mut Machine,
-    name: &Text,
-    value: Value,
-) -> Result<(), Fault>
+fn store(alloc: Global, machine: &mut Machine, name: &Text, value: Value) -> Result<(), Fault>
     ensures runs { Still (run (spec.store name.now value)) machine.old result machine.new }
     ensures drawn { machine.new.drawn ≡ machine.old.drawn }
 {
@@ -46,6 +41,53 @@ pub(crate) fn store(
     } else {
         machine.charge(alloc, text_units(&value))?;
         machine.bind(alloc, name, value)
+    }
+}
+
+/// Gives each name its value, from left to right.
+fn store_names(
+    alloc: Global,
+    machine: &mut Machine,
+    names: &[Text],
+    values: &[Value],
+) -> Result<(), Fault>
+    ensures runs { Still (run (spec.names_stored names.entry.now values.entry.now)) machine.old result machine.new }
+    ensures drawn { machine.new.drawn ≡ machine.old.drawn }
+{
+    let mut ahead = names;
+    let mut rest = values;
+    while let [name, more @ ..] = ahead {
+        match rest {
+            [value, others @ ..] => {
+                store(alloc, machine, name, value.copy()?)?;
+                ahead = more;
+                rest = others;
+            }
+            [] => return Ok(()),
+        }
+    }
+    Ok(())
+}
+
+/// Gives a value to a name by itself, or unpacks it, if a comma stands among the names.
+#[inline(always)]
+pub(crate) fn give_names(
+    alloc: Global,
+    machine: &mut Machine,
+    comma: bool,
+    names: &[Text],
+    value: Value,
+) -> Result<(), Fault>
+    ensures runs { Still (run (spec.names_given comma names.now value)) machine.old result machine.new }
+    ensures drawn { machine.new.drawn ≡ machine.old.drawn }
+{
+    if comma {
+        let values = unpack(alloc, machine, names.len(), &value)?;
+        return store_names(alloc, machine, names, values.as_slice());
+    }
+    match names {
+        [name, ..] => store(alloc, machine, name, value),
+        [] => Ok(()),
     }
 }
 
@@ -138,67 +180,121 @@ impl<
     E: Copy + Fn(Global, u32, &mut Machine, &mut F, &Expr) -> Result<Value, Fault>,
     X: Copy + Fn(Global, u32, &mut Machine, &mut F, &Stmt) -> Result<Flow, Fault>,
 > Below<F, E, X> {
-    #[tactic(auto, unfolding(py_meaning::specs::Meaning::assign))]
-    fn assign(
-        &self,
-        machine: &mut Machine,
-        feed: &mut F,
-        name: &Text,
-        value: &Expr,
-    ) -> Result<Flow, Fault>
-        requires evals { Evals F.seen self.now.left (E.pre self.now.eval) (E.post self.now.eval) }
-        requires execs { Execs F.seen self.now.left (X.pre self.now.exec) (X.post self.now.exec) }
-        ensures runs { Runs (run (spec.assign (level self.now.left) name.now value.now)) machine.old result machine.new }
-        ensures grows { Grows machine.old machine.new }
-        ensures fed { Feeding machine.old.drawn (F.seen feed.old) machine.new.drawn (F.seen feed.new) }
-    {
-        machine.step(self.alloc)?;
-        let value = self.eval(machine, feed, value)?;
-        store(self.alloc, machine, name, value)?;
-        Ok(Flow::Next)
-    }
-
-    /// Assigns to an item. The value is evaluated first.
-    #[tactic(auto, unfolding(py_meaning::specs::Meaning::assign_item))]
-    fn assign_item(
+    /// Stores a value as an item of what an expression gives.
+    #[tactic(auto, unfolding(py_meaning::specs::Meaning::stored_in_item))]
+    fn store_in_item(
         &self,
         machine: &mut Machine,
         feed: &mut F,
         on: &Expr,
         at: &Expr,
-        value: &Expr,
-    ) -> Result<Flow, Fault>
+        value: Value,
+    ) -> Result<(), Fault>
         requires evals { Evals F.seen self.now.left (E.pre self.now.eval) (E.post self.now.eval) }
         requires execs { Execs F.seen self.now.left (X.pre self.now.exec) (X.post self.now.exec) }
-        ensures runs { Runs (run (spec.assign_item (level self.now.left) on.now at.now value.now)) machine.old result machine.new }
+        ensures runs { Runs (run (spec.stored_in_item (level self.now.left) on.now at.now value)) machine.old result machine.new }
         ensures grows { Grows machine.old machine.new }
         ensures fed { Feeding machine.old.drawn (F.seen feed.old) machine.new.drawn (F.seen feed.new) }
     {
-        machine.step(self.alloc)?;
-        let value = self.eval(machine, feed, value)?;
         let container = self.eval(machine, feed, on)?;
         let key = self.eval(machine, feed, at)?;
-        store_item(self.alloc, machine, &container, &key, value)?;
-        Ok(Flow::Next)
+        store_item(self.alloc, machine, &container, &key, value)
     }
 
-    fn assigned(
+    /// Stores a value in a target.
+    fn store_in(
         &self,
         machine: &mut Machine,
         feed: &mut F,
         target: &Target,
-        value: &Expr,
-    ) -> Result<Flow, Fault>
+        value: Value,
+    ) -> Result<(), Fault>
         requires evals { Evals F.seen self.now.left (E.pre self.now.eval) (E.post self.now.eval) }
         requires execs { Execs F.seen self.now.left (X.pre self.now.exec) (X.post self.now.exec) }
-        ensures runs { Runs (run (spec.assigned (level self.now.left) target.now value.now)) machine.old result machine.new }
+        ensures runs { Runs (run (spec.stored (level self.now.left) target.now value)) machine.old result machine.new }
         ensures grows { Grows machine.old machine.new }
         ensures fed { Feeding machine.old.drawn (F.seen feed.old) machine.new.drawn (F.seen feed.new) }
     {
         match target {
-            Target::Name(name) => self.assign(machine, feed, name, value),
-            Target::Item { value: on, at } => self.assign_item(machine, feed, on, at, value),
+            Target::Name(name) => store(self.alloc, machine, name, value),
+            Target::Item { value: on, at } => self.store_in_item(machine, feed, on, at, value),
         }
+    }
+
+    /// Stores each value in its target, from left to right.
+    fn store_all(
+        &self,
+        machine: &mut Machine,
+        feed: &mut F,
+        targets: &[Target],
+        values: &[Value],
+    ) -> Result<(), Fault>
+        requires evals { Evals F.seen self.now.left (E.pre self.now.eval) (E.post self.now.eval) }
+        requires execs { Execs F.seen self.now.left (X.pre self.now.exec) (X.post self.now.exec) }
+        ensures runs { Runs (run (spec.all_stored (level self.now.left) targets.entry.now values.entry.now)) machine.old result machine.new }
+        ensures grows { Grows machine.old machine.new }
+        ensures fed { Feeding machine.old.drawn (F.seen feed.old) machine.new.drawn (F.seen feed.new) }
+    {
+        let mut ahead = targets;
+        let mut rest = values;
+        while let [target, more @ ..] = ahead {
+            match rest {
+                [value, others @ ..] => {
+                    self.store_in(machine, feed, target, value.copy()?)?;
+                    ahead = more;
+                    rest = others;
+                }
+                [] => return Ok(()),
+            }
+        }
+        Ok(())
+    }
+
+    /// Gives a value to a target by itself, or unpacks it, if a comma stands among the targets.
+    fn give(
+        &self,
+        machine: &mut Machine,
+        feed: &mut F,
+        comma: bool,
+        targets: &[Target],
+        value: Value,
+    ) -> Result<(), Fault>
+        requires evals { Evals F.seen self.now.left (E.pre self.now.eval) (E.post self.now.eval) }
+        requires execs { Execs F.seen self.now.left (X.pre self.now.exec) (X.post self.now.exec) }
+        ensures runs { Runs (run (spec.given (level self.now.left) comma targets.now value)) machine.old result machine.new }
+        ensures grows { Grows machine.old machine.new }
+        ensures fed { Feeding machine.old.drawn (F.seen feed.old) machine.new.drawn (F.seen feed.new) }
+    {
+        if comma {
+            let values = unpack(self.alloc, machine, targets.len(), &value)?;
+            return self.store_all(machine, feed, targets, values.as_slice());
+        }
+        match targets {
+            [target, ..] => self.store_in(machine, feed, target, value),
+            [] => Ok(()),
+        }
+    }
+
+    /// Assigns to targets. The value is evaluated first.
+    #[tactic(auto, unfolding(py_meaning::specs::Meaning::assign))]
+    fn assign(
+        &self,
+        machine: &mut Machine,
+        feed: &mut F,
+        targets: &[Target],
+        comma: bool,
+        value: &Expr,
+    ) -> Result<Flow, Fault>
+        requires evals { Evals F.seen self.now.left (E.pre self.now.eval) (E.post self.now.eval) }
+        requires execs { Execs F.seen self.now.left (X.pre self.now.exec) (X.post self.now.exec) }
+        ensures runs { Runs (run (spec.assign (level self.now.left) targets.now comma value.now)) machine.old result machine.new }
+        ensures grows { Grows machine.old machine.new }
+        ensures fed { Feeding machine.old.drawn (F.seen feed.old) machine.new.drawn (F.seen feed.new) }
+    {
+        machine.step(self.alloc)?;
+        let given = self.eval(machine, feed, value)?;
+        self.give(machine, feed, comma, targets, given)?;
+        Ok(Flow::Next)
     }
 
     /// Counts the target of an augmented assignment, or a call that is the source of a `for`, as an expression.
@@ -404,7 +500,11 @@ impl<
             }
             Stmt::Return(value) => self.return_(machine, feed, value),
             Stmt::Delete(target) => self.deleted(machine, feed, target),
-            Stmt::Assign { target, value } => self.assigned(machine, feed, target, value),
+            Stmt::Assign {
+                targets,
+                comma,
+                value,
+            } => self.assign(machine, feed, targets.as_slice(), *comma, value),
             Stmt::Augment { target, op, value } => {
                 self.augment_at(machine, feed, target, *op, value)
             }
@@ -414,8 +514,14 @@ impl<
                 self.arms(machine, feed, arms.as_slice(), other.as_slice())
             }
             Stmt::While { test, body } => self.repeat(machine, feed, test, body.as_slice()),
-            Stmt::For { name, source, body } => {
-                self.for_each(machine, feed, name, source, body.as_slice())
+            Stmt::For {
+                names,
+                comma,
+                iterable,
+                body,
+            } => {
+                let names = names.as_slice();
+                self.for_each(machine, feed, names, *comma, iterable, body.as_slice())
             }
             Stmt::Function(def) => define(self.alloc, machine, def),
         }

@@ -41,8 +41,10 @@ module _ (ps : ℕ → ℕ → Type 0) (n : ℕ) (below : (a b : ℕ) → ps a b
 
   pub live_object : (o u : Object) → ObjectsMatch ps o u → Below (object_refs o)
   live_object (object.List vs) (object.List ws) h = live_items vs ws h
+  live_object (object.Tuple vs) (object.Tuple ws) h = live_items vs ws h
   live_object (object.Dict vs) (object.Dict ws) h = live_pairs vs ws h
   live_object (object.List vs) _ h = absurd h
+  live_object (object.Tuple vs) _ h = absurd h
   live_object (object.Dict vs) _ h = absurd h
   live_object (object.Function def) u h = All-nil (λ at. at < n)
   live_object (object.Handle name uses) u h = All-nil (λ at. at < n)

@@ -16,12 +16,12 @@ use Rattle.py_meaning.specs.Acts.{Act, ◌>>=◌, pure, fail}
 use Rattle.py_meaning.specs.Items.{keyed}
 use Rattle.py_meaning.specs.Numbers.{as_number}
 use Rattle.py_meaning.specs.Texts.{occurs}
-use Rattle.py_meaning.specs.Compared.{Compares, is_one, items_equal, lists_equal, with_equal, pairs_equal, dicts_equal, objects_equal, refs_equal, others_equal, equal_by, values_equal, elements_equal, pair_equal, order_holds, no_order, items_ordered, lists_ordered, refs_ordered, others_ordered, ordered_by, values_ordered, pair_ordered, not_in_this_text, not_searchable, in_text, in_items, in_object, in_ref, is_in, compared}
+use Rattle.py_meaning.specs.Compared.{Compares, is_one, items_equal, sequences_equal, with_equal, pairs_equal, dicts_equal, objects_equal, refs_equal, others_equal, equal_by, values_equal, elements_equal, pair_equal, order_holds, no_order, items_ordered, objects_ordered, refs_ordered, others_ordered, ordered_by, values_ordered, pair_ordered, not_in_this_text, not_searchable, in_text, in_items, in_object, in_ref, is_in, compared}
 use Rattle.py_laws.specs.Same.{equal, refs, PairsMatch}
 use Rattle.py_laws.proofs.Zipped.{zip_length, under_match}
 use Rattle.py_laws.proofs.Respecting.{Setting, Paired, Respects, Equal, next, pure_respects, fail_respects, choose_respects}
-use Rattle.py_laws.proofs.LeastActs.{Values, Listed, step_respects, object_at_respects, list_at_respects, kind_of_respects}
-use Rattle.py_laws.proofs.Slotted.{Kinds, lists, dicts, kinds, same_kind}
+use Rattle.py_laws.proofs.LeastActs.{Values, step_respects, object_at_respects, kind_of_respects}
+use Rattle.py_laws.proofs.Slotted.{Kinds, lists, tuples, dicts, kinds, same_kind}
 use Rattle.py_laws.proofs.Showing.{same_address}
 use Rattle.py_laws.proofs.Operating.{same_number}
 use Rattle.py_laws.proofs.Itemizing.{Held, Entries, keyed_respects, keys_there}
@@ -59,8 +59,8 @@ module _ (c : Setting) where
     items_respect (v ∷ vs) (v' ∷ vs') [] (w' ∷ ws') h k = absurd k
     items_respect (v ∷ vs) (v' ∷ vs') (w ∷ ws) [] h k = absurd k
 
-    lists_respect : (vs vs' ws ws' : List Value) → AllZip (Values c) vs vs' → AllZip (Values c) ws ws' → Judges (lists_equal below vs ws) (lists_equal below vs' ws')
-    lists_respect vs vs' ws ws' h k =
+    sequences_respect : (vs vs' ws ws' : List Value) → AllZip (Values c) vs vs' → AllZip (Values c) ws ws' → Judges (sequences_equal below vs ws) (sequences_equal below vs' ws')
+    sequences_respect vs vs' ws ws' h k =
         choose_respects c Equal (length vs == length ws) (length vs' == length ws') _ _ _ _ (ap₂ (λ (x y : ℕ). x == y) (zip_length (Values c) vs vs' h) (zip_length (Values c) ws ws' k))
         (items_respect vs vs' ws ws' h k) (same_answer _ _ refl)
 
@@ -85,7 +85,8 @@ module _ (c : Setting) where
 
     objects_respect : (a a' b b' : ℕ) (o o' u u' : Option Object) → Paired c a a' → Paired c b b' → Kinds (Paired c) o o' → Kinds (Paired c) u u'
         → Judges (objects_equal below a b o u) (objects_equal below a' b' o' u')
-    objects_respect a a' b b' _ _ _ _ p q (lists vs vs' h) (lists ws ws' k) = lists_respect vs vs' ws ws' h k
+    objects_respect a a' b b' _ _ _ _ p q (lists vs vs' h) (lists ws ws' k) = sequences_respect vs vs' ws ws' h k
+    objects_respect a a' b b' _ _ _ _ p q (tuples vs vs' h) (tuples ws ws' k) = sequences_respect vs vs' ws ws' h k
     objects_respect a a' b b' _ _ _ _ p q (dicts vs vs' h) (dicts ws ws' k) = dicts_respect vs vs' ws ws' h k
     objects_respect a a' b b' o o' u u' p q _ _ = same_answer _ _ (same_address c a a' b b' p q)
 
@@ -158,22 +159,18 @@ module _ (c : Setting) where
     items_in_order o (v ∷ vs) (v' ∷ vs') [] (w' ∷ ws') h k = absurd k
     items_in_order o (v ∷ vs) (v' ∷ vs') (w ∷ ws) [] h k = absurd k
 
-    lists_in_order : (o : Op) (a a' b b' : ℕ) (s s' u u' : Option (List Value)) → Paired c a a' → Paired c b b' → Listed c s s' → Listed c u u'
-        → Judges (lists_ordered same ordered o a b s u) (lists_ordered same ordered o a' b' s' u')
-    lists_in_order o a a' b b' (Some vs) (Some vs') (Some ws) (Some ws') p q h k = items_in_order o vs vs' ws ws' h k
-    lists_in_order o a a' b b' None None u u' p q h k = no_order_respects o (value.Ref a) (value.Ref a') (value.Ref b) (value.Ref b') (refs a a' p) (refs b b' q)
-    lists_in_order o a a' b b' (Some vs) (Some vs') None None p q h k = no_order_respects o (value.Ref a) (value.Ref a') (value.Ref b) (value.Ref b') (refs a a' p) (refs b b' q)
-    lists_in_order o a a' b b' (Some vs) (Some vs') (Some ws) None p q h k = absurd k
-    lists_in_order o a a' b b' (Some vs) (Some vs') None (Some ws') p q h k = absurd k
-    lists_in_order o a a' b b' (Some vs) None u u' p q h k = absurd h
-    lists_in_order o a a' b b' None (Some vs') u u' p q h k = absurd h
+    objects_in_order : (o : Op) (a a' b b' : ℕ) (s s' u u' : Option Object) → Paired c a a' → Paired c b b' → Kinds (Paired c) s s' → Kinds (Paired c) u u'
+        → Judges (objects_ordered same ordered o a b s u) (objects_ordered same ordered o a' b' s' u')
+    objects_in_order o a a' b b' _ _ _ _ p q (lists vs vs' h) (lists ws ws' k) = items_in_order o vs vs' ws ws' h k
+    objects_in_order o a a' b b' _ _ _ _ p q (tuples vs vs' h) (tuples ws ws' k) = items_in_order o vs vs' ws ws' h k
+    objects_in_order o a a' b b' s s' u u' p q _ _ = no_order_respects o (value.Ref a) (value.Ref a') (value.Ref b) (value.Ref b') (refs a a' p) (refs b b' q)
 
     refs_in_order : (o : Op) (a a' b b' : ℕ) → Paired c a a' → Paired c b b' → Judges (refs_ordered same ordered o a b) (refs_ordered same ordered o a' b')
     unfolding refs_ordered
     refs_in_order o a a' b b' p q =
-        next c (list_at_respects c a a' p) λ s s' h.
-        next c (list_at_respects c b b' q) λ u u' k.
-        lists_in_order o a a' b b' s s' u u' p q h k
+        next c (object_at_respects c a a' p) λ s s' h.
+        next c (object_at_respects c b b' q) λ u u' k.
+        objects_in_order o a a' b b' s s' u u' p q (kinds c s s' h) (kinds c u u' k)
 
     plain_in_order : (o : Op) (v w : Value) → value_refs v ≡ [] → value_refs w ≡ [] → Judges (others_ordered same ordered o v w) (others_ordered same ordered o v w)
     plain_in_order o (value.Text text) (value.Text other) n m = same_answer _ _ refl
@@ -250,6 +247,7 @@ module _ (c : Setting) where
 
     in_object_respects : (v v' : Value) (o u : Option Object) → Values c v v' → Kinds (Paired c) o u → Judges (in_object same v o) (in_object same v' u)
     in_object_respects v v' _ _ h (lists ws ws' k) = in_items_respect v v' ws ws' h k
+    in_object_respects v v' _ _ h (tuples ws ws' k) = in_items_respect v v' ws ws' h k
     in_object_respects v v' _ _ h (dicts ws ws' k) = in_dict_respects v v' ws ws' h k
     in_object_respects v v' o u h s = not_searched_at o u s
 

@@ -21,6 +21,8 @@ use Rattle.py_value.specs.declared.value.Value.{Value}
 use Rattle.py_value.specs.declared.value.Value.TheVariants as value
 use Rattle.py_heap.specs.declared.heap.Object.{Object}
 use Rattle.py_heap.specs.declared.heap.Object.TheVariants as object
+use Rattle.py_heap.specs.declared.heap.SequenceKind.{SequenceKind}
+use Rattle.py_heap.specs.declared.heap.SequenceKind.TheVariants as sequences
 use Rattle.py_heap.specs.References.{value_refs}
 use Rattle.py_machine.specs.declared.frame.Flow.{Flow}
 use Rattle.py_machine.specs.declared.frame.Flow.TheVariants as flow
@@ -29,10 +31,10 @@ use Rattle.py_machine.specs.Changes.{object_kind}
 use Rattle.py_machine.specs.Errors.{recursion_error, step_limit_error, not_callable, range_elsewhere}
 use Rattle.py_machine.specs.Runs.{Name}
 use Rattle.py_meaning.specs.Acts.{Act, ◌>>=◌, ◌>>◌, pure, fail, step}
-use Rattle.py_meaning.specs.Operators.{list_units, operated}
+use Rattle.py_meaning.specs.Operators.{sequence_units, operated}
 use Rattle.py_meaning.specs.Iterating.{Next, iterated}
 use Rattle.py_meaning.specs.Shown.{written}
-use Rattle.py_meaning.specs.Meaning.{frame_of, returned, is_none, after_turn, most_turns, Inner, goes_on, block, items_from, items, display, operands, sum, sign, negation, conditional, any_of, disjunction, all_of, conjunction, with_right, related, if_related, relations, comparison, pairs_from, dict_display, index, if_there, slice, method, words, line, print, str_of, str, str_called, repr, repr_called, builtin_called, entered, function_called, object_called, ref_called, called, call, expression, assign, assign_item, assigned, as_expression, augment, augment_item, augment_at, delete_item, deleted, show, return, arms, turns, repeat, deeper_items_from, source_called, call_source, source_of, turn, rounds, for_each, statement, level, show_last, last, top_from, cell}
+use Rattle.py_meaning.specs.Meaning.{frame_of, returned, is_none, after_turn, most_turns, Inner, goes_on, block, items_from, items, display, operands, sum, sign, negation, conditional, any_of, disjunction, all_of, conjunction, with_right, related, if_related, relations, comparison, pairs_from, dict_display, index, if_there, slice, method, words, line, print, str_of, str, str_called, repr, repr_called, builtin_called, entered, function_called, object_called, ref_called, called, call, expression, stored_in_item, stored, all_stored, given, assign, as_expression, augment, augment_item, augment_at, delete_item, deleted, show, return, arms, turns, repeat, deeper_items_from, source_called, call_source, source_of, turn, rounds, for_each, statement, level, show_last, last, top_from, cell}
 use Rattle.py_laws.specs.Same.{equal, refs}
 use Rattle.py_laws.proofs.Zipped.{zip_length, Zips, no_more, one_more, zips}
 use Rattle.py_laws.proofs.Rules.{IfThere, IfEvals, EvalsRight, Looks, BindsAt, Opens}
@@ -43,8 +45,9 @@ use Rattle.py_laws.proofs.Operating.{Gives, plain_gives, same_units, truth_respe
 use Rattle.py_laws.proofs.Itemizing.{Held, indexed_respects, sliced_respects, item_stored_respects, item_deleted_respects}
 use Rattle.py_laws.proofs.Comparing.{compared_respects}
 use Rattle.py_laws.proofs.Iterating.{Iterates, Nexts, iterated_respects, range_of_respects, advance_respects}
+use Rattle.py_laws.proofs.Unpacking.{unpacked_respects}
 use Rattle.py_laws.proofs.Methodical.{method_of_respects, method_called_respects}
-use Rattle.py_laws.proofs.Simple.{Flows, goes, literal_respects, not_called_respects, wrong_respects, draw_called_respects, len_called_respects, int_called_respects, handle_called_respects, tell_called_respects, frame_match, returned_match, store_respects, augmented_respects, delete_respects, define_respects, Evaluated, keys_from_respects, filled_respects, same_list, result_respects}
+use Rattle.py_laws.proofs.Simple.{Flows, goes, literal_respects, not_called_respects, wrong_respects, draw_called_respects, len_called_respects, int_called_respects, handle_called_respects, tell_called_respects, frame_match, returned_match, store_respects, MayBind, names_given_respect, augmented_respects, delete_respects, define_respects, Evaluated, keys_from_respects, filled_respects, same_list, result_respects}
 
 module _ (c : Setting) where
   -- ---- one level above another
@@ -77,13 +80,13 @@ module _ (c : Setting) where
     unfolding items
     items_respect es r = items_from_respects [] [] es r tt
 
-    display_respects : (es : List Expr) → Evals es → Gives c (display inner es) (display inner es)
+    display_respects : (kind : SequenceKind) (es : List Expr) → Evals es → Gives c (display inner kind es) (display inner kind es)
     unfolding display
-    display_respects es r =
+    display_respects kind es r =
         next c (step_respects c) λ _ _ _.
         next c (items_respect es r) λ vs ws h.
-        next c (charge_respects c (list_units vs) (list_units ws) (same_units c vs ws h)) λ _ _ _.
-        made_respects c vs ws h
+        next c (charge_respects c (sequence_units vs) (sequence_units ws) (same_units c vs ws h)) λ _ _ _.
+        made_respects c kind vs ws h
 
     operand_respects : (operand : Operand) (x y : Value) → c.rules.evals (out-Operand operand).value → Values c x y
         → Gives c (step >> inner.eval (out-Operand operand).value >>= operated (out-Operand operand).op x) (step >> inner.eval (out-Operand operand).value >>= operated (out-Operand operand).op y)
@@ -325,6 +328,7 @@ module _ (c : Setting) where
     object_called_respects vs ws (Some (object.Function def)) (Some (object.Function other)) k h fit =
         subst (λ d. Gives c (function_called inner def vs) (function_called inner d ws)) h (function_respects def vs ws fit k)
     object_called_respects vs ws (Some (object.List xs)) (Some (object.List ys)) k h fit = no_call (Some (object.List xs)) (Some (object.List ys)) h
+    object_called_respects vs ws (Some (object.Tuple xs)) (Some (object.Tuple ys)) k h fit = no_call (Some (object.Tuple xs)) (Some (object.Tuple ys)) h
     object_called_respects vs ws (Some (object.Dict xs)) (Some (object.Dict ys)) k h fit = no_call (Some (object.Dict xs)) (Some (object.Dict ys)) h
     object_called_respects vs ws (Some (object.Handle name uses)) (Some (object.Handle other others)) k h fit = no_call (Some (object.Handle name uses)) (Some (object.Handle other others)) h
     object_called_respects vs ws (Some _) (Some _) k h fit = absurd h
@@ -356,7 +360,8 @@ module _ (c : Setting) where
     expression_respects : (e : Expr-F Expr Relation Operand Pair) → Looks c.rules.known c.rules.evals e → Gives c (expression inner e) (expression inner e)
     expression_respects (Expr-F.Name name) r = next c (step_respects c) λ _ _ _. look_respects c name r
     expression_respects (Expr-F.Literal constant) r = literal_respects c constant
-    expression_respects (Expr-F.ListOf es) r = display_respects es r
+    expression_respects (Expr-F.ListOf es) r = display_respects sequences.List es r
+    expression_respects (Expr-F.TupleOf es) r = display_respects sequences.Tuple es r
     expression_respects (Expr-F.Conditional test first second) r = conditional_respects test first second r
     expression_respects (Expr-F.Or es) r = disjunction_respects es r
     expression_respects (Expr-F.And es) r = conjunction_respects es r
@@ -377,27 +382,36 @@ module _ (c : Setting) where
     abbrev Binds : Name → Type 0
     Binds name = c.rules.may name × c.rules.known name
 
-    assign_respects : (name : Name) (e : Expr) → Binds name → c.rules.evals e → Flows c (assign inner name e) (assign inner name e)
-    unfolding assign
-    assign_respects name e may r =
-        next c (step_respects c) λ _ _ _.
-        next c (evals e r) λ v w h.
-        next c (store_respects c name v w may h) λ _ _ _.
-        goes c flow.Next flow.Next to_next
-
-    assign_item_respects : (on at e : Expr) → c.rules.evals on × c.rules.evals at → c.rules.evals e → Flows c (assign_item inner on at e) (assign_item inner on at e)
-    unfolding assign_item
-    assign_item_respects on at e q l =
-        next c (step_respects c) λ _ _ _.
-        next c (evals e l) λ v w h.
+    stored_in_item_respects : (on at : Expr) (v w : Value) → c.rules.evals on × c.rules.evals at → Values c v w → Respects c Any (stored_in_item inner on at v) (stored_in_item inner on at w)
+    unfolding stored_in_item
+    stored_in_item_respects on at v w q h =
         next c (evals on q.0) λ r s k.
         next c (evals at q.1) λ x y m.
-        next c (item_stored_respects c r s x y v w k m h) λ _ _ _.
-        goes c flow.Next flow.Next to_next
+        item_stored_respects c r s x y v w k m h
 
-    assigned_respects : (into : Target) (e : Expr) → BindsAt Binds c.rules.evals into → c.rules.evals e → Flows c (assigned inner into e) (assigned inner into e)
-    assigned_respects (target.Name name) e may r = assign_respects name e may r
-    assigned_respects (target.Item on at) e may r = assign_item_respects on at e may r
+    stored_respects : (into : Target) (v w : Value) → BindsAt Binds c.rules.evals into → Values c v w → Respects c Any (stored inner into v) (stored inner into w)
+    stored_respects (target.Name name) v w may h = store_respects c name v w may h
+    stored_respects (target.Item on at) v w q h = stored_in_item_respects on at v w q h
+
+    all_stored_respect : (targets : List Target) (vs ws : List Value) → AllByRecursion (BindsAt Binds c.rules.evals) targets → AllZip (Values c) vs ws → Respects c Any (all_stored inner targets vs) (all_stored inner targets ws)
+    all_stored_respect (into ∷ targets) (v ∷ vs) (w ∷ ws) may h = next c (stored_respects into v w may.0 h.0) λ _ _ _. all_stored_respect targets vs ws may.1 h.1
+    all_stored_respect [] vs ws may h = pure_respects c Any tt tt tt
+    all_stored_respect (into ∷ targets) [] [] may h = pure_respects c Any tt tt tt
+    all_stored_respect (into ∷ targets) [] (w ∷ ws) may h = absurd h
+    all_stored_respect (into ∷ targets) (v ∷ vs) [] may h = absurd h
+
+    given_respects : (comma : Bool) (targets : List Target) (v w : Value) → AllByRecursion (BindsAt Binds c.rules.evals) targets → Values c v w → Respects c Any (given inner comma targets v) (given inner comma targets w)
+    given_respects true targets v w may h = next c (unpacked_respects c (length targets) v w h) λ vs ws k. all_stored_respect targets vs ws may k
+    given_respects false (into ∷ others) v w may h = stored_respects into v w may.0 h
+    given_respects false [] v w may h = pure_respects c Any tt tt tt
+
+    assign_respects : (targets : List Target) (comma : Bool) (e : Expr) → AllByRecursion (BindsAt Binds c.rules.evals) targets → c.rules.evals e → Flows c (assign inner targets comma e) (assign inner targets comma e)
+    unfolding assign
+    assign_respects targets comma e may r =
+        next c (step_respects c) λ _ _ _.
+        next c (evals e r) λ v w h.
+        next c (given_respects comma targets v w may h) λ _ _ _.
+        goes c flow.Next flow.Next to_next
 
     as_expression_respects : Respects c Any (as_expression inner) (as_expression inner)
     unfolding as_expression
@@ -509,23 +523,25 @@ module _ (c : Setting) where
     source_respects e (Expr-F.Call callee args) r q = call_source_respects callee args q
     source_respects e _ r q = source_evaluated e r
 
-    turn_respects : (name : Name) (o u : Next) (p q : Iteration → Act Flow) → Binds name → Nexts c o u → ((r s : Iteration) → IterationsMatch (Paired c) r s → Flows c (p r) (q s))
-        → Flows c (turn inner name o p) (turn inner name u q)
-    turn_respects name (Some x) (Some y) p q may h k = next c (next c (step_respects c) λ _ _ _. store_respects c name x.0 y.0 may h.0) λ _ _ _. k x.1 y.1 h.1
-    turn_respects name None None p q may h k = goes c flow.Next flow.Next to_next
-    turn_respects name (Some x) None p q may h k = absurd h
-    turn_respects name None (Some y) p q may h k = absurd h
+    turn_respects : (names : List Name) (comma : Bool) (o u : Next) (p q : Iteration → Act Flow) → MayBind c names → Nexts c o u → ((r s : Iteration) → IterationsMatch (Paired c) r s → Flows c (p r) (q s))
+        → Flows c (turn inner names comma o p) (turn inner names comma u q)
+    turn_respects names comma (Some x) (Some y) p q may h k = next c (next c (step_respects c) λ _ _ _. names_given_respect c comma names x.0 y.0 may h.0) λ _ _ _. k x.1 y.1 h.1
+    turn_respects names comma None None p q may h k = goes c flow.Next flow.Next to_next
+    turn_respects names comma (Some x) None p q may h k = absurd h
+    turn_respects names comma None (Some y) p q may h k = absurd h
 
-    rounds_respect : (n : ℕ) (name : Name) (body : List Stmt) (r s : Iteration) → Binds name → AllByRecursion c.rules.runs body → IterationsMatch (Paired c) r s → Flows c (rounds inner n name body r) (rounds inner n name body s)
+    rounds_respect : (n : ℕ) (names : List Name) (comma : Bool) (body : List Stmt) (r s : Iteration) → MayBind c names → AllByRecursion c.rules.runs body → IterationsMatch (Paired c) r s
+        → Flows c (rounds inner n names comma body r) (rounds inner n names comma body s)
     unfolding rounds
-    rounds_respect zero name body r s may all h = fail_respects c (FlowsMatch (Paired c)) step_limit_error step_limit_error refl
-    rounds_respect (suc n) name body r s may all h =
+    rounds_respect zero names comma body r s may all h = fail_respects c (FlowsMatch (Paired c)) step_limit_error step_limit_error refl
+    rounds_respect (suc n) names comma body r s may all h =
         next c (advance_respects c r s h) λ o u k.
-        turn_respects name o u _ _ may k λ r' s' m. next c (block_respects body all) λ x y l. after_turn_respects x y _ _ l (rounds_respect n name body r' s' may all m)
+        turn_respects names comma o u _ _ may k λ r' s' m. next c (block_respects body all) λ x y l. after_turn_respects x y _ _ l (rounds_respect n names comma body r' s' may all m)
 
-    for_respects : (name : Name) (e : Expr) (body : List Stmt) → Binds name × c.rules.evals e × AllByRecursion c.rules.runs body → Flows c (for_each inner name e body) (for_each inner name e body)
+    for_respects : (names : List Name) (comma : Bool) (e : Expr) (body : List Stmt) → MayBind c names × c.rules.evals e × AllByRecursion c.rules.runs body → Flows c (for_each inner names comma e body) (for_each inner names comma e body)
     unfolding for_each
-    for_respects name e body all = next c (next c (step_respects c) λ _ _ _. source_respects e (out-Expr e) all.1 (c.rules.looks e all.1)) λ r s h. rounds_respect most_turns name body r s all.0 all.2 h
+    for_respects names comma e body all =
+        next c (next c (step_respects c) λ _ _ _. source_respects e (out-Expr e) all.1 (c.rules.looks e all.1)) λ r s h. rounds_respect most_turns names comma body r s all.0 all.2 h
 
     one_step : (e : Flow) → FlowsMatch (Paired c) e e → Flows c (step >> pure e) (step >> pure e)
     one_step e h = next c (step_respects c) λ _ _ _. goes c e e h
@@ -537,12 +553,12 @@ module _ (c : Setting) where
     statement_respects (Stmt-F.Return e) r = return_respects e r
     statement_respects (Stmt-F.Global names) r = one_step flow.Next to_next
     statement_respects (Stmt-F.Delete into) r = deleted_respects into r
-    statement_respects (Stmt-F.Assign into e) r = assigned_respects into e r.0 r.1
+    statement_respects (Stmt-F.Assign targets comma e) r = assign_respects targets comma e r.0 r.1
     statement_respects (Stmt-F.Augment into o e) r = augment_at_respects into o e r.0 r.1
     statement_respects (Stmt-F.Expression e) r = show_respects e r
     statement_respects (Stmt-F.If tests other) r = next c (step_respects c) λ _ _ _. arms_respect tests other r.0 r.1
     statement_respects (Stmt-F.While test body) r = repeat_respects test body r.0 r.1
-    statement_respects (Stmt-F.For name source body) r = for_respects name source body r
+    statement_respects (Stmt-F.For names comma source body) r = for_respects names comma source body r
     statement_respects (Stmt-F.Function def) r = define_respects c def r
 
   -- ---- the levels

@@ -10,21 +10,23 @@ use Rattle.py_value.specs.Keys.{key_of, value_of}
 use Rattle.py_value.specs.Reprs.{key_text}
 use Rattle.py_value.specs.Values.{weight}
 use Rattle.py_heap.specs.declared.heap.Object.{Object}
+use Rattle.py_heap.specs.declared.heap.SequenceKind.{SequenceKind}
+use Rattle.py_heap.specs.declared.heap.SequenceKind.TheVariants as sequences
 use Rattle.py_heap.specs.Dicts.{Pairs, value_under}
 use Rattle.py_heap.specs.References.{value_refs}
 use Rattle.py_machine.specs.declared.error.PyError.{PyError}
 use Rattle.py_machine.specs.declared.frame.Change.TheVariants as changes
 use Rattle.py_machine.specs.Changes.{object_kind}
-use Rattle.py_machine.specs.Errors.{unhashable, not_an_index, not_subscriptable, no_item_assignment, no_item_deletion, no_list_index, no_text_index, no_assigned_index, no_key}
+use Rattle.py_machine.specs.Errors.{unhashable, not_an_index, not_subscriptable, no_item_assignment, no_item_deletion, no_index, no_text_index, no_assigned_index, no_key}
 use Rattle.py_meaning.specs.Acts.{Act, fail}
 use Rattle.py_meaning.specs.Numbers.{as_number}
 use Rattle.py_meaning.specs.Operators.{joined}
-use Rattle.py_meaning.specs.Items.{position_in, item_at, item_or, key_or, keyed, list_indexed, dict_indexed, character, text_indexed, object_indexed, not_indexed, indexed, number_or, bound, from_position, to_position, cut, text_sliced, list_sliced, object_sliced, sliced, stored_at, list_stored, pair_units, put_in, dict_stored, object_stored, not_stored, item_stored, deleted_at, list_deleted, pair_deleted, dict_deleted, object_deleted, not_deleted, item_deleted}
+use Rattle.py_meaning.specs.Items.{position_in, item_at, item_or, key_or, keyed, sequence_indexed, dict_indexed, character, text_indexed, object_indexed, not_indexed, indexed, number_or, bound, from_position, to_position, cut, text_sliced, sequence_sliced, object_sliced, sliced, stored_at, list_stored, pair_units, put_in, dict_stored, object_stored, not_stored, item_stored, deleted_at, list_deleted, pair_deleted, dict_deleted, object_deleted, not_deleted, item_deleted}
 use Rattle.py_laws.specs.Same.{equal, refs, PairsMatch, BothOrNone}
 use Rattle.py_laws.proofs.Zipped.{zip_length, zip_get, zip_range, under_match}
 use Rattle.py_laws.proofs.Respecting.{Setting, Paired, setting, remove, put, drop, Respects, Any, Equal, next, pure_respects, fail_respects}
 use Rattle.py_laws.proofs.LeastActs.{Values, charge_respects, change_respects, object_at_respects, kind_of_respects}
-use Rattle.py_laws.proofs.Slotted.{Kinds, lists, dicts, kinds, same_kind}
+use Rattle.py_laws.proofs.Slotted.{Kinds, lists, tuples, dicts, kinds, same_kind}
 use Rattle.py_laws.proofs.Operating.{Gives, same_weight, same_number, joined_respects, made_text_respects}
 
 module _ (c : Setting) where
@@ -69,9 +71,13 @@ module _ (c : Setting) where
 
   -- ---- an index
 
-  list_indexed_respects : (vs ws : List Value) (n : Option ℤ) → AllZip (Values c) vs ws → Gives c (list_indexed vs n) (list_indexed ws n)
-  list_indexed_respects vs ws (Some n) h = item_or_respects no_list_index no_list_index _ _ refl (items_there vs ws _ _ (same_position vs ws n h) h)
-  list_indexed_respects vs ws None h = fail_respects c (Values c) not_an_index not_an_index refl
+  indexed_by : (kind : SequenceKind) (vs ws : List Value) (n : Option ℤ) → AllZip (Values c) vs ws → Gives c (sequence_indexed kind vs n) (sequence_indexed kind ws n)
+  indexed_by kind vs ws (Some n) h = item_or_respects (no_index kind) (no_index kind) _ _ refl (items_there vs ws _ _ (same_position vs ws n h) h)
+  indexed_by kind vs ws None h = fail_respects c (Values c) not_an_index not_an_index refl
+
+  sequence_indexed_respects : (kind : SequenceKind) (vs ws : List Value) (x y : Value) → AllZip (Values c) vs ws → Values c x y → Gives c (sequence_indexed kind vs (as_number x)) (sequence_indexed kind ws (as_number y))
+  sequence_indexed_respects kind vs ws x y m k =
+      subst (λ n. Gives c (sequence_indexed kind vs (as_number x)) (sequence_indexed kind ws n)) (same_number c x y k) (indexed_by kind vs ws (as_number x) m)
 
   dict_indexed_respects : (vs ws : Pairs) (x y : Value) → Entries vs ws → Values c x y → Gives c (dict_indexed vs x) (dict_indexed ws y)
   unfolding dict_indexed
@@ -92,8 +98,8 @@ module _ (c : Setting) where
   no_items o u h = fail_respects c (Values c) _ _ (ap (λ k. not_subscriptable k) (same_kind (Paired c) o u h))
 
   object_indexed_respects : (x y : Value) (o u : Option Object) → Values c x y → Kinds (Paired c) o u → Gives c (object_indexed x o) (object_indexed y u)
-  object_indexed_respects x y _ _ k (lists vs ws m) =
-      subst (λ n. Gives c (list_indexed vs (as_number x)) (list_indexed ws n)) (same_number c x y k) (list_indexed_respects vs ws (as_number x) m)
+  object_indexed_respects x y _ _ k (lists vs ws m) = sequence_indexed_respects sequences.List vs ws x y m k
+  object_indexed_respects x y _ _ k (tuples vs ws m) = sequence_indexed_respects sequences.Tuple vs ws x y m k
   object_indexed_respects x y _ _ k (dicts vs ws m) = dict_indexed_respects vs ws x y m k
   object_indexed_respects x y o u k h = no_items o u h
 
@@ -136,16 +142,18 @@ module _ (c : Setting) where
       next c (bound_respects o' u' k) λ a' b' f.
       made_text_respects c _ _ (ap₂ (λ x y. encode_utf8_all (cut (chars text) x y)) e f)
 
-  list_sliced_respects : (vs ws : List Value) (o u o' u' : Option Value) → AllZip (Values c) vs ws → Held o u → Held o' u' → Gives c (list_sliced vs o o') (list_sliced ws u u')
-  unfolding list_sliced
-  list_sliced_respects vs ws o u o' u' m h k =
+  sequence_sliced_respects : (kind : SequenceKind) (vs ws : List Value) (o u o' u' : Option Value) → AllZip (Values c) vs ws → Held o u → Held o' u'
+      → Gives c (sequence_sliced kind vs o o') (sequence_sliced kind ws u u')
+  unfolding sequence_sliced
+  sequence_sliced_respects kind vs ws o u o' u' m h k =
       next c (bound_respects o u h) λ a b e.
       next c (bound_respects o' u' k) λ a' b' f.
-      subst (λ z. Gives c (joined (cut vs a a')) (joined (cut ws z b'))) e
-      (subst (λ z. Gives c (joined (cut vs a a')) (joined (cut ws a z))) f (joined_respects c (cut vs a a') (cut ws a a') (cut_match vs ws a a' m)))
+      subst (λ z. Gives c (joined kind (cut vs a a')) (joined kind (cut ws z b'))) e
+      (subst (λ z. Gives c (joined kind (cut vs a a')) (joined kind (cut ws a z))) f (joined_respects c kind (cut vs a a') (cut ws a a') (cut_match vs ws a a' m)))
 
   object_sliced_respects : (o u o' u' : Option Value) (r s : Option Object) → Held o u → Held o' u' → Kinds (Paired c) r s → Gives c (object_sliced o o' r) (object_sliced u u' s)
-  object_sliced_respects o u o' u' _ _ h k (lists vs ws m) = list_sliced_respects vs ws o u o' u' m h k
+  object_sliced_respects o u o' u' _ _ h k (lists vs ws m) = sequence_sliced_respects sequences.List vs ws o u o' u' m h k
+  object_sliced_respects o u o' u' _ _ h k (tuples vs ws m) = sequence_sliced_respects sequences.Tuple vs ws o u o' u' m h k
   object_sliced_respects o u o' u' r s h k l = no_items r s l
 
   plain_sliced : (v : Value) (o u o' u' : Option Value) → value_refs v ≡ [] → Held o u → Held o' u' → Gives c (sliced v o o') (sliced v u u')

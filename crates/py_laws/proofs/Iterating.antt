@@ -18,7 +18,7 @@ use Rattle.py_laws.specs.Same.{equal, refs, PairsMatch, BothOrNone}
 use Rattle.py_laws.proofs.Zipped.{zip_length, zip_get, Zips, no_more, one_more}
 use Rattle.py_laws.proofs.Respecting.{Setting, Paired, IterationsMatch, over_items, over_keys, over_characters, over_range, Respects, next, pure_respects, fail_respects, choose_respects}
 use Rattle.py_laws.proofs.LeastActs.{Values, object_at_respects, kind_of_respects}
-use Rattle.py_laws.proofs.Slotted.{Kinds, lists, dicts, kinds, same_kind}
+use Rattle.py_laws.proofs.Slotted.{Kinds, lists, tuples, dicts, kinds, same_kind}
 use Rattle.py_laws.proofs.Showing.{keys_match}
 use Rattle.py_laws.proofs.Operating.{same_number}
 
@@ -36,6 +36,7 @@ module _ (c : Setting) where
 
   object_iterated_respects : (a b : ℕ) (o u : Option Object) → Paired c a b → Kinds (Paired c) o u → Iterates (object_iterated a o) (object_iterated b u)
   object_iterated_respects a b _ _ p (lists vs ws m) = pure_respects c Over (iteration.Items a 0) (iteration.Items b 0) (over_items a b 0 p)
+  object_iterated_respects a b _ _ p (tuples vs ws m) = pure_respects c Over (iteration.Items a 0) (iteration.Items b 0) (over_items a b 0 p)
   object_iterated_respects a b _ _ p (dicts vs ws m) =
       pure_respects c Over (iteration.Keys a 0 (length vs)) (iteration.Keys b 0 (length ws))
       (subst (λ (n : ℕ). Over (iteration.Keys a 0 (length vs)) (iteration.Keys b 0 n)) (zip_length (PairsMatch (Paired c)) vs ws m) (over_keys a b 0 (length vs) p))
@@ -97,6 +98,7 @@ module _ (c : Setting) where
 
   next_item_respects : (a b n : ℕ) (o u : Option Object) → Paired c a b → Kinds (Paired c) o u → Respects c Nexts (next_item a n o) (next_item b n u)
   next_item_respects a b n _ _ p (lists vs ws m) = pure_respects c Nexts _ _ (with_rest_match _ _ _ _ (zip_get (Values c) n vs ws m) (over_items a b (n + 1) p))
+  next_item_respects a b n _ _ p (tuples vs ws m) = pure_respects c Nexts _ _ (with_rest_match _ _ _ _ (zip_get (Values c) n vs ws m) (over_items a b (n + 1) p))
   next_item_respects a b n o u p _ = no_next
 
   keys_in_match : (o u : Option (Key × Value)) → BothOrNone (PairsMatch (Paired c)) o u → BothOrNone (Values c) (key_in o) (key_in u)

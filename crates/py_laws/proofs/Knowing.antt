@@ -23,6 +23,9 @@ use Rattle.py_tree.specs.Locals.{Names, joined}
 use Rattle.py_value.specs.declared.value.Value.{Value}
 use Rattle.py_heap.specs.declared.heap.Object.{Object}
 use Rattle.py_heap.specs.declared.heap.Object.TheVariants as object
+use Rattle.py_heap.specs.declared.heap.SequenceKind.{SequenceKind}
+use Rattle.py_heap.specs.declared.heap.SequenceKind.TheVariants as sequences
+use Rattle.py_heap.specs.Sequences.{sequence}
 use Rattle.py_heap.specs.declared.state.State.{State}
 use Rattle.py_heap.specs.Dicts.{Pairs}
 use Rattle.py_heap.specs.References.{IsClosed}
@@ -33,7 +36,7 @@ use Rattle.py_machine.specs.Marked.{IsIn}
 use Rattle.py_machine.specs.Runs.{Name, start}
 use Rattle.py_meaning.specs.Cells.{outcome, end_state}
 use Rattle.py_laws.specs.Same.{Every}
-use Rattle.py_laws.specs.Mentioned.{expression_step, relation_step, operand_step, pair_step, names_of, names_of_relation, names_of_operand, names_of_pair, if_names, names_at, statement_step, arm_step, def_step, names_by, names_by_arm, names_by_def, names_in, AllPass, NamesPass, FunctionsPass}
+use Rattle.py_laws.specs.Mentioned.{expression_step, relation_step, operand_step, pair_step, names_of, names_of_relation, names_of_operand, names_of_pair, if_names, names_at, names_at_all, statement_step, arm_step, def_step, names_by, names_by_arm, names_by_def, names_in, AllPass, NamesPass, FunctionsPass}
 use Rattle.py_laws.proofs.Sameness.{Itself, same_by_itself}
 use Rattle.py_laws.proofs.Members.{no_name}
 use Rattle.py_laws.proofs.Rules.{Rules, IfThere, IfEvals, EvalsRight, Looks, BindsAt, Opens, NameAny}
@@ -104,6 +107,7 @@ module _ (Known : Name → Type 0) where
   looks_layer (Expr-F.Name name) h = h.0
   looks_layer (Expr-F.Literal constant) h = tt
   looks_layer (Expr-F.ListOf es) h = each_part names_of es h
+  looks_layer (Expr-F.TupleOf es) h = each_part names_of es h
   looks_layer (Expr-F.DictOf ps) h = each_more _ _ pair ps (each_part names_of_pair ps h)
   looks_layer (Expr-F.Conditional test first second) h =
       let w = parts (names_of test) (names_of first ++ names_of second) h in
@@ -164,9 +168,14 @@ module _ (Known : Name → Type 0) where
 
   stays_fit : (p : Change) (o : Object) → IfThere Fit (changed p o)
   stays_fit p (object.List items) = items_fit p items
+  stays_fit p (object.Tuple items) = tt
   stays_fit p (object.Dict pairs) = pairs_fit p pairs
   stays_fit p (object.Function def) = tt
   stays_fit p (object.Handle name uses) = handle_fit p name uses
+
+  sequence_fit : (kind : SequenceKind) (items : List Value) → Fit (sequence kind items)
+  sequence_fit sequences.List items = tt
+  sequence_fit sequences.Tuple items = tt
 
   -- ---- statements
 
@@ -204,20 +213,30 @@ module _ (Known : Name → Type 0) where
   binds (target.Name name) h = (tt, h.0)
   binds (target.Item on at) h = parts (names_of on) (names_of at) h
 
+  all_bind : (targets : List Target) → Pass (names_at_all targets) → AllByRecursion (BindsAt Binds Evals) targets
+  all_bind targets h = each_more _ _ binds targets (each_part names_at targets h)
+
+  all_named : (names : Names) → Pass names → AllByRecursion Binds names
+  all_named [] h = tt
+  all_named (name ∷ names) h = ((tt, h.0), all_named names h.1)
+
   assigns : (into : Target) (e : Expr) → Pass (names_at into ++ names_of e) → BindsAt Binds Evals into × Evals e
   assigns into e h = let w = parts (names_at into) (names_of e) h in (binds into w.0, w.1)
 
   opens_layer : (x : Stmt-F Stmt Arm Def) → Pass (statement_step (map-Stmt Stmt Arm Def Names Names Names names_by names_by_arm names_by_def x)) → Opens Binds Known Fit Evals Runs x
   opens_layer (Stmt-F.Return e) h = if_evals e h
   opens_layer (Stmt-F.Delete into) h = deletes into h
-  opens_layer (Stmt-F.Assign into e) h = assigns into e h
+  opens_layer (Stmt-F.Assign targets comma e) h = let w = parts (names_at_all targets) (names_of e) h in (all_bind targets w.0, w.1)
   opens_layer (Stmt-F.Augment into o e) h = assigns into e h
   opens_layer (Stmt-F.Expression e) h = h
   opens_layer (Stmt-F.If arms other) h =
       let w = parts (joined (map names_by_arm arms)) (joined (map names_by other)) h in
       (each_more _ _ arm arms (each_part names_by_arm arms w.0), runs_each other w.1)
   opens_layer (Stmt-F.While test body) h = let w = parts (names_of test) (joined (map names_by body)) h in (w.0, runs_each body w.1)
-  opens_layer (Stmt-F.For name source body) h = let w = parts (names_of source) (joined (map names_by body)) h.1 in ((tt, h.0), w.0, runs_each body w.1)
+  opens_layer (Stmt-F.For names comma source body) h =
+      let w = parts names (names_of source ++ joined (map names_by body)) h in
+      let v = parts (names_of source) (joined (map names_by body)) w.1 in
+      (all_named names w.0, v.0, runs_each body v.1)
   opens_layer (Stmt-F.Function def) h = ((tt, (of_def def h).0), h)
   opens_layer Stmt-F.Pass h = tt
   opens_layer Stmt-F.Break h = tt
@@ -235,7 +254,7 @@ module _ (Known : Name → Type 0) where
     fit = Fit;
     evals = Evals;
     runs = Runs;
-    list_fit = λ items. tt;
+    sequence_fit = sequence_fit;
     dict_fit = tt;
     handle_fit = λ name uses. tt;
     change_fit = λ p o h. stays_fit p o;
@@ -253,12 +272,14 @@ module _ (test : Name → Bool) where
   to_fit : (o : Object) → NamesPass test o → Fit Passes o
   to_fit (object.Function def) h = recursion_from_All Passes (names_by_def def) h
   to_fit (object.List items) h = tt
+  to_fit (object.Tuple items) h = tt
   to_fit (object.Dict pairs) h = tt
   to_fit (object.Handle name uses) h = tt
 
   from_fit : (o : Object) → Fit Passes o → NamesPass test o
   from_fit (object.Function def) h = All-from_recursion Passes (names_by_def def) h
   from_fit (object.List items) h = tt
+  from_fit (object.Tuple items) h = tt
   from_fit (object.Dict pairs) h = tt
   from_fit (object.Handle name uses) h = tt
 

@@ -429,6 +429,7 @@ module _ (c : Setting) where
 
   changed_match : (p q : Change) (o u : Object) → ChangesMatch (Paired c) p q → ObjectsMatch (Paired c) o u → Slots (of.changed p o) (of.changed q u)
   changed_match p q (object.List vs) (object.List ws) k h = items_changed p q vs ws k h
+  changed_match p q (object.Tuple vs) (object.Tuple ws) k h = tt
   changed_match p q (object.Dict vs) (object.Dict ws) k h = pairs_changed p q vs ws k h
   changed_match p q (object.Function def) (object.Function other) k h = tt
   changed_match p q (object.Handle name uses) (object.Handle other others) k h = handle_changed p q name other uses others k h.0 h.1
@@ -535,6 +536,7 @@ module _ (c : Setting) where
 
   pub listed : (o u : Option Object) → Slots o u → Listed (list_in o) (list_in u)
   listed (Some (object.List vs)) (Some (object.List ws)) h = h
+  listed (Some (object.Tuple vs)) (Some (object.Tuple ws)) h = tt
   listed (Some (object.Dict vs)) (Some (object.Dict ws)) h = tt
   listed (Some (object.Function def)) (Some (object.Function other)) h = tt
   listed (Some (object.Handle name uses)) (Some (object.Handle other others)) h = tt
@@ -549,6 +551,7 @@ module _ (c : Setting) where
 
   pub object_kinds : (o u : Option Object) → Slots o u → object_kind o ≡ object_kind u
   object_kinds (Some (object.List vs)) (Some (object.List ws)) h = refl
+  object_kinds (Some (object.Tuple vs)) (Some (object.Tuple ws)) h = refl
   object_kinds (Some (object.Dict vs)) (Some (object.Dict ws)) h = refl
   object_kinds (Some (object.Function def)) (Some (object.Function other)) h = refl
   object_kinds (Some (object.Handle name uses)) (Some (object.Handle other others)) h = refl

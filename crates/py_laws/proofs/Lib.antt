@@ -5,6 +5,7 @@ pub mod Sameness
 pub mod Members
 pub mod Bindings
 pub mod Sparing
+pub mod Constant
 pub mod Rules
 pub mod Respecting
 pub mod LeastActs
@@ -12,6 +13,7 @@ pub mod Slotted
 pub mod Showing
 pub mod Operating
 pub mod Itemizing
+pub mod Unpacking
 pub mod Comparing
 pub mod Iterating
 pub mod Methodical

@@ -30,7 +30,7 @@ use Rattle.py_machine.specs.Runs as runs
 use Rattle.py_meaning.specs.Acts.{Act, ◌>>=◌, ◌>>◌, run, pure, fail, chain, step, choose, object_at}
 use Rattle.py_meaning.specs.Truth.{truth_of}
 use Rattle.py_meaning.specs.Iterating.{Next, advance}
-use Rattle.py_meaning.specs.Meaning.{literal_value, store, delete, define, after_turn, most_turns, Inner, block, display, operands, sum, sign, negation, conditional, any_of, disjunction, all_of, conjunction, relations, comparison, dict_display, index, slice, method, call, expression, assign, assign_item, assigned, augment, augment_item, augment_at, delete_item, deleted, return, turns, repeat, turn, rounds, for_each, statement, level}
+use Rattle.py_meaning.specs.Meaning.{literal_value, names_given, delete, define, after_turn, most_turns, Inner, block, display, operands, sum, sign, negation, conditional, any_of, disjunction, all_of, conjunction, relations, comparison, dict_display, index, slice, method, call, expression, assign, augment, augment_item, augment_at, delete_item, deleted, return, turns, repeat, turn, rounds, for_each, statement, level}
 use Rattle.py_meaning.proofs.Growing.{Rises, rises}
 use Rattle.py_laws.specs.Loops.{RunAlike, while_turn, for_turn}
 
@@ -160,6 +160,7 @@ module _ (inner : Inner) where
     expression_moves (Expr-F.Name name) = steps_first _
     expression_moves (Expr-F.Literal constant) = takes_moves _ (literal_takes constant)
     expression_moves (Expr-F.ListOf es) = steps_first _
+    expression_moves (Expr-F.TupleOf es) = steps_first _
     expression_moves (Expr-F.Conditional test first second) = steps_first _
     expression_moves (Expr-F.Or es) = or_moves es
     expression_moves (Expr-F.And es) = and_moves es
@@ -179,11 +180,6 @@ module _ (inner : Inner) where
   deleted_takes (target.Name name) = takes_first _ _ (takes_first _ _ (takes_step _))
   deleted_takes (target.Item on at) = takes_step _
 
-  assigned_takes : (into : Target) (e : Expr) → Takes (assigned inner into e)
-  unfolding assign assign_item
-  assigned_takes (target.Name name) e = takes_step _
-  assigned_takes (target.Item on at) e = takes_step _
-
   augment_takes : (into : Target) (o : Op) (e : Expr) → Takes (augment_at inner into o e)
   unfolding augment augment_item
   augment_takes (target.Name name) o e = takes_step _
@@ -194,19 +190,19 @@ module _ (inner : Inner) where
   return_takes (Some e) = takes_first _ _ (takes_step _)
 
   statement_takes : (x : Stmt-F Stmt Arm Def) → Takes (statement inner x)
-  unfolding define repeat for_each
+  unfolding assign define repeat for_each
   statement_takes Stmt-F.Pass = takes_step _
   statement_takes Stmt-F.Break = takes_step _
   statement_takes Stmt-F.Continue = takes_step _
   statement_takes (Stmt-F.Return e) = return_takes e
   statement_takes (Stmt-F.Global names) = takes_step _
   statement_takes (Stmt-F.Delete into) = deleted_takes into
-  statement_takes (Stmt-F.Assign into e) = assigned_takes into e
+  statement_takes (Stmt-F.Assign targets comma e) = takes_step _
   statement_takes (Stmt-F.Augment into o e) = augment_takes into o e
   statement_takes (Stmt-F.Expression e) = takes_first _ _ (takes_step _)
   statement_takes (Stmt-F.If tests other) = takes_step _
   statement_takes (Stmt-F.While test body) = takes_step _
-  statement_takes (Stmt-F.For name source body) = takes_first _ _ (takes_step _)
+  statement_takes (Stmt-F.For names comma source body) = takes_first _ _ (takes_step _)
   statement_takes (Stmt-F.Function def) = takes_step _
 
   block_moves : ((s : Stmt) → Takes (inner.exec s)) → (body : List Stmt) → Moves (block inner body)
@@ -298,8 +294,8 @@ module _ (inner : Inner) (test : Expr) (body : List Stmt) (draws : List Drawn) w
 
 -- ---- what a `for` does
 
-others_take : (name : Name) (held : Value) → Takes (step >> store name held)
-others_take name held = takes_step _
+others_take : (names : List Name) (comma : Bool) (held : Value) → Takes (step >> names_given comma names held)
+others_take names comma held = takes_step _
 
 rises_to : {A : Type 0} (p : Act A) (draws : List Drawn) (m n : Machine) (a : A) → run p draws m ≡ (Ok a, n) → Rises m n
 rises_to {A = A} p draws m n a e = subst (λ (o : Outcome A). Rises m o.1) e (rises p draws m)
@@ -307,7 +303,7 @@ rises_to {A = A} p draws m n a e = subst (λ (o : Outcome A). Rises m o.1) e (ri
 ends_later : {A : Type 0} (p : Act A) → Takes p → (draws : List Drawn) (m n : Machine) (a : A) → run p draws m ≡ (Ok a, n) → Later m n
 ends_later {A = A} p h draws m n a e = subst (λ (o : Outcome A). EndsLater m o) e (h.takes draws m)
 
-module _ (inner : Inner) (name : Name) (body : List Stmt) (draws : List Drawn) where
+module _ (inner : Inner) (names : List Name) (comma : Bool) (body : List Stmt) (draws : List Drawn) where
   module _ (f g : Iteration → Act Flow) where
     flow_same : (ended : Flow) (rest : Iteration) (y : Machine) → run (f rest) draws y ≡ run (g rest) draws y → run (after_turn ended (f rest)) draws y ≡ run (after_turn ended (g rest)) draws y
     flow_same flow.Next rest y h = h
@@ -328,27 +324,27 @@ module _ (inner : Inner) (name : Name) (body : List Stmt) (draws : List Drawn) w
         (λ ended z e. flow_same ended rest z (h rest z (passes_on m y z l (rises_to (block inner body) draws y z ended e))))
 
     next_same : (m x : Machine) (next : Next) → m.steps ≤ x.steps → ((rest : Iteration) (y : Machine) → Later m y → run (f rest) draws y ≡ run (g rest) draws y)
-        → run (turn inner name next (λ rest. block inner body >>= (λ ended. after_turn ended (f rest)))) draws x ≡ run (turn inner name next (λ rest. block inner body >>= (λ ended. after_turn ended (g rest)))) draws x
+        → run (turn inner names comma next (λ rest. block inner body >>= (λ ended. after_turn ended (f rest)))) draws x ≡ run (turn inner names comma next (λ rest. block inner body >>= (λ ended. after_turn ended (g rest)))) draws x
     next_same m x None s h = refl
     next_same m x (Some next) s h =
-        after_same (run (step >> store name next.0) draws x) (λ u. run (block inner body >>= (λ ended. after_turn ended (f next.1))) draws) (λ u. run (block inner body >>= (λ ended. after_turn ended (g next.1))) draws)
-        (λ u y e. block_same m y next.1 (passes m x y s (ends_later (step >> store name next.0) (others_take name next.0) draws x y u e)) h)
+        after_same (run (step >> names_given comma names next.0) draws x) (λ u. run (block inner body >>= (λ ended. after_turn ended (f next.1))) draws) (λ u. run (block inner body >>= (λ ended. after_turn ended (g next.1))) draws)
+        (λ u y e. block_same m y next.1 (passes m x y s (ends_later (step >> names_given comma names next.0) (others_take names comma next.0) draws x y u e)) h)
 
     for_same : (from : Iteration) (m : Machine) → ((rest : Iteration) (y : Machine) → Later m y → run (f rest) draws y ≡ run (g rest) draws y)
-        → run (for_turn inner name body from f) draws m ≡ run (for_turn inner name body from g) draws m
+        → run (for_turn inner names comma body from f) draws m ≡ run (for_turn inner names comma body from g) draws m
     for_same from m h =
-        after_same (run (advance from) draws m) (λ next. run (turn inner name next (λ rest. block inner body >>= (λ ended. after_turn ended (f rest)))) draws) (λ next. run (turn inner name next (λ rest. block inner body >>= (λ ended. after_turn ended (g rest)))) draws)
+        after_same (run (advance from) draws m) (λ next. run (turn inner names comma next (λ rest. block inner body >>= (λ ended. after_turn ended (f rest)))) draws) (λ next. run (turn inner names comma next (λ rest. block inner body >>= (λ ended. after_turn ended (g rest)))) draws)
         (λ next x e. next_same m x next (rises_to (advance from) draws m x next e).steps h)
 
-  rounds_are : (n : ℕ) (from : Iteration) (m : Machine) → run (rounds inner (suc n) name body from) draws m ≡ run (for_turn inner name body from (rounds inner n name body)) draws m
+  rounds_are : (n : ℕ) (from : Iteration) (m : Machine) → run (rounds inner (suc n) names comma body from) draws m ≡ run (for_turn inner names comma body from (rounds inner n names comma body)) draws m
   unfolding rounds
   rounds_are n from m = refl
 
-  rounds_from : (n j : ℕ) (from : Iteration) (m : Machine) → ((rest : Iteration) (y : Machine) → Later m y → run (rounds inner n name body rest) draws y ≡ run (rounds inner j name body rest) draws y)
-      → run (rounds inner (suc n) name body from) draws m ≡ run (rounds inner (suc j) name body from) draws m
-  rounds_from n j from m rest = rounds_are n from m ∙ (for_same (rounds inner n name body) (rounds inner j name body) from m rest ∙ sym (rounds_are j from m))
+  rounds_from : (n j : ℕ) (from : Iteration) (m : Machine) → ((rest : Iteration) (y : Machine) → Later m y → run (rounds inner n names comma body rest) draws y ≡ run (rounds inner j names comma body rest) draws y)
+      → run (rounds inner (suc n) names comma body from) draws m ≡ run (rounds inner (suc j) names comma body from) draws m
+  rounds_from n j from m rest = rounds_are n from m ∙ (for_same (rounds inner n names comma body) (rounds inner j names comma body) from m rest ∙ sym (rounds_are j from m))
 
-  rounds_same : (n j : ℕ) (from : Iteration) (m : Machine) → 1000000 ≤ n + m.steps → 1000000 ≤ j + m.steps → run (rounds inner (suc n) name body from) draws m ≡ run (rounds inner (suc j) name body from) draws m
+  rounds_same : (n j : ℕ) (from : Iteration) (m : Machine) → 1000000 ≤ n + m.steps → 1000000 ≤ j + m.steps → run (rounds inner (suc n) names comma body from) draws m ≡ run (rounds inner (suc j) names comma body from) draws m
   rounds_same zero j from m h k = rounds_from zero j from m (λ rest y l. absurd (omega (arith, l.more, l.few)))
   rounds_same (suc n) zero from m h k = rounds_from (suc n) zero from m (λ rest y l. absurd (omega (arith, l.more, l.few)))
   rounds_same (suc n) (suc j) from m h k = rounds_from (suc n) (suc j) from m (λ rest y l. rounds_same n j rest y (omega (arith, l.more)) (omega (arith, l.more)))
@@ -367,12 +363,12 @@ module _ (levels : ℕ) where
   while_again test body draws m =
       sym (whiles_from 1000001 test body (omega arith) draws m) ∙ (turns_are (level levels) test body draws most_turns m ∙ sym (turn_is (level levels) test body draws (turns (level levels) most_turns test body) m))
 
-  fors_from : (n : ℕ) (name : Name) (body : List Stmt) (from : Iteration) → 1000000 ≤ n → RunAlike (rounds (level levels) (suc n) name body from) (rounds (level levels) most_turns name body from)
-  fors_from n name body from h draws m = rounds_same (level levels) name body draws n 1000000 from m (omega arith) (omega arith)
+  fors_from : (n : ℕ) (names : List Name) (comma : Bool) (body : List Stmt) (from : Iteration) → 1000000 ≤ n → RunAlike (rounds (level levels) (suc n) names comma body from) (rounds (level levels) most_turns names comma body from)
+  fors_from n names comma body from h draws m = rounds_same (level levels) names comma body draws n 1000000 from m (omega arith) (omega arith)
 
-  pub fors : (n : ℕ) (name : Name) (body : List Stmt) (from : Iteration) → most_turns ≤ n → RunAlike (rounds (level levels) n name body from) (rounds (level levels) most_turns name body from)
-  fors zero name body from h = absurd (omega arith)
-  fors (suc n) name body from h = fors_from n name body from (omega arith)
+  pub fors : (n : ℕ) (names : List Name) (comma : Bool) (body : List Stmt) (from : Iteration) → most_turns ≤ n → RunAlike (rounds (level levels) n names comma body from) (rounds (level levels) most_turns names comma body from)
+  fors zero names comma body from h = absurd (omega arith)
+  fors (suc n) names comma body from h = fors_from n names comma body from (omega arith)
 
-  pub for_again : (name : Name) (body : List Stmt) (from : Iteration) → RunAlike (rounds (level levels) most_turns name body from) (for_turn (level levels) name body from (rounds (level levels) most_turns name body))
-  for_again name body from draws m = sym (fors_from 1000001 name body from (omega arith) draws m) ∙ rounds_are (level levels) name body draws most_turns from m
+  pub for_again : (names : List Name) (comma : Bool) (body : List Stmt) (from : Iteration) → RunAlike (rounds (level levels) most_turns names comma body from) (for_turn (level levels) names comma body from (rounds (level levels) most_turns names comma body))
+  for_again names comma body from draws m = sym (fors_from 1000001 names comma body from (omega arith) draws m) ∙ rounds_are (level levels) names comma body draws most_turns from m

@@ -90,6 +90,7 @@ more_value ps qs k _ _ (refs a b p) = refs a b (k a b p)
 
 pub more_object : (ps qs : ℕ → ℕ → Type 0) → IsWithin ps qs → (o u : Object) → ObjectsMatch ps o u → ObjectsMatch qs o u
 more_object ps qs k (object.List items) (object.List others) h = AllZip-more (ValuesMatch ps) (ValuesMatch qs) (more_value ps qs k) items others h
+more_object ps qs k (object.Tuple items) (object.Tuple others) h = AllZip-more (ValuesMatch ps) (ValuesMatch qs) (more_value ps qs k) items others h
 more_object ps qs k (object.Dict pairs) (object.Dict others) h = AllZip-more (PairsMatch ps) (PairsMatch qs) (λ p q m. (m.0, more_value ps qs k p.1 q.1 m.1)) pairs others h
 more_object ps qs k (object.Function def) (object.Function other) h = h
 more_object ps qs k (object.Handle name uses) (object.Handle other others) h = h
@@ -101,6 +102,7 @@ turned_value ps _ _ (refs a b p) = refs b a p
 
 pub turned_object : (ps : ℕ → ℕ → Type 0) (o u : Object) → ObjectsMatch ps o u → ObjectsMatch (Turned ps) u o
 turned_object ps (object.List items) (object.List others) h = AllZip-turned (ValuesMatch ps) (ValuesMatch (Turned ps)) (turned_value ps) items others h
+turned_object ps (object.Tuple items) (object.Tuple others) h = AllZip-turned (ValuesMatch ps) (ValuesMatch (Turned ps)) (turned_value ps) items others h
 turned_object ps (object.Dict pairs) (object.Dict others) h = AllZip-turned (PairsMatch ps) (PairsMatch (Turned ps)) (λ p q m. (sym m.0, turned_value ps p.1 q.1 m.1)) pairs others h
 turned_object ps (object.Function def) (object.Function other) h = sym h
 turned_object ps (object.Handle name uses) (object.Handle other others) h = (sym h.0, sym h.1)
@@ -115,11 +117,14 @@ value_through ps qs _ _ _ (refs a b p) (equal _ n) = cc
 pub object_through : (ps qs : ℕ → ℕ → Type 0) (o u w : Object) → ObjectsMatch ps o u → ObjectsMatch qs u w → ObjectsMatch (Through ps qs) o w
 object_through ps qs (object.List vs) (object.List ws) (object.List xs) h g =
     AllZip-through (ValuesMatch ps) (ValuesMatch qs) (ValuesMatch (Through ps qs)) (value_through ps qs) vs ws xs h g
+object_through ps qs (object.Tuple vs) (object.Tuple ws) (object.Tuple xs) h g =
+    AllZip-through (ValuesMatch ps) (ValuesMatch qs) (ValuesMatch (Through ps qs)) (value_through ps qs) vs ws xs h g
 object_through ps qs (object.Dict vs) (object.Dict ws) (object.Dict xs) h g =
     AllZip-through (PairsMatch ps) (PairsMatch qs) (PairsMatch (Through ps qs)) (λ p q r m n. (m.0 ∙ n.0, value_through ps qs p.1 q.1 r.1 m.1 n.1)) vs ws xs h g
 object_through ps qs (object.Function def) (object.Function other) (object.Function third) h g = h ∙ g
 object_through ps qs (object.Handle name uses) (object.Handle other others) (object.Handle third last) h g = (h.0 ∙ g.0, h.1 ∙ g.1)
 object_through ps qs (object.List vs) (object.List ws) _ h g = absurd g
+object_through ps qs (object.Tuple vs) (object.Tuple ws) _ h g = absurd g
 object_through ps qs (object.Dict vs) (object.Dict ws) _ h g = absurd g
 object_through ps qs (object.Function def) (object.Function other) _ h g = absurd g
 object_through ps qs (object.Handle name uses) (object.Handle other others) _ h g = absurd g
@@ -150,6 +155,7 @@ module _ (ps : ℕ → ℕ → Type 0) where
 
   pub object_itself : (o : Object) → ((a : ℕ) → Contains (object_refs o) a → ps a a) → ObjectsMatch ps o o
   object_itself (object.List items) k = items_themselves items k
+  object_itself (object.Tuple items) k = items_themselves items k
   object_itself (object.Dict pairs) k = pairs_themselves pairs k
   object_itself (object.Function def) k = refl
   object_itself (object.Handle name uses) k = (refl, refl)

@@ -8,6 +8,7 @@ use Rattle.py_value.specs.declared.value.Value.TheVariants as value
 use Rattle.py_value.specs.Reprs.{key_text}
 use Rattle.py_value.specs.Values.{weight}
 use Rattle.py_heap.specs.declared.heap.Object.{Object}
+use Rattle.py_heap.specs.declared.heap.SequenceKind.TheVariants as sequences
 use Rattle.py_heap.specs.Dicts.{value_under}
 use Rattle.py_heap.specs.References.{value_refs}
 use Rattle.py_machine.specs.declared.frame.Change.TheVariants as changes
@@ -266,7 +267,7 @@ module _ (c : Setting) where
 
   plain_split : (text : List ℕ) (v : Value) → Gives c (split text v) (split text v)
   plain_split text (value.Text []) = fail_respects c (Values c) empty_separator empty_separator refl
-  plain_split text (value.Text (x ∷ separator)) = joined_respects c _ _ (texts_match (split_at (x ∷ separator) text))
+  plain_split text (value.Text (x ∷ separator)) = joined_respects c sequences.List _ _ (texts_match (split_at (x ∷ separator) text))
   plain_split text v = wrong_gives (codes "split")
 
   split_respects : (text : List ℕ) (v w : Value) → Values c v w → Gives c (split text v) (split text w)

@@ -52,6 +52,7 @@ module _ (ps : ℕ → ℕ → Type 0) (P Q : ℕ → Type 0) where
 
   narrow_object : (o u : Option Object) → Each (held_refs object_refs o) (held_refs object_refs u) → Both (ObjectsMatch ps) o u → Both (ObjectsMatch Narrow) o u
   narrow_object (Some (object.List vs)) (Some (object.List ws)) k h = items vs ws k h
+  narrow_object (Some (object.Tuple vs)) (Some (object.Tuple ws)) k h = items vs ws k h
   narrow_object (Some (object.Dict vs)) (Some (object.Dict ws)) k h = pairs vs ws k h
   narrow_object (Some (object.Function def)) (Some (object.Function other)) k h = h
   narrow_object (Some (object.Handle name uses)) (Some (object.Handle other others)) k h = h

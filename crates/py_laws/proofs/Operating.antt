@@ -9,17 +9,21 @@ use Rattle.py_value.specs.declared.value.Value.TheVariants as value
 use Rattle.py_value.specs.Values.{weight, is_zero}
 use Rattle.py_heap.specs.declared.heap.Object.{Object}
 use Rattle.py_heap.specs.declared.heap.Object.TheVariants as object
+use Rattle.py_heap.specs.declared.heap.SequenceKind.{SequenceKind}
+use Rattle.py_heap.specs.declared.heap.SequenceKind.TheVariants as sequences
+use Rattle.py_heap.specs.Sequences.{sequence}
 use Rattle.py_heap.specs.References.{value_refs}
 use Rattle.py_machine.specs.declared.kind.ValueKind.TheVariants as kind
 use Rattle.py_machine.specs.Errors.{overflow_error, division_error, unsupported_operands, bad_operand}
-use Rattle.py_meaning.specs.Acts.{Act, ◌>>=◌, pure, add}
+use Rattle.py_meaning.specs.Acts.{Act, pure, fail}
 use Rattle.py_meaning.specs.Truth.{object_true, truth_of}
 use Rattle.py_meaning.specs.Numbers.{fits, number, as_number, floor, modulo, quotient, remainder, calculated}
-use Rattle.py_meaning.specs.Operators.{steps, list_units, joined, made_text, unsupported, lists_joined, lists_sum, together, times, list_repeated, ref_repeated, repeated, multiplied, combined, operated_by, operated, signed_number, no_sign, signed_by, signed}
-use Rattle.py_laws.specs.Same.{equal, refs}
+use Rattle.py_meaning.specs.Operators.{steps, sequence_units, made, joined, made_text, unsupported, objects_joined, refs_joined, together, times, object_repeated, ref_repeated, repeated, multiplied, combined, operated_by, operated, signed_number, no_sign, signed_by, signed}
+use Rattle.py_laws.specs.Same.{equal, refs, ObjectsMatch}
 use Rattle.py_laws.proofs.Zipped.{zip_length, zip_append, zip_repeat}
 use Rattle.py_laws.proofs.Respecting.{Setting, Paired, Respects, Any, Equal, next, pure_respects, fail_respects, choose_respects}
-use Rattle.py_laws.proofs.LeastActs.{Values, Slots, Listed, step_respects, charge_respects, add_respects, object_at_respects, list_at_respects, kind_of_respects}
+use Rattle.py_laws.proofs.LeastActs.{Values, Slots, step_respects, charge_respects, add_respects, object_at_respects, kind_of_respects}
+use Rattle.py_laws.proofs.Slotted.{Kinds, lists, tuples, dicts, functions, handles, neither, kinds}
 
 module _ (c : Setting) where
   abbrev pub Gives : Act Value → Act Value → Type 0
@@ -44,13 +48,14 @@ module _ (c : Setting) where
   pub same_weights : (vs ws : List Value) → AllZip (Values c) vs ws → sum_by weight vs ≡ sum_by weight ws
   same_weights vs ws h = same_sums 0 0 vs ws refl h
 
-  pub same_units : (vs ws : List Value) → AllZip (Values c) vs ws → list_units vs ≡ list_units ws
+  pub same_units : (vs ws : List Value) → AllZip (Values c) vs ws → sequence_units vs ≡ sequence_units ws
   same_units vs ws h = ap (λ x. 1 + x) (same_weights vs ws h)
 
   -- ---- truth
 
   same_truth : (o u : Option Object) → Slots c o u → object_true o ≡ object_true u
   same_truth (Some (object.List vs)) (Some (object.List ws)) h = ap (λ n. not (n == 0)) (zip_length (Values c) vs ws h)
+  same_truth (Some (object.Tuple vs)) (Some (object.Tuple ws)) h = ap (λ n. not (n == 0)) (zip_length (Values c) vs ws h)
   same_truth (Some (object.Dict vs)) (Some (object.Dict ws)) h = ap (λ n. not (n == 0)) (zip_length _ vs ws h)
   same_truth (Some (object.Function def)) (Some (object.Function other)) h = refl
   same_truth (Some (object.Handle name uses)) (Some (object.Handle other others)) h = refl
@@ -105,16 +110,23 @@ module _ (c : Setting) where
   pub steps_respect : (n m : ℕ) → n ≡ m → Respects c Any (steps n) (steps m)
   steps_respect n m e = subst (λ k. Respects c Any (steps n) (steps k)) e (steps_same n)
 
-  -- a new list
-  pub made_respects : (vs ws : List Value) → AllZip (Values c) vs ws → Gives (add (object.List vs) >>= (λ at. pure (value.Ref at))) (add (object.List ws) >>= (λ at. pure (value.Ref at)))
-  made_respects vs ws h = next c (add_respects c (object.List vs) (object.List ws) h (c.rules.list_fit vs)) λ a b p. pure_respects c (Values c) (value.Ref a) (value.Ref b) (refs a b p)
+  -- a new list or tuple
+  sequences_match : (kind : SequenceKind) (vs ws : List Value) → AllZip (Values c) vs ws → ObjectsMatch (Paired c) (sequence kind vs) (sequence kind ws)
+  sequences_match sequences.List vs ws h = h
+  sequences_match sequences.Tuple vs ws h = h
 
-  pub joined_respects : (vs ws : List Value) → AllZip (Values c) vs ws → Gives (joined vs) (joined ws)
+  pub made_respects : (kind : SequenceKind) (vs ws : List Value) → AllZip (Values c) vs ws → Gives (made kind vs) (made kind ws)
+  unfolding made
+  made_respects kind vs ws h =
+      next c (add_respects c (sequence kind vs) (sequence kind ws) (sequences_match kind vs ws h) (c.rules.sequence_fit kind vs)) λ a b p.
+      pure_respects c (Values c) (value.Ref a) (value.Ref b) (refs a b p)
+
+  pub joined_respects : (kind : SequenceKind) (vs ws : List Value) → AllZip (Values c) vs ws → Gives (joined kind vs) (joined kind ws)
   unfolding joined
-  joined_respects vs ws h =
-      next c (charge_respects c (list_units vs) (list_units ws) (same_units vs ws h)) λ _ _ _.
+  joined_respects kind vs ws h =
+      next c (charge_respects c (sequence_units vs) (sequence_units ws) (same_units vs ws h)) λ _ _ _.
       next c (steps_respect (length vs) (length ws) (zip_length (Values c) vs ws h)) λ _ _ _.
-      made_respects vs ws h
+      made_respects kind vs ws h
 
   text_same : (text : List ℕ) → Gives (made_text text) (made_text text)
   unfolding made_text
@@ -132,21 +144,18 @@ module _ (c : Setting) where
       next c (kind_of_respects c v w k) λ l m f.
       fail_respects c (Values c) (unsupported_operands o i l) (unsupported_operands o j m) (ap₂ (λ s t. unsupported_operands o s t) e f)
 
-  lists_joined_respects : (a b x y : ℕ) (o u o' u' : Option (List Value)) → Paired c a b → Paired c x y → Listed c o u → Listed c o' u' → Gives (lists_joined a x o o') (lists_joined b y u u')
-  lists_joined_respects a b x y (Some vs) (Some ws) (Some xs) (Some ys) p q h k = joined_respects (vs ++ xs) (ws ++ ys) (zip_append (Values c) vs ws xs ys h k)
-  lists_joined_respects a b x y None None o' u' p q h k = unsupported_respects op.Plus (value.Ref a) (value.Ref b) (value.Ref x) (value.Ref y) (refs a b p) (refs x y q)
-  lists_joined_respects a b x y (Some vs) (Some ws) None None p q h k = unsupported_respects op.Plus (value.Ref a) (value.Ref b) (value.Ref x) (value.Ref y) (refs a b p) (refs x y q)
-  lists_joined_respects a b x y (Some vs) (Some ws) (Some xs) None p q h k = absurd k
-  lists_joined_respects a b x y (Some vs) (Some ws) None (Some ys) p q h k = absurd k
-  lists_joined_respects a b x y (Some vs) None o' u' p q h k = absurd h
-  lists_joined_respects a b x y None (Some ws) o' u' p q h k = absurd h
+  objects_joined_respects : (a b x y : ℕ) (o u o' u' : Option Object) → Paired c a b → Paired c x y → Kinds (Paired c) o u → Kinds (Paired c) o' u'
+      → Gives (objects_joined a x o o') (objects_joined b y u u')
+  objects_joined_respects a b x y _ _ _ _ p q (lists vs ws h) (lists xs ys k) = joined_respects sequences.List (vs ++ xs) (ws ++ ys) (zip_append (Values c) vs ws xs ys h k)
+  objects_joined_respects a b x y _ _ _ _ p q (tuples vs ws h) (tuples xs ys k) = joined_respects sequences.Tuple (vs ++ xs) (ws ++ ys) (zip_append (Values c) vs ws xs ys h k)
+  objects_joined_respects a b x y o u o' u' p q _ _ = unsupported_respects op.Plus (value.Ref a) (value.Ref b) (value.Ref x) (value.Ref y) (refs a b p) (refs x y q)
 
-  lists_sum_respects : (a b x y : ℕ) → Paired c a b → Paired c x y → Gives (lists_sum a x) (lists_sum b y)
-  unfolding lists_sum
-  lists_sum_respects a b x y p q =
-      next c (list_at_respects c a b p) λ o u h.
-      next c (list_at_respects c x y q) λ o' u' k.
-      lists_joined_respects a b x y o u o' u' p q h k
+  refs_joined_respect : (a b x y : ℕ) → Paired c a b → Paired c x y → Gives (refs_joined a x) (refs_joined b y)
+  unfolding refs_joined
+  refs_joined_respect a b x y p q =
+      next c (object_at_respects c a b p) λ o u h.
+      next c (object_at_respects c x y q) λ o' u' k.
+      objects_joined_respects a b x y o u o' u' p q (kinds c o u h) (kinds c o' u' k)
 
   plain_together : (x v : Value) → value_refs x ≡ [] → value_refs v ≡ [] → Gives (together x v) (together x v)
   plain_together (value.Text text) (value.Text more) n m = text_same (text ++ more)
@@ -165,17 +174,16 @@ module _ (c : Setting) where
   together_respects _ _ _ _ (equal x n) (equal v m) = plain_together x v n m
   together_respects _ _ _ _ (equal x n) (refs a b p) = value_and_ref x a b n p
   together_respects _ _ _ _ (refs a b p) (equal v n) = ref_and_value a b v p n
-  together_respects _ _ _ _ (refs a b p) (refs x y q) = lists_sum_respects a b x y p q
+  together_respects _ _ _ _ (refs a b p) (refs x y q) = refs_joined_respect a b x y p q
 
-  list_repeated_respects : (n : ℤ) (x y v w : Value) (o u : Option (List Value)) → Values c x y → Values c v w → Listed c o u → Gives (list_repeated n x v o) (list_repeated n y w u)
-  list_repeated_respects n x y v w (Some vs) (Some ws) h k l = joined_respects (repeat (times n) vs) (repeat (times n) ws) (zip_repeat (Values c) (times n) vs ws l)
-  list_repeated_respects n x y v w None None h k l = unsupported_respects op.Times x y v w h k
-  list_repeated_respects n x y v w (Some vs) None h k l = absurd l
-  list_repeated_respects n x y v w None (Some ws) h k l = absurd l
+  object_repeated_respects : (n : ℤ) (x y v w : Value) (o u : Option Object) → Values c x y → Values c v w → Kinds (Paired c) o u → Gives (object_repeated n x v o) (object_repeated n y w u)
+  object_repeated_respects n x y v w _ _ h k (lists vs ws l) = joined_respects sequences.List (repeat (times n) vs) (repeat (times n) ws) (zip_repeat (Values c) (times n) vs ws l)
+  object_repeated_respects n x y v w _ _ h k (tuples vs ws l) = joined_respects sequences.Tuple (repeat (times n) vs) (repeat (times n) ws) (zip_repeat (Values c) (times n) vs ws l)
+  object_repeated_respects n x y v w o u h k _ = unsupported_respects op.Times x y v w h k
 
   ref_repeated_respects : (n : ℤ) (x y v w : Value) (a b : ℕ) → Values c x y → Values c v w → Paired c a b → Gives (ref_repeated n x v a) (ref_repeated n y w b)
   unfolding ref_repeated
-  ref_repeated_respects n x y v w a b h k p = next c (list_at_respects c a b p) λ o u l. list_repeated_respects n x y v w o u h k l
+  ref_repeated_respects n x y v w a b h k p = next c (object_at_respects c a b p) λ o u l. object_repeated_respects n x y v w o u h k (kinds c o u l)
 
   plain_repeated : (n : ℤ) (x y v w held : Value) → Values c x y → Values c v w → value_refs held ≡ [] → Gives (repeated n x v held) (repeated n y w held)
   plain_repeated n x y v w (value.Text text) h k none = text_same (repeat (times n) text)

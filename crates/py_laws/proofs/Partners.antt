@@ -66,8 +66,10 @@ module _ (ps : ℕ → ℕ → Type 0) where
 
   object_partner : (o u : Option Object) → Both (ObjectsMatch ps) o u → (a : ℕ) → Contains (held_refs object_refs o) a → Partner (held_refs object_refs u) a
   object_partner (Some (object.List vs)) (Some (object.List ws)) m a h = items_partner vs ws m a h
+  object_partner (Some (object.Tuple vs)) (Some (object.Tuple ws)) m a h = items_partner vs ws m a h
   object_partner (Some (object.Dict vs)) (Some (object.Dict ws)) m a h = pairs_partner vs ws m a h
   object_partner (Some (object.List vs)) (Some _) m a h = absurd m
+  object_partner (Some (object.Tuple vs)) (Some _) m a h = absurd m
   object_partner (Some (object.Dict vs)) (Some _) m a h = absurd m
   object_partner (Some (object.Function def)) u m a h = absurd (none_in a h)
   object_partner (Some (object.Handle name uses)) u m a h = absurd (none_in a h)

@@ -15,6 +15,8 @@ use Rattle.py_tree.specs.declared.statements.Stmt.TheOpen.{Stmt-F}
 use Rattle.py_value.specs.declared.value.Value.{Value}
 use Rattle.py_heap.specs.declared.heap.Object.{Object}
 use Rattle.py_heap.specs.declared.heap.Object.TheVariants as object
+use Rattle.py_heap.specs.declared.heap.SequenceKind.{SequenceKind}
+use Rattle.py_heap.specs.Sequences.{sequence}
 use Rattle.py_machine.specs.declared.frame.Change.{Change}
 use Rattle.py_machine.specs.Changes.{changed}
 use Rattle.py_machine.specs.Runs.{Name}
@@ -39,6 +41,7 @@ abbrev pub Looks : (Name → Type 0) → (Expr → Type 0) → Expr-F Expr Relat
 Looks Known Evals (Expr-F.Name name) = Known name
 Looks Known Evals (Expr-F.Literal constant) = Unit {0}
 Looks Known Evals (Expr-F.ListOf es) = AllByRecursion Evals es
+Looks Known Evals (Expr-F.TupleOf es) = AllByRecursion Evals es
 Looks Known Evals (Expr-F.Conditional test first second) = Evals test × Evals first × Evals second
 Looks Known Evals (Expr-F.Or es) = AllByRecursion Evals es
 Looks Known Evals (Expr-F.And es) = AllByRecursion Evals es
@@ -64,12 +67,12 @@ BindsAt Binds Evals (target.Item on at) = Evals on × Evals at
 abbrev pub Opens : (Name → Type 0) → (Name → Type 0) → (Object → Type 0) → (Expr → Type 0) → (Stmt → Type 0) → Stmt-F Stmt Arm Def → Type 0
 Opens Binds Known Fit Evals Runs (Stmt-F.Return e) = IfEvals Evals e
 Opens Binds Known Fit Evals Runs (Stmt-F.Delete into) = BindsAt Known Evals into
-Opens Binds Known Fit Evals Runs (Stmt-F.Assign into e) = BindsAt Binds Evals into × Evals e
+Opens Binds Known Fit Evals Runs (Stmt-F.Assign targets comma e) = AllByRecursion (BindsAt Binds Evals) targets × Evals e
 Opens Binds Known Fit Evals Runs (Stmt-F.Augment into o e) = BindsAt Binds Evals into × Evals e
 Opens Binds Known Fit Evals Runs (Stmt-F.Expression e) = Evals e
 Opens Binds Known Fit Evals Runs (Stmt-F.If arms other) = AllByRecursion (λ arm. Evals (out-Arm arm).test × AllByRecursion Runs (out-Arm arm).body) arms × AllByRecursion Runs other
 Opens Binds Known Fit Evals Runs (Stmt-F.While test body) = Evals test × AllByRecursion Runs body
-Opens Binds Known Fit Evals Runs (Stmt-F.For name source body) = Binds name × Evals source × AllByRecursion Runs body
+Opens Binds Known Fit Evals Runs (Stmt-F.For names comma source body) = AllByRecursion Binds names × Evals source × AllByRecursion Runs body
 Opens Binds Known Fit Evals Runs (Stmt-F.Function def) = Binds def.name × Fit (object.Function def)
 Opens Binds Known Fit Evals Runs _ = Unit {0}
 
@@ -81,7 +84,7 @@ pub record Rules : Type 1 where
   pub evals : Expr → Type 0
   pub runs : Stmt → Type 0
   -- what a program adds is fit, but for functions; and so is what a change makes of an object that is fit
-  pub list_fit : (items : List Value) → fit (object.List items)
+  pub sequence_fit : (kind : SequenceKind) (items : List Value) → fit (sequence kind items)
   pub dict_fit : fit (object.Dict [])
   pub handle_fit : (name : List ℕ) (uses : ℕ) → fit (object.Handle name uses)
   pub change_fit : (p : Change) (o : Object) → fit o → IfThere fit (changed p o)
@@ -135,6 +138,7 @@ pub any_looks : (e : Expr-F Expr Relation Operand Pair) → Looks NameAny ExprAn
 any_looks (Expr-F.Name name) = tt
 any_looks (Expr-F.Literal constant) = tt
 any_looks (Expr-F.ListOf es) = any_values es
+any_looks (Expr-F.TupleOf es) = any_values es
 any_looks (Expr-F.Conditional test first second) = (tt, tt, tt)
 any_looks (Expr-F.Or es) = any_values es
 any_looks (Expr-F.And es) = any_values es
@@ -165,6 +169,14 @@ any_target : (into : Target) → BindsAt BoundAny ExprAny into
 any_target (target.Name name) = (tt, tt)
 any_target (target.Item on at) = (tt, tt)
 
+any_targets : (targets : List Target) → AllByRecursion (BindsAt BoundAny ExprAny) targets
+any_targets [] = tt
+any_targets (into ∷ targets) = (any_target into, any_targets targets)
+
+any_names : (names : List Name) → AllByRecursion BoundAny names
+any_names [] = tt
+any_names (name ∷ names) = ((tt, tt), any_names names)
+
 pub any_deleted : (into : Target) → BindsAt NameAny ExprAny into
 any_deleted (target.Name name) = tt
 any_deleted (target.Item on at) = (tt, tt)
@@ -172,12 +184,12 @@ any_deleted (target.Item on at) = (tt, tt)
 pub any_opens : (s : Stmt-F Stmt Arm Def) → Opens BoundAny NameAny ObjectAny ExprAny StmtAny s
 any_opens (Stmt-F.Return e) = any_if e
 any_opens (Stmt-F.Delete into) = any_deleted into
-any_opens (Stmt-F.Assign into e) = (any_target into, tt)
+any_opens (Stmt-F.Assign targets comma e) = (any_targets targets, tt)
 any_opens (Stmt-F.Augment into o e) = (any_target into, tt)
 any_opens (Stmt-F.Expression e) = tt
 any_opens (Stmt-F.If arms other) = (any_arms arms, any_body other)
 any_opens (Stmt-F.While test body) = (tt, any_body body)
-any_opens (Stmt-F.For name source body) = ((tt, tt), tt, any_body body)
+any_opens (Stmt-F.For names comma source body) = (any_names names, tt, any_body body)
 any_opens (Stmt-F.Function def) = ((tt, tt), tt)
 any_opens _ = tt
 
@@ -188,7 +200,7 @@ no_rules = record {
   fit = ObjectAny;
   evals = ExprAny;
   runs = StmtAny;
-  list_fit = λ items. tt;
+  sequence_fit = λ kind items. tt;
   dict_fit = tt;
   handle_fit = λ name uses. tt;
   change_fit = λ p o h. any_change (changed p o);

@@ -12,12 +12,14 @@ use Rattle.py_value.specs.declared.value.Value.TheVariants as value
 use Rattle.py_value.specs.Keys.{value_of}
 use Rattle.py_heap.specs.declared.heap.Object.{Object}
 use Rattle.py_heap.specs.declared.heap.Object.TheVariants as object
+use Rattle.py_heap.specs.declared.heap.SequenceKind.{SequenceKind}
+use Rattle.py_heap.specs.declared.heap.SequenceKind.TheVariants as sequences
 use Rattle.py_heap.specs.Dicts.{Pairs}
 use Rattle.py_heap.specs.References.{value_refs}
 use Rattle.py_heap.specs.Searches.{has}
 use Rattle.py_machine.specs.Errors.{recursion_error}
 use Rattle.py_meaning.specs.Acts.{Act, pure}
-use Rattle.py_meaning.specs.Shown.{Shows, more_items, all_items, open_text, function_text, handle_text, pair_text, more_pairs, all_pairs, object_shown, object_text, value_text, str_text, shown_one, shown, written}
+use Rattle.py_meaning.specs.Shown.{Shows, opening, closing, more_items, all_items, sequence_text, open_text, function_text, handle_text, pair_text, more_pairs, all_pairs, object_shown, object_text, value_text, str_text, shown_one, shown, written}
 use Rattle.py_laws.specs.Same.{equal, refs, PairsMatch}
 use Rattle.py_laws.proofs.Respecting.{Setting, Paired, Respects, Equal, next, pure_respects, fail_respects, choose_respects}
 use Rattle.py_laws.proofs.LeastActs.{Values, Slots, left_one, right_one, step_respects, object_at_respects}
@@ -64,21 +66,37 @@ module _ (c : Setting) where
   same_text text more e = pure_respects c Equal text more e
 
   module _ (below : Shows) (shows : ShowsAlike below) where
-    more_respect : (path route text : List ℕ) (vs ws : List Value) → Paths path route → AllZip (Values c) vs ws → Shown (more_items below path text vs) (more_items below route text ws)
-    more_respect path route text [] [] p h = same_text _ _ refl
-    more_respect path route text (v ∷ vs) (w ∷ ws) p h =
+    more_respect : (end path route text : List ℕ) (vs ws : List Value) → Paths path route → AllZip (Values c) vs ws → Shown (more_items below end path text vs) (more_items below end route text ws)
+    more_respect end path route text [] [] p h = same_text _ _ refl
+    more_respect end path route text (v ∷ vs) (w ∷ ws) p h =
         next c (shows path route (text ++ codes ", ") v w p h.0) λ longer other e.
-        subst (λ z. Shown (more_items below path longer vs) (more_items below route z ws)) e (more_respect path route longer vs ws p h.1)
-    more_respect path route text [] (w ∷ ws) p h = absurd h
-    more_respect path route text (v ∷ vs) [] p h = absurd h
+        subst (λ z. Shown (more_items below end path longer vs) (more_items below end route z ws)) e (more_respect end path route longer vs ws p h.1)
+    more_respect end path route text [] (w ∷ ws) p h = absurd h
+    more_respect end path route text (v ∷ vs) [] p h = absurd h
 
-    all_respect : (path route text : List ℕ) (vs ws : List Value) → Paths path route → AllZip (Values c) vs ws → Shown (all_items below path text vs) (all_items below route text ws)
-    all_respect path route text [] [] p h = same_text _ _ refl
-    all_respect path route text (v ∷ vs) (w ∷ ws) p h =
+    all_respect : (end path route text : List ℕ) (vs ws : List Value) → Paths path route → AllZip (Values c) vs ws → Shown (all_items below end path text vs) (all_items below end route text ws)
+    all_respect end path route text [] [] p h = same_text _ _ refl
+    all_respect end path route text (v ∷ vs) (w ∷ ws) p h =
         next c (shows path route text v w p h.0) λ longer other e.
-        subst (λ z. Shown (more_items below path longer vs) (more_items below route z ws)) e (more_respect path route longer vs ws p h.1)
-    all_respect path route text [] (w ∷ ws) p h = absurd h
-    all_respect path route text (v ∷ vs) [] p h = absurd h
+        subst (λ z. Shown (more_items below end path longer vs) (more_items below end route z ws)) e (more_respect end path route longer vs ws p h.1)
+    all_respect end path route text [] (w ∷ ws) p h = absurd h
+    all_respect end path route text (v ∷ vs) [] p h = absurd h
+
+    same_closing : (kind : SequenceKind) (vs ws : List Value) → AllZip (Values c) vs ws → closing kind vs ≡ closing kind ws
+    same_closing sequences.List vs ws h = refl
+    same_closing sequences.Tuple [] [] h = refl
+    same_closing sequences.Tuple (v ∷ []) (w ∷ []) h = refl
+    same_closing sequences.Tuple (v ∷ v' ∷ vs) (w ∷ w' ∷ ws) h = refl
+    same_closing sequences.Tuple [] (w ∷ ws) h = absurd h
+    same_closing sequences.Tuple (v ∷ vs) [] h = absurd h
+    same_closing sequences.Tuple (v ∷ []) (w ∷ w' ∷ ws) h = absurd h.1
+    same_closing sequences.Tuple (v ∷ v' ∷ vs) (w ∷ []) h = absurd h.1
+
+    sequence_respects : (kind : SequenceKind) (path route text : List ℕ) (a b : ℕ) (vs ws : List Value) → Paths path route → Paired c a b → AllZip (Values c) vs ws
+        → Shown (sequence_text below kind path text a vs) (sequence_text below kind route text b ws)
+    sequence_respects kind path route text a b vs ws p q h =
+        subst (λ (end : List ℕ). Shown (sequence_text below kind path text a vs) (all_items below end (route ++ b ∷ []) (text ++ opening kind) ws)) (same_closing kind vs ws h)
+        (all_respect (closing kind vs) (path ++ a ∷ []) (route ++ b ∷ []) (text ++ opening kind) vs ws (AllZip-push (Paired c) path route a b p q) h)
 
     pair_respects : (path route text : List ℕ) (x y : Key × Value) → Paths path route → PairsMatch (Paired c) x y → Shown (pair_text below path text x) (pair_text below route text y)
     pair_respects path route text x y p h =
@@ -102,7 +120,8 @@ module _ (c : Setting) where
     all_pairs_respect path route text (v ∷ vs) [] p h = absurd h
 
     shown_object : (path route text : List ℕ) (a b : ℕ) (o u : Option Object) → Paths path route → Paired c a b → Slots c o u → Shown (object_shown below path text a o) (object_shown below route text b u)
-    shown_object path route text a b (Some (object.List vs)) (Some (object.List ws)) p q h = all_respect (path ++ a ∷ []) (route ++ b ∷ []) (text ++ codes "[") vs ws (AllZip-push (Paired c) path route a b p q) h
+    shown_object path route text a b (Some (object.List vs)) (Some (object.List ws)) p q h = sequence_respects sequences.List path route text a b vs ws p q h
+    shown_object path route text a b (Some (object.Tuple vs)) (Some (object.Tuple ws)) p q h = sequence_respects sequences.Tuple path route text a b vs ws p q h
     shown_object path route text a b (Some (object.Dict vs)) (Some (object.Dict ws)) p q h = all_pairs_respect (path ++ a ∷ []) (route ++ b ∷ []) (text ++ codes "{") vs ws (AllZip-push (Paired c) path route a b p q) h
     shown_object path route text a b (Some (object.Function def)) (Some (object.Function other)) p q h = same_text _ _ (ap (λ (d : Def). text ++ function_text d.name) h)
     shown_object path route text a b (Some (object.Handle name uses)) (Some (object.Handle other others)) p q h = same_text _ _ (ap (λ (x : List ℕ). text ++ handle_text x) h.0)
@@ -113,6 +132,7 @@ module _ (c : Setting) where
 
     same_open_text : (o u : Option Object) → Slots c o u → open_text o ≡ open_text u
     same_open_text (Some (object.List vs)) (Some (object.List ws)) h = refl
+    same_open_text (Some (object.Tuple vs)) (Some (object.Tuple ws)) h = refl
     same_open_text (Some (object.Dict vs)) (Some (object.Dict ws)) h = refl
     same_open_text (Some (object.Function def)) (Some (object.Function other)) h = refl
     same_open_text (Some (object.Handle name uses)) (Some (object.Handle other others)) h = refl

@@ -1,7 +1,7 @@
 -- What needs no level below respects alikeness: constants, built-in functions, frames, names, dict displays, results.
-use Rattle.std.proofs.Common.{◌≡◌, ℕ, ℤ, List, [], ◌∷◌, ◌++◌, length, Option, Some, None, Result, Ok, Err, refl, ap, subst}
+use Rattle.std.proofs.Common.{◌≡◌, ℕ, ℤ, Bool, true, false, List, [], ◌∷◌, ◌++◌, length, Option, Some, None, Result, Ok, Err, refl, ap, subst}
 use Rattle.std.specs.Prelude.{◌+◌, pos, codes}
-use Rattle.std.specs.List.{AllZip}
+use Rattle.std.specs.List.{AllZip, AllByRecursion}
 use Rattle.std.specs.FinMap as finite
 use Rattle.std.specs.Cmp.Lexicographic.{slice_cmp}
 use Rattle.std.specs.Ordering.{nat_cmp}
@@ -35,7 +35,7 @@ use Rattle.py_meaning.specs.Acts.{Act, pure, fail}
 use Rattle.py_meaning.specs.Numbers.{as_number}
 use Rattle.py_meaning.specs.Operators.{operated}
 use Rattle.py_meaning.specs.Methods.{pairs_in}
-use Rattle.py_meaning.specs.Meaning.{literal_value, not_called, drawn, draw_called, object_length, length_of, len_called, number_read, text_as_int, as_int, int_called, opened, open_handle, handle_called, object_told, told_at, tell, tell_called, with_empty, with_held, frame_of, returned, text_units, store, extended, refs_added, added, augmented, delete, define, keys_from, put, filled, result_text, result}
+use Rattle.py_meaning.specs.Meaning.{literal_value, not_called, drawn, draw_called, object_length, length_of, len_called, number_read, text_as_int, as_int, int_called, opened, open_handle, handle_called, object_told, told_at, tell, tell_called, with_empty, with_held, frame_of, returned, text_units, store, names_stored, names_given, extended, refs_added, added, augmented, delete, define, keys_from, put, filled, result_text, result}
 use Rattle.py_laws.specs.Same.{equal, refs, PairsMatch}
 use Rattle.py_laws.proofs.Zipped.{zip_length, Zips, no_more, one_more}
 use Rattle.py_laws.proofs.Respecting.{Setting, Paired, SlotsMatch, empty, held, FramesMatch, FlowsMatch, to_next, breaks, continues, returns, use_, Respects, Any, Equal, next, pure_respects, fail_respects, choose_respects}
@@ -43,6 +43,7 @@ use Rattle.py_laws.proofs.LeastActs.{Values, Slots, Listed, bound_match, charge_
 use Rattle.py_laws.proofs.Slotted.{Kinds, handles, kinds}
 use Rattle.py_laws.proofs.Showing.{shown_respects}
 use Rattle.py_laws.proofs.Operating.{Gives, plain_gives, same_number, operated_respects}
+use Rattle.py_laws.proofs.Unpacking.{unpacked_respects}
 use Rattle.py_laws.proofs.Itemizing.{Entries, keyed_respects, put_in_respects}
 use Rattle.py_laws.proofs.Methodical.{extend_respects, pairs_in_match}
 
@@ -87,6 +88,7 @@ module _ (c : Setting) where
 
   object_length_respects : (o u : Option Object) → Slots c o u → Gives c (object_length o) (object_length u)
   object_length_respects (Some (object.List vs)) (Some (object.List ws)) h = same_length_value (length vs) (length ws) (zip_length (Values c) vs ws h)
+  object_length_respects (Some (object.Tuple vs)) (Some (object.Tuple ws)) h = same_length_value (length vs) (length ws) (zip_length (Values c) vs ws h)
   object_length_respects (Some (object.Dict vs)) (Some (object.Dict ws)) h = same_length_value (length vs) (length ws) (zip_length _ vs ws h)
   object_length_respects (Some (object.Function def)) (Some (object.Function other)) h = no_length
   object_length_respects (Some (object.Handle name uses)) (Some (object.Handle other others)) h = no_length
@@ -223,6 +225,22 @@ module _ (c : Setting) where
       next c (is_local_respects c name) λ b d e.
       choose_respects c Any b d _ _ _ _ e (bind_respects c name v w h may)
       (next c (charge_respects c (text_units v) (text_units w) (same_text_units v w h)) λ _ _ _. bind_respects c name v w h may)
+
+  -- names that may have a value, and that may be bound
+  abbrev pub MayBind : List Name → Type 0
+  MayBind = AllByRecursion (λ name. c.rules.may name × c.rules.known name)
+
+  names_stored_respect : (names : List Name) (vs ws : List Value) → MayBind names → AllZip (Values c) vs ws → Respects c Any (names_stored names vs) (names_stored names ws)
+  names_stored_respect (name ∷ names) (v ∷ vs) (w ∷ ws) may h = next c (store_respects name v w may.0 h.0) λ _ _ _. names_stored_respect names vs ws may.1 h.1
+  names_stored_respect [] vs ws may h = pure_respects c Any tt tt tt
+  names_stored_respect (name ∷ names) [] [] may h = pure_respects c Any tt tt tt
+  names_stored_respect (name ∷ names) [] (w ∷ ws) may h = absurd h
+  names_stored_respect (name ∷ names) (v ∷ vs) [] may h = absurd h
+
+  pub names_given_respect : (comma : Bool) (names : List Name) (v w : Value) → MayBind names → Values c v w → Respects c Any (names_given comma names v) (names_given comma names w)
+  names_given_respect true names v w may h = next c (unpacked_respects c (length names) v w h) λ vs ws k. names_stored_respect names vs ws may k
+  names_given_respect false (name ∷ others) v w may h = store_respects name v w may.0 h
+  names_given_respect false [] v w may h = pure_respects c Any tt tt tt
 
   -- ---- augmented assignments
 

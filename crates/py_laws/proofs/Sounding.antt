@@ -15,6 +15,7 @@ use Rattle.py_value.specs.declared.key.Key.{Key}
 use Rattle.py_value.specs.declared.value.Value.{Value}
 use Rattle.py_heap.specs.declared.heap.Object.{Object}
 use Rattle.py_heap.specs.declared.heap.Object.TheVariants as object
+use Rattle.py_heap.specs.declared.heap.SequenceKind.{SequenceKind}
 use Rattle.py_heap.specs.Dicts.{Pairs}
 use Rattle.py_heap.specs.Reaching.{held_refs}
 use Rattle.py_heap.specs.References.{value_refs, pair_refs, AreLive}
@@ -261,8 +262,8 @@ module _ (test : Def → Bool) (bodies : BodiesPass test) where
   pub deletions : (v at : Value) → KeepsSound test (value_refs v ++ value_refs at) (item_deleted v at)
   deletions v at = kept_by test bodies (λ c. Any) _ (item_deleted v at) (λ c k. item_deleted_respects c v v at at (value_alike c v (first c _ _ k)) (value_alike c at (rest c (value_refs v) _ k)))
 
-  pub lists : (items : List Value) → GivesSound test (flat_map value_refs items) (joined items)
-  lists items = given_by test bodies _ (joined items) (λ c k. joined_respects c items items (values_alike c items k))
+  pub sequences : (kind : SequenceKind) (items : List Value) → GivesSound test (flat_map value_refs items) (joined kind items)
+  sequences kind items = given_by test bodies _ (joined kind items) (λ c k. joined_respects c kind items items (values_alike c items k))
 
   pub texts : (text : List ℕ) → GivesSound test [] (made_text text)
   texts text = given_by test bodies [] (made_text text) (λ c k. made_text_respects c text text refl)

@@ -138,7 +138,7 @@ spared_kept = record {
   unbinds = unbinds_spare;
   frames = frames_spare;
   adds = adds_spare;
-  changes = changes_spare;
+  changes = λ at c new m e. changes_spare at new m;
   writes = λ bytes m. quiet m _ refl refl (none_goes m.marks) refl;
   draws = draws_spare;
 }

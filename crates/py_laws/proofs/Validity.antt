@@ -17,6 +17,9 @@ use Rattle.py_tree.specs.declared.statements.Stmt.TheFolds.{every-Stmt, every-Ar
 use Rattle.py_value.specs.declared.value.Value.{Value}
 use Rattle.py_heap.specs.declared.heap.Object.{Object}
 use Rattle.py_heap.specs.declared.heap.Object.TheVariants as object
+use Rattle.py_heap.specs.declared.heap.SequenceKind.{SequenceKind}
+use Rattle.py_heap.specs.declared.heap.SequenceKind.TheVariants as sequences
+use Rattle.py_heap.specs.Sequences.{sequence}
 use Rattle.py_heap.specs.declared.state.State.{State}
 use Rattle.py_heap.specs.Dicts.{Pairs, HasNoKeyTwice}
 use Rattle.py_heap.specs.Valid.{IsValidObject, IsValid}
@@ -96,18 +99,26 @@ module _ (IsOfKind : Def → Type 0) where
   binds (target.Name name) h = (h, tt)
   binds (target.Item on at) h = (tt, tt)
 
+  all_bind : (targets : List Target) → All MayBindAt targets → AllByRecursion (BindsAt Binds ExprAny) targets
+  all_bind [] h = tt
+  all_bind (into ∷ targets) h = (binds into (All-head MayBindAt into targets h), all_bind targets (All-tail MayBindAt into targets h))
+
+  all_named : (names : List Name) → All May names → AllByRecursion Binds names
+  all_named [] h = tt
+  all_named (name ∷ names) h = ((All-head May name names h, tt), all_named names (All-tail May name names h))
+
   abbrev OpensHere : Stmt-F Stmt Arm Def → Type 0
   OpensHere = Opens Binds NameAny Fit ExprAny Runs
 
   opens : (y : Stmt-F ThatRuns ArmThatRuns DefThatRuns) → IsAllowedHere IsOfKind (plain y) → OpensHere (plain y)
   opens (Stmt-F.Return e) h = any_if e
   opens (Stmt-F.Delete into) h = any_deleted into
-  opens (Stmt-F.Assign into e) h = (binds into h, tt)
+  opens (Stmt-F.Assign targets comma e) h = (all_bind targets h, tt)
   opens (Stmt-F.Augment into o e) h = (binds into h, tt)
   opens (Stmt-F.Expression e) h = tt
   opens (Stmt-F.If arms other) h = (arms_run arms, runs_each other)
   opens (Stmt-F.While condition body) h = (tt, runs_each body)
-  opens (Stmt-F.For name source body) h = ((h, tt), tt, runs_each body)
+  opens (Stmt-F.For names comma source body) h = (all_named names h, tt, runs_each body)
   opens (Stmt-F.Function def) h = ((h.0, tt), h.1)
   opens _ h = tt
 
@@ -144,9 +155,14 @@ module _ (IsOfKind : Def → Type 0) where
 
   pub stays_fit : (p : Change) (o : Object) → Fit o → IfThere Fit (changed p o)
   stays_fit p (object.List items) h = items_fit p items
+  stays_fit p (object.Tuple items) h = tt
   stays_fit p (object.Dict pairs) h = pairs_fit p pairs h
   stays_fit p (object.Function def) h = tt
   stays_fit p (object.Handle name uses) h = handle_fit p name uses
+
+  pub sequence_fit : (kind : SequenceKind) (items : List Value) → Fit (sequence kind items)
+  sequence_fit sequences.List items = tt
+  sequence_fit sequences.Tuple items = tt
 
   -- ---- the runs
 
@@ -158,7 +174,7 @@ module _ (IsOfKind : Def → Type 0) where
       fit = Fit;
       evals = ExprAny;
       runs = Runs;
-      list_fit = λ items. tt;
+      sequence_fit = sequence_fit;
       dict_fit = nothing_twice;
       handle_fit = λ name uses. tt;
       change_fit = stays_fit;

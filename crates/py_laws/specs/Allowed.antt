@@ -1,5 +1,5 @@
 -- Statements that bind only names that a program may bind, and define only functions of a kind.
-use Rattle.std.specs.Prelude.{Bool, IsTrue, List, All}
+use Rattle.std.specs.Prelude.{ℕ, Bool, IsTrue, List, All}
 use Rattle.py_names.specs.Names.{is_variable}
 use Rattle.py_tree.specs.declared.expressions.Target.{Target}
 use Rattle.py_tree.specs.declared.expressions.Target.TheVariants as target
@@ -14,11 +14,11 @@ abbrev pub MayBindAt : Target → Type 0
 MayBindAt (target.Name name) = IsTrue (is_variable name)
 MayBindAt (target.Item on at) = Unit {0}
 
--- a statement by itself: the name that it binds is one that a program may bind, and the function that it defines is of the kind
+-- a statement by itself: each name that it binds is one that a program may bind, and the function that it defines is of the kind
 abbrev pub IsAllowedHere : (Def → Type 0) → Stmt-F Stmt Arm Def → Type 0
-IsAllowedHere IsOfKind (Stmt-F.Assign into e) = MayBindAt into
+IsAllowedHere IsOfKind (Stmt-F.Assign targets comma e) = All MayBindAt targets
 IsAllowedHere IsOfKind (Stmt-F.Augment into op e) = MayBindAt into
-IsAllowedHere IsOfKind (Stmt-F.For name source body) = IsTrue (is_variable name)
+IsAllowedHere IsOfKind (Stmt-F.For names comma source body) = All (λ name. IsTrue (is_variable name)) names
 IsAllowedHere IsOfKind (Stmt-F.Function def) = IsTrue (is_variable def.name) × IsOfKind def
 IsAllowedHere IsOfKind _ = Unit {0}
 

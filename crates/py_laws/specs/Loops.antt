@@ -1,5 +1,5 @@
 -- Loops with no bound: what goes on after a turn is the same loop. (Python reference: the `while` and `for` statements.)
-use Rattle.std.specs.Prelude.{◌≡◌, List}
+use Rattle.std.specs.Prelude.{◌≡◌, Bool, List}
 use Rattle.nb_outside.specs.declared.feed.Drawn.{Drawn}
 use Rattle.py_tree.specs.declared.expressions.Expr.{Expr}
 use Rattle.py_tree.specs.declared.statements.Stmt.{Stmt}
@@ -24,6 +24,6 @@ module _ (inner : Inner) where
       inner.eval test >>= (λ held. truth_of held >>= (λ truth. choose truth (block inner body >>= (λ ended. after_turn ended more)) (pure flow.Next)))
 
   -- the body with what comes next, if there is a next, and then what `more` does with what is left
-  abbrev pub for_turn : Name → List Stmt → Iteration → (Iteration → Act Flow) → Act Flow
-  for_turn name body from more =
-      advance from >>= (λ next. turn inner name next (λ rest. block inner body >>= (λ ended. after_turn ended (more rest))))
+  abbrev pub for_turn : List Name → Bool → List Stmt → Iteration → (Iteration → Act Flow) → Act Flow
+  for_turn names comma body from more =
+      advance from >>= (λ next. turn inner names comma next (λ rest. block inner body >>= (λ ended. after_turn ended (more rest))))

@@ -29,6 +29,7 @@ abbrev pub expression_step : Expr-F Names Names Names Names → Names
 expression_step (Expr-F.Name name) = name ∷ []
 expression_step (Expr-F.Literal constant) = []
 expression_step (Expr-F.ListOf es) = joined es
+expression_step (Expr-F.TupleOf es) = joined es
 expression_step (Expr-F.DictOf pairs) = joined pairs
 expression_step (Expr-F.Conditional test first second) = test ++ (first ++ second)
 expression_step (Expr-F.Or es) = joined es
@@ -76,6 +77,9 @@ abbrev pub names_at : Target → Names
 names_at (target.Name name) = name ∷ []
 names_at (target.Item on at) = names_of on ++ names_of at
 
+abbrev pub names_at_all : List Target → Names
+names_at_all targets = joined (map names_at targets)
+
 abbrev pub statement_step : Stmt-F Names Names Names → Names
 statement_step Stmt-F.Pass = []
 statement_step Stmt-F.Break = []
@@ -83,12 +87,12 @@ statement_step Stmt-F.Continue = []
 statement_step (Stmt-F.Return e) = if_names e
 statement_step (Stmt-F.Global names) = names
 statement_step (Stmt-F.Delete into) = names_at into
-statement_step (Stmt-F.Assign into e) = names_at into ++ names_of e
+statement_step (Stmt-F.Assign targets comma e) = names_at_all targets ++ names_of e
 statement_step (Stmt-F.Augment into op e) = names_at into ++ names_of e
 statement_step (Stmt-F.Expression e) = names_of e
 statement_step (Stmt-F.If arms other) = joined arms ++ joined other
 statement_step (Stmt-F.While test body) = names_of test ++ joined body
-statement_step (Stmt-F.For name source body) = name ∷ (names_of source ++ joined body)
+statement_step (Stmt-F.For names comma source body) = names ++ (names_of source ++ joined body)
 statement_step (Stmt-F.Function def) = def
 
 abbrev pub arm_step : Arm-F Names Names Names → Names

@@ -40,6 +40,7 @@ PairsMatch paired pair other = (pair.0 ≡ other.0) × ValuesMatch paired pair.1
 -- objects match if they have one kind and match item by item
 abbrev pub ObjectsMatch : (ℕ → ℕ → Type 0) → Object → Object → Type 0
 ObjectsMatch paired (object.List items) (object.List others) = AllZip (ValuesMatch paired) items others
+ObjectsMatch paired (object.Tuple items) (object.Tuple others) = AllZip (ValuesMatch paired) items others
 ObjectsMatch paired (object.Dict pairs) (object.Dict others) = AllZip (PairsMatch paired) pairs others
 ObjectsMatch paired (object.Function def) (object.Function other) = def ≡ other
 ObjectsMatch paired (object.Handle name uses) (object.Handle other others) = (name ≡ other) × (uses ≡ others)

@@ -1,7 +1,9 @@
-ghost use Rattle.std.specs.Prelude.{◌≡◌, ◌↔◌, ◌⊎◌, ◌++◌, ℕ, Bool, true, Contains, IsTrue, List};
+ghost use Rattle.std.specs.Prelude.{◌≡◌, ◌↔◌, ◌⊎◌, ◌++◌, ℕ, Bool, true, Contains, IsTrue, List, Some, slice_get};
 ghost use Rattle.nb_outside.specs.declared.feed.Drawn.{Drawn};
 ghost use Rattle.py_tree.specs.declared.statements.Def.{Def};
 ghost use Rattle.py_tree.specs.declared.statements.Stmt.{Stmt};
+ghost use Rattle.py_value.specs.declared.value.Value.{Value};
+ghost use Rattle.py_heap.specs.declared.heap.Object.TheVariants as object;
 ghost use Rattle.py_heap.specs.declared.state.State.{State};
 ghost use Rattle.py_heap.specs.References.{IsClosed};
 ghost use Rattle.py_heap.specs.Reaching.{Reach};
@@ -70,6 +72,14 @@ pub fn cells_keep_states_closed()
 pub fn cells_keep_states_valid()
     ensures { (test : Def → Bool) (body : List Stmt) (draws : List Drawn) (s : State) → AreAllowedBy test body
         → ((def : Def) → IsTrue (test def) → AreAllowedBy test def.body) → IsValidBy test s → IsValidBy test (end_state body s draws) }
+{}
+
+/// A cell leaves each tuple as it is, and reports no change of one. What a tuple holds may change.
+pub fn cells_change_no_tuple()
+    ensures stay { (body : List Stmt) (draws : List Drawn) (s : State) (at : ℕ) (items : List Value)
+        → slice_get s.heap at ≡ Some (object.Tuple items) → slice_get (end_state body s draws).heap at ≡ Some (object.Tuple items) }
+    ensures unmarked { (body : List Stmt) (draws : List Drawn) (s : State) (at : ℕ) (items : List Value)
+        → slice_get s.heap at ≡ Some (object.Tuple items) → IsIn (outcome body s draws).1.marks.changed at → ⊥ }
 {}
 
 /// A cell looks up, binds and deletes only names that are in its statements or in the functions of its state: if these all pass

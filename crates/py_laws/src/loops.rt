@@ -1,4 +1,4 @@
-ghost use Rattle.std.specs.Prelude.{◌≤◌, ℕ, List};
+ghost use Rattle.std.specs.Prelude.{◌≤◌, ℕ, Bool, List};
 ghost use Rattle.py_tree.specs.declared.expressions.Expr.{Expr};
 ghost use Rattle.py_tree.specs.declared.statements.Stmt.{Stmt};
 ghost use Rattle.py_machine.specs.declared.iteration.Iteration.{Iteration};
@@ -11,12 +11,12 @@ ghost use Rattle.py_laws.specs.Loops.{RunAlike, while_turn, for_turn};
 pub fn bounds_of_loops_change_nothing()
     ensures whiles { (levels n : ℕ) (test : Expr) (body : List Stmt) → most_turns ≤ n
         → RunAlike (turns (level levels) n test body) (turns (level levels) most_turns test body) }
-    ensures fors { (levels n : ℕ) (name : Name) (body : List Stmt) (from : Iteration) → most_turns ≤ n
-        → RunAlike (rounds (level levels) n name body from) (rounds (level levels) most_turns name body from) }
+    ensures fors { (levels n : ℕ) (names : List Name) (comma : Bool) (body : List Stmt) (from : Iteration) → most_turns ≤ n
+        → RunAlike (rounds (level levels) n names comma body from) (rounds (level levels) most_turns names comma body from) }
     ensures while_again { (levels : ℕ) (test : Expr) (body : List Stmt)
         → RunAlike (turns (level levels) most_turns test body)
         (while_turn (level levels) test body (turns (level levels) most_turns test body)) }
-    ensures for_again { (levels : ℕ) (name : Name) (body : List Stmt) (from : Iteration)
-        → RunAlike (rounds (level levels) most_turns name body from)
-        (for_turn (level levels) name body from (rounds (level levels) most_turns name body)) }
+    ensures for_again { (levels : ℕ) (names : List Name) (comma : Bool) (body : List Stmt) (from : Iteration)
+        → RunAlike (rounds (level levels) most_turns names comma body from)
+        (for_turn (level levels) names comma body from (rounds (level levels) most_turns names comma body)) }
 {}

@@ -9,6 +9,7 @@ ghost use Rattle.py_value.specs.declared.value.Value.{Value};
 ghost use Rattle.py_heap.specs.Dicts.{Pairs};
 ghost use Rattle.py_heap.specs.Reaching.{held_refs};
 ghost use Rattle.py_heap.specs.References.{value_refs, pair_refs};
+ghost use Rattle.py_heap.specs.declared.heap.SequenceKind.{SequenceKind};
 ghost use Rattle.py_heap.specs.declared.state.State.{State};
 ghost use Rattle.py_heap.specs.Valid.{IsValidBy};
 ghost use Rattle.py_machine.specs.Runs.{start};
@@ -42,8 +43,8 @@ pub fn runs_keep_machines_sound()
         → KeepsSound test (value_refs on ++ (value_refs at ++ value_refs held)) (item_stored on at held) }
     ensures deletions { (test : Def → Bool) (on at : Value) → BodiesPass test
         → KeepsSound test (value_refs on ++ value_refs at) (item_deleted on at) }
-    ensures lists { (test : Def → Bool) (items : List Value) → BodiesPass test
-        → GivesSound test (flat_map value_refs items) (joined items) }
+    ensures sequences { (test : Def → Bool) (kind : SequenceKind) (items : List Value) → BodiesPass test
+        → GivesSound test (flat_map value_refs items) (joined kind items) }
     ensures texts { (test : Def → Bool) (text : List ℕ) → BodiesPass test → GivesSound test [] (made_text text) }
     ensures puts { (test : Def → Bool) (at : ℕ) (key : Key) (held : Value) → BodiesPass test
         → KeepsSound test ((at ∷ []) ++ value_refs held) (put at key held) }

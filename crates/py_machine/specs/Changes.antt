@@ -33,9 +33,10 @@ abbrev pub changed_handle : Change → List ℕ → ℕ → Option Object
 changed_handle change.Use name uses = Some (object.Handle name (raised uses))
 changed_handle _ name uses = None
 
--- what the change makes of an object, if the object is of the kind that it is for
+-- what the change makes of an object, if the object is of the kind that it is for: none is for tuples
 abbrev pub changed : Change → Object → Option Object
 changed c (object.List items) = changed_items c items
+changed c (object.Tuple items) = None
 changed c (object.Dict pairs) = changed_pairs c pairs
 changed c (object.Function def) = None
 changed c (object.Handle name uses) = changed_handle c name uses
@@ -53,6 +54,7 @@ list_in _ = None
 abbrev pub object_kind : Option Object → ValueKind
 object_kind None = kind.Nothing
 object_kind (Some (object.List items)) = kind.List
+object_kind (Some (object.Tuple items)) = kind.Tuple
 object_kind (Some (object.Dict pairs)) = kind.Dict
 object_kind (Some (object.Function def)) = kind.Function
 object_kind (Some (object.Handle name uses)) = kind.Handle

@@ -1,7 +1,10 @@
 -- The errors that a run may raise, and their texts. (Python language reference: built-in exceptions.)
-use Rattle.std.specs.Prelude.{ℕ, Bool, true, false, List, ◌++◌, codes}
+use Rattle.std.specs.Prelude.{ℕ, Bool, true, false, cond, nat_lt, List, ◌++◌, codes}
+use Rattle.std.specs.Fmt.{decimal}
 use Rattle.py_tree.specs.declared.expressions.Op.{Op}
 use Rattle.py_tree.specs.declared.expressions.Op.TheVariants as op
+use Rattle.py_heap.specs.declared.heap.SequenceKind.{SequenceKind}
+use Rattle.py_heap.specs.declared.heap.SequenceKind.TheVariants as sequence
 use Rattle.py_machine.specs.declared.error.ErrorKind.{ErrorKind}
 use Rattle.py_machine.specs.declared.error.ErrorKind.TheVariants as error
 use Rattle.py_machine.specs.declared.error.PyError.{PyError}
@@ -57,6 +60,7 @@ kind_name kind.Bool = codes "bool"
 kind_name kind.Number = codes "int"
 kind_name kind.Text = codes "str"
 kind_name kind.List = codes "list"
+kind_name kind.Tuple = codes "tuple"
 kind_name kind.Dict = codes "dict"
 kind_name kind.Function = codes "function"
 kind_name kind.Handle = codes "handle"
@@ -161,8 +165,12 @@ abbrev pub not_an_index : PyError
 not_an_index = record { kind = error.Type; text = codes "indices must be integers" }
 
 -- an index past the ends
-abbrev pub no_list_index : PyError
-no_list_index = record { kind = error.Index; text = codes "list index out of range" }
+abbrev pub index_text : SequenceKind → List ℕ
+index_text sequence.List = codes "list index out of range"
+index_text sequence.Tuple = codes "tuple index out of range"
+
+abbrev pub no_index : SequenceKind → PyError
+no_index kind = record { kind = error.Index; text = index_text kind }
 
 abbrev pub no_text_index : PyError
 no_text_index = record { kind = error.Index; text = codes "string index out of range" }
@@ -183,6 +191,27 @@ no_key shown = record { kind = error.Key; text = shown }
 -- a dict that a `for` goes over has more pairs or fewer than at its start
 abbrev pub changed_size : PyError
 changed_size = record { kind = error.Runtime; text = codes "dictionary changed size during iteration" }
+
+-- ---- unpacking
+
+-- a value of this kind has nothing to unpack
+abbrev pub not_unpacked : ValueKind → PyError
+not_unpacked kind = record { kind = error.Type; text = (codes "cannot unpack non-iterable " ++ kind_name kind) ++ codes " object" }
+
+-- fewer values than targets
+abbrev pub not_enough : ℕ → ℕ → PyError
+not_enough wanted got = record {
+  kind = error.Value;
+  text = codes "not enough values to unpack (expected " ++ (decimal wanted ++ (codes ", got " ++ (decimal got ++ codes ")")));
+}
+
+-- more values than targets
+abbrev pub too_many : ℕ → PyError
+too_many wanted = record { kind = error.Value; text = (codes "too many values to unpack (expected " ++ decimal wanted) ++ codes ")" }
+
+-- another number of values than of targets
+abbrev pub wrong_count : ℕ → ℕ → PyError
+wrong_count wanted got = cond (nat_lt got wanted) (not_enough wanted got) (too_many wanted)
 
 -- ---- calls of built-in functions and methods
 

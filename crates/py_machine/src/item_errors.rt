@@ -4,6 +4,7 @@ ghost use Rattle.py_machine.specs.Errors as spec;
 use crate::error::{ErrorKind, PyError, boxed_error};
 use crate::kind::{ValueKind, kind_name};
 use plain_data::{Boxed, Text};
+use py_heap::SequenceKind;
 use std::alloc::{AllocError, Global};
 
 /// The error of an index or a slice of a value of this kind.
@@ -60,13 +61,22 @@ pub fn not_an_index(alloc: Global) -> Result<Boxed<PyError>, AllocError>
     boxed_error(alloc, ErrorKind::Type, text)
 }
 
-/// The error of an index past the ends of a list.
+fn index_text(kind: SequenceKind) -> &'static str
+    ensures { result.now ≡ spec.index_text kind }
+{
+    match kind {
+        SequenceKind::List => "list index out of range",
+        SequenceKind::Tuple => "tuple index out of range",
+    }
+}
+
+/// The error of an index past the ends of a list or a tuple.
 #[cold]
 #[inline(never)]
-pub fn no_list_index(alloc: Global) -> Result<Boxed<PyError>, AllocError>
-    ensures { IfOk result (λ error. error ≡ spec.no_list_index) }
+pub fn no_index(alloc: Global, kind: SequenceKind) -> Result<Boxed<PyError>, AllocError>
+    ensures { IfOk result (λ error. error ≡ spec.no_index kind) }
 {
-    let text = Text::new(alloc, "list index out of range")?;
+    let text = Text::new(alloc, index_text(kind))?;
     boxed_error(alloc, ErrorKind::Index, text)
 }
 
@@ -127,6 +137,46 @@ pub fn changed_size(alloc: Global) -> Result<Boxed<PyError>, AllocError>
 {
     let text = Text::new(alloc, "dictionary changed size during iteration")?;
     boxed_error(alloc, ErrorKind::Runtime, text)
+}
+
+/// The error of unpacking a value of this kind, which holds nothing that comes one after the other.
+#[cold]
+#[inline(never)]
+pub fn not_unpacked(alloc: Global, kind: ValueKind) -> Result<Boxed<PyError>, AllocError>
+    ensures { IfOk result (λ error. error ≡ spec.not_unpacked kind) }
+{
+    let kind = kind_name(kind);
+    let text = format!(in alloc; "cannot unpack non-iterable {kind} object")?;
+    boxed_error(alloc, ErrorKind::Type, Text::from_string(text))
+}
+
+/// The error of unpacking fewer values than there are targets.
+fn not_enough(alloc: Global, wanted: usize, got: usize) -> Result<Boxed<PyError>, AllocError>
+    ensures { IfOk result (λ error. error ≡ spec.not_enough wanted got) }
+{
+    let text = format!(in alloc; "not enough values to unpack (expected {wanted}, got {got})")?;
+    boxed_error(alloc, ErrorKind::Value, Text::from_string(text))
+}
+
+/// The error of unpacking more values than there are targets.
+fn too_many(alloc: Global, wanted: usize) -> Result<Boxed<PyError>, AllocError>
+    ensures { IfOk result (λ error. error ≡ spec.too_many wanted) }
+{
+    let text = format!(in alloc; "too many values to unpack (expected {wanted})")?;
+    boxed_error(alloc, ErrorKind::Value, Text::from_string(text))
+}
+
+/// The error of unpacking another number of values than there are targets.
+#[cold]
+#[inline(never)]
+pub fn wrong_count(alloc: Global, wanted: usize, got: usize) -> Result<Boxed<PyError>, AllocError>
+    ensures { IfOk result (λ error. error ≡ spec.wrong_count wanted got) }
+{
+    if got < wanted {
+        not_enough(alloc, wanted, got)
+    } else {
+        too_many(alloc, wanted)
+    }
 }
 
 /// The error of `range` anywhere but as the source of a `for`.

@@ -3,7 +3,7 @@ use crate::text_rest::TextRest;
 /// What a `for` goes over, from where it has come to.
 #[derive(Drop)]
 pub enum Iteration {
-    /// The items of the list at the address `at`, from the index `next` on.
+    /// The items of the list or tuple at the address `at`, from the index `next` on.
     Items {
         at: u32,
         next: usize,

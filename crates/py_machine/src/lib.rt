@@ -27,9 +27,10 @@ pub use error::{
 };
 pub use frame::{Change, Flow, Frame, FrameSlot};
 pub use item_errors::{
-    changed_size, empty_separator, invalid_literal, no_assigned_index, no_item_assignment,
-    no_item_deletion, no_key, no_list_index, no_popped_index, no_text_index, not_an_index,
-    not_iterable, not_subscriptable, popped_empty, range_elsewhere, zero_range_step,
+    changed_size, empty_separator, invalid_literal, no_assigned_index, no_index,
+    no_item_assignment, no_item_deletion, no_key, no_popped_index, no_text_index, not_an_index,
+    not_iterable, not_subscriptable, not_unpacked, popped_empty, range_elsewhere, wrong_count,
+    zero_range_step,
 };
 pub use iteration::Iteration;
 pub use kind::{ValueKind, kind_name};

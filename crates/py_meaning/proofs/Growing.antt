@@ -43,7 +43,7 @@ rises_kept = record {
   unbinds = λ name m. idle m _ refl refl (omega arith);
   frames = λ frame m. idle m _ refl refl (omega arith);
   adds = λ new m. idle m _ refl refl (omega (arith, length-append m.state.heap (new ∷ [])));
-  changes = λ at new m. idle m _ refl refl (omega (arith, length-set m.state.heap at new));
+  changes = λ at c new m e. idle m _ refl refl (omega (arith, length-set m.state.heap at new));
   writes = λ bytes m. idle m _ refl refl (omega arith);
   draws = λ d m. idle m _ refl refl (omega arith);
 }

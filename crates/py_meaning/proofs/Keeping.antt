@@ -1,5 +1,5 @@
 -- A relation that each least change of a machine keeps, and that composes, holds over every act, so over each cell.
-use Rattle.std.proofs.Common.{ℕ, List, ◌++◌, length, Option, Some, None, Result, Ok, Err}
+use Rattle.std.proofs.Common.{◌≡◌, ℕ, List, ◌++◌, length, Option, Some, None, Result, Ok, Err, refl}
 use Rattle.std.specs.Prelude.{slice_get}
 use Rattle.std.specs.FinMap as finite
 use Rattle.nb_outside.specs.declared.feed.Drawn.{Drawn}
@@ -32,7 +32,8 @@ pub record IsKept (R : Machine → Machine → Type 0) : Type 0 where
   pub unbinds : (name : Name) (m : Machine) → R m (marked (event.Unbind name) (record m { state = without_name m.state name }))
   pub frames : (frame : Option Frame) (m : Machine) → R m (record m { frame = frame })
   pub adds : (new : Object) (m : Machine) → R m (record m { state = with_object m.state new })
-  pub changes : (at : ℕ) (new : Object) (m : Machine) → R m (marked (event.Change at) (record m { state = with_object_at m.state at new }))
+  pub changes : (at : ℕ) (c : Change) (new : Object) (m : Machine) → changed_in c (slice_get m.state.heap at) ≡ Some new
+      → R m (marked (event.Change at) (record m { state = with_object_at m.state at new }))
   pub writes : (bytes : List ℕ) (m : Machine) → R m (record m { printed = m.printed ++ bytes })
   pub draws : (d : Drawn) (m : Machine) → R m (drawn d m)
 
@@ -107,13 +108,13 @@ module _ (R : Machine → Machine → Type 0) (k : IsKept R) where
   unfolding runs.object_at
   object_at_keeps at = k.same
 
-  replaced_keeps : (at : ℕ) (new : Option Object) (m : Machine) → R m (replaced at new m)
-  replaced_keeps at None m = k.same m
-  replaced_keeps at (Some new) m = k.changes at new m
+  replaced_keeps : (at : ℕ) (c : Change) (new : Option Object) (m : Machine) → changed_in c (slice_get m.state.heap at) ≡ new → R m (replaced at new m)
+  replaced_keeps at c None m e = k.same m
+  replaced_keeps at c (Some new) m e = k.changes at c new m e
 
   change_keeps : (at : ℕ) (c : Change) → Leaves R (runs.change at c)
   unfolding runs.change
-  change_keeps at c m = replaced_keeps at (changed_in c (slice_get m.state.heap at)) m
+  change_keeps at c m = replaced_keeps at c (changed_in c (slice_get m.state.heap at)) m refl
 
   write_keeps : (bytes : List ℕ) → Leaves R (runs.write bytes)
   unfolding runs.write

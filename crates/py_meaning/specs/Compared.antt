@@ -16,7 +16,7 @@ use Rattle.py_heap.specs.declared.heap.Object.TheVariants as object
 use Rattle.py_heap.specs.Dicts.{Pairs, value_under}
 use Rattle.py_machine.specs.Changes.{object_kind}
 use Rattle.py_machine.specs.Errors.{recursion_error, not_ordered, not_searched, not_in_text}
-use Rattle.py_meaning.specs.Acts.{Act, ◌>>=◌, ◌>>◌, pure, fail, step, object_at, list_at, kind_of, choose}
+use Rattle.py_meaning.specs.Acts.{Act, ◌>>=◌, ◌>>◌, pure, fail, step, object_at, kind_of, choose}
 use Rattle.py_meaning.specs.Numbers.{as_number}
 use Rattle.py_meaning.specs.Items.{keyed}
 use Rattle.py_meaning.specs.Texts.{occurs}
@@ -42,8 +42,8 @@ module _ (below : Compares) where
   items_equal (v ∷ vs) (w ∷ ws) = below v w >>= (λ same. choose same (items_equal vs ws) (pure false))
   items_equal _ _ = pure false
 
-  abbrev pub lists_equal : List Value → List Value → Act Bool
-  lists_equal vs ws = choose (length vs == length ws) (items_equal vs ws) (pure false)
+  abbrev pub sequences_equal : List Value → List Value → Act Bool
+  sequences_equal vs ws = choose (length vs == length ws) (items_equal vs ws) (pure false)
 
   abbrev pub with_equal : Value → Option Value → Act Bool
   with_equal held None = pure false
@@ -59,7 +59,8 @@ module _ (below : Compares) where
 
   -- functions and handles are equal to themselves alone
   abbrev pub objects_equal : ℕ → ℕ → Option Object → Option Object → Act Bool
-  objects_equal a b (Some (object.List vs)) (Some (object.List ws)) = lists_equal vs ws
+  objects_equal a b (Some (object.List vs)) (Some (object.List ws)) = sequences_equal vs ws
+  objects_equal a b (Some (object.Tuple vs)) (Some (object.Tuple ws)) = sequences_equal vs ws
   objects_equal a b (Some (object.Dict vs)) (Some (object.Dict ws)) = dicts_equal vs ws
   objects_equal a b one other = pure (a == b)
 
@@ -81,7 +82,7 @@ module _ (below : Compares) where
   equal_by None None left right = others_equal left right
   equal_by _ _ left right = pure false
 
-  -- numbers by value, texts by characters, lists by what they hold
+  -- numbers by value, texts by characters, lists, tuples and dicts by what they hold
   unfoldable pub values_equal : Value → Value → Act Bool
   values_equal left right = equal_by (as_number left) (as_number right) left right
 
@@ -120,15 +121,17 @@ module _ (equal : Compares) (ordered : Op → Compares) where
   items_ordered o (v ∷ vs) (w ∷ ws) = equal v w >>= (λ same. choose same (items_ordered o vs ws) (ordered o v w))
   items_ordered o vs ws = pure (order_holds o (nat_cmp (length vs) (length ws)))
 
-  abbrev pub lists_ordered : Op → ℕ → ℕ → Option (List Value) → Option (List Value) → Act Bool
-  lists_ordered o a b (Some vs) (Some ws) = items_ordered o vs ws
-  lists_ordered o a b _ _ = no_order o (value.Ref a) (value.Ref b)
+  -- two lists or two tuples
+  abbrev pub objects_ordered : Op → ℕ → ℕ → Option Object → Option Object → Act Bool
+  objects_ordered o a b (Some (object.List vs)) (Some (object.List ws)) = items_ordered o vs ws
+  objects_ordered o a b (Some (object.Tuple vs)) (Some (object.Tuple ws)) = items_ordered o vs ws
+  objects_ordered o a b one other = no_order o (value.Ref a) (value.Ref b)
 
   unfoldable pub refs_ordered : Op → ℕ → ℕ → Act Bool
   refs_ordered o a b = do
-    items ← list_at a
-    others ← list_at b
-    lists_ordered o a b items others
+    object ← object_at a
+    other ← object_at b
+    objects_ordered o a b object other
 
   abbrev pub others_ordered : Op → Value → Value → Act Bool
   others_ordered o (value.Text text) (value.Text other) = pure (order_holds o (slice_cmp nat_cmp text other))
@@ -166,9 +169,10 @@ module _ (equal : Compares) where
   in_items held [] = pure false
   in_items held (item ∷ items) = equal held item >>= (λ same. choose same (pure true) (in_items held items))
 
-  -- a list is searched for a value, and a dict for a key
+  -- a list or a tuple is searched for a value, and a dict for a key
   abbrev pub in_object : Value → Option Object → Act Bool
   in_object held (Some (object.List items)) = in_items held items
+  in_object held (Some (object.Tuple items)) = in_items held items
   in_object held (Some (object.Dict pairs)) = keyed held >>= (λ key. pure (is_some (value_under pairs key)))
   in_object held other = fail (not_searched (object_kind other))
 

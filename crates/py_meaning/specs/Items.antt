@@ -1,4 +1,4 @@
--- Items of lists, dicts and texts: indexes, slices, and what is stored and deleted. (Python reference: subscriptions, slicings,
+-- Items of lists, tuples, dicts and texts: indexes, slices, and what is stored and deleted. (Python reference: subscriptions, slicings,
 -- assignment statements.)
 use Rattle.std.specs.Prelude.{ℕ, suc, ◌+◌, ◌-◌, min, ℤ, pos, negsuc, cond, nat_lt, is_some, List, length, slice_get, slice_index, slice_range, encode_utf8, Option, Some, None}
 use Rattle.std.specs.Str.{chars, encode_utf8_all}
@@ -10,11 +10,13 @@ use Rattle.py_value.specs.Reprs.{key_text}
 use Rattle.py_value.specs.Values.{weight}
 use Rattle.py_heap.specs.declared.heap.Object.{Object}
 use Rattle.py_heap.specs.declared.heap.Object.TheVariants as object
+use Rattle.py_heap.specs.declared.heap.SequenceKind.{SequenceKind}
+use Rattle.py_heap.specs.declared.heap.SequenceKind.TheVariants as kind
 use Rattle.py_heap.specs.Dicts.{Pairs, value_under}
 use Rattle.py_machine.specs.declared.error.PyError.{PyError}
 use Rattle.py_machine.specs.declared.frame.Change.TheVariants as changes
 use Rattle.py_machine.specs.Changes.{object_kind}
-use Rattle.py_machine.specs.Errors.{unhashable, not_an_index, not_subscriptable, no_item_assignment, no_item_deletion, no_list_index, no_text_index, no_assigned_index, no_key}
+use Rattle.py_machine.specs.Errors.{unhashable, not_an_index, not_subscriptable, no_item_assignment, no_item_deletion, no_index, no_text_index, no_assigned_index, no_key}
 use Rattle.py_meaning.specs.Acts.{Act, ◌>>=◌, ◌>>◌, pure, fail, charge, object_at, change, kind_of}
 use Rattle.py_meaning.specs.Numbers.{as_number}
 use Rattle.py_meaning.specs.Operators.{made_text, joined}
@@ -44,9 +46,9 @@ keyed held = key_or held (key_of held)
 
 -- ---- an index
 
-abbrev pub list_indexed : List Value → Option ℤ → Act Value
-list_indexed items (Some n) = item_or no_list_index (item_at items (position_in (length items) n))
-list_indexed items None = fail not_an_index
+abbrev pub sequence_indexed : SequenceKind → List Value → Option ℤ → Act Value
+sequence_indexed kind items (Some n) = item_or (no_index kind) (item_at items (position_in (length items) n))
+sequence_indexed kind items None = fail not_an_index
 
 unfoldable pub dict_indexed : Pairs → Value → Act Value
 dict_indexed pairs at = keyed at >>= (λ key. item_or (no_key (key_text key)) (value_under pairs key))
@@ -60,7 +62,8 @@ text_indexed text (Some n) = character text (position_in (length (chars text)) n
 text_indexed text None = fail not_an_index
 
 abbrev pub object_indexed : Value → Option Object → Act Value
-object_indexed at (Some (object.List items)) = list_indexed items (as_number at)
+object_indexed at (Some (object.List items)) = sequence_indexed kind.List items (as_number at)
+object_indexed at (Some (object.Tuple items)) = sequence_indexed kind.Tuple items (as_number at)
 object_indexed at (Some (object.Dict pairs)) = dict_indexed pairs at
 object_indexed at other = fail (not_subscriptable (object_kind other))
 
@@ -105,14 +108,15 @@ text_sliced text from to = do
   b ← bound to
   made_text (encode_utf8_all (cut (chars text) a b))
 
-unfoldable pub list_sliced : List Value → Option Value → Option Value → Act Value
-list_sliced items from to = do
+unfoldable pub sequence_sliced : SequenceKind → List Value → Option Value → Option Value → Act Value
+sequence_sliced kind items from to = do
   a ← bound from
   b ← bound to
-  joined (cut items a b)
+  joined kind (cut items a b)
 
 abbrev pub object_sliced : Option Value → Option Value → Option Object → Act Value
-object_sliced from to (Some (object.List items)) = list_sliced items from to
+object_sliced from to (Some (object.List items)) = sequence_sliced kind.List items from to
+object_sliced from to (Some (object.Tuple items)) = sequence_sliced kind.Tuple items from to
 object_sliced from to other = fail (not_subscriptable (object_kind other))
 
 unfoldable pub sliced : Value → Option Value → Option Value → Act Value

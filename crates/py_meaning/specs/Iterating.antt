@@ -19,13 +19,14 @@ use Rattle.py_meaning.specs.Numbers.{fits, as_number}
 
 abbrev pub object_iterated : ℕ → Option Object → Act Iteration
 object_iterated at (Some (object.List items)) = pure (iteration.Items at 0)
+object_iterated at (Some (object.Tuple items)) = pure (iteration.Items at 0)
 object_iterated at (Some (object.Dict pairs)) = pure (iteration.Keys at 0 (length pairs))
 object_iterated at other = fail (not_iterable (object_kind other))
 
 unfoldable pub not_iterated : Value → Act Iteration
 not_iterated held = kind_of held >>= (λ kind. fail (not_iterable kind))
 
--- a list by its items, a dict by its keys, a text by its characters
+-- a list or a tuple by its items, a dict by its keys, a text by its characters
 unfoldable pub iterated : Value → Act Iteration
 iterated (value.Text text) = pure (iteration.Characters text)
 iterated (value.Ref at) = object_at at >>= object_iterated at
@@ -54,6 +55,7 @@ with_rest None rest = None
 -- items that come while the list is gone over are seen
 abbrev pub next_item : ℕ → ℕ → Option Object → Act Next
 next_item at next (Some (object.List items)) = pure (with_rest (slice_get items next) (iteration.Items at (next + 1)))
+next_item at next (Some (object.Tuple items)) = pure (with_rest (slice_get items next) (iteration.Items at (next + 1)))
 next_item at next other = pure None
 
 abbrev pub key_in : Option (Key × Value) → Option Value

@@ -7,6 +7,7 @@ pub mod Texts
 pub mod Items
 pub mod Compared
 pub mod Iterating
+pub mod Unpacking
 pub mod Methods
 pub mod Meaning
 pub mod Cells

@@ -30,6 +30,8 @@ use Rattle.py_value.specs.Numbers.{number_of}
 use Rattle.py_value.specs.Reprs.{key_text}
 use Rattle.py_heap.specs.declared.heap.Object.{Object}
 use Rattle.py_heap.specs.declared.heap.Object.TheVariants as object
+use Rattle.py_heap.specs.declared.heap.SequenceKind.{SequenceKind}
+use Rattle.py_heap.specs.declared.heap.SequenceKind.TheVariants as kind
 use Rattle.py_heap.specs.States.{raised}
 use Rattle.py_machine.specs.declared.frame.Change.TheVariants as changes
 use Rattle.py_machine.specs.declared.frame.Flow.{Flow}
@@ -42,10 +44,11 @@ use Rattle.py_machine.specs.Errors.{recursion_error, step_limit_error, overflow_
 use Rattle.py_machine.specs.Runs.{Name}
 use Rattle.py_meaning.specs.Acts.{Act, ◌>>=◌, ◌>>◌, pure, fail, step, charge, look, seek, bind, unbind, is_local, enter, leave, add, object_at, change, list_at, kind_of, write, draw, choose}
 use Rattle.py_meaning.specs.Truth.{truth_of}
-use Rattle.py_meaning.specs.Operators.{list_units, made_text, operated, signed}
+use Rattle.py_meaning.specs.Operators.{sequence_units, made, made_text, operated, signed}
 use Rattle.py_meaning.specs.Compared.{compared}
 use Rattle.py_meaning.specs.Items.{keyed, put_in, indexed, sliced, item_stored, item_deleted}
 use Rattle.py_meaning.specs.Iterating.{Next, iterated, range_of, advance}
+use Rattle.py_meaning.specs.Unpacking.{unpacked}
 use Rattle.py_meaning.specs.Methods.{pairs_in, extend, method_of, method_called}
 use Rattle.py_meaning.specs.Numbers.{as_number}
 use Rattle.py_meaning.specs.Shown.{shown, written}
@@ -73,10 +76,11 @@ draw_called args = fail (wrong_number (codes "draw"))
 
 abbrev pub object_length : Option Object → Act Value
 object_length (Some (object.List items)) = pure (value.Number (pos (length items)))
+object_length (Some (object.Tuple items)) = pure (value.Number (pos (length items)))
 object_length (Some (object.Dict pairs)) = pure (value.Number (pos (length pairs)))
 object_length _ = fail (wrong_argument (codes "len"))
 
--- the characters of a text, the items of a list, the pairs of a dict
+-- the characters of a text, the items of a list or a tuple, the pairs of a dict
 unfoldable pub length_of : Value → Act Value
 length_of (value.Text text) = pure (value.Number (pos (length (chars text))))
 length_of (value.Ref at) = object_at at >>= object_length
@@ -168,6 +172,17 @@ text_units _ = 0
 
 unfoldable pub store : Name → Value → Act (Unit {0})
 store name held = is_local name >>= (λ local. choose local (bind name held) (charge (text_units held) >> bind name held))
+
+-- each name gets its value, from left to right
+abbrev pub names_stored : List Name → List Value → Act (Unit {0})
+names_stored (name ∷ names) (held ∷ more) = store name held >> names_stored names more
+names_stored _ _ = pure tt
+
+-- a value goes to a name by itself, or if a comma stands among the names, what it unpacks into goes to them
+abbrev pub names_given : Bool → List Name → Value → Act (Unit {0})
+names_given true names held = unpacked (length names) held >>= names_stored names
+names_given false (name ∷ others) held = store name held
+names_given false [] held = pure tt
 
 -- ---- augmented assignments
 
@@ -262,13 +277,12 @@ module _ (inner : Inner) where
   unfoldable pub items : List Expr → Act (List Value)
   items es = items_from [] es
 
-  unfoldable pub display : List Expr → Act Value
-  display es = do
+  unfoldable pub display : SequenceKind → List Expr → Act Value
+  display kind es = do
     step
     values ← items es
-    charge (list_units values)
-    at ← add (object.List values)
-    pure (value.Ref at)
+    charge (sequence_units values)
+    made kind values
 
   -- each operator takes its step before its right operand
   abbrev pub operands : Value → List Operand → Act Value
@@ -466,7 +480,8 @@ module _ (inner : Inner) where
   abbrev pub expression : Expr-F Expr Relation Operand Pair → Act Value
   expression (Expr-F.Name name) = step >> look name
   expression (Expr-F.Literal constant) = literal_value constant
-  expression (Expr-F.ListOf es) = display es
+  expression (Expr-F.ListOf es) = display kind.List es
+  expression (Expr-F.TupleOf es) = display kind.Tuple es
   expression (Expr-F.Conditional test first second) = conditional test first second
   expression (Expr-F.Or es) = disjunction es
   expression (Expr-F.And es) = conjunction es
@@ -483,26 +498,34 @@ module _ (inner : Inner) where
 
   -- ---- statements
 
-  unfoldable pub assign : Name → Expr → Act Flow
-  assign name e = do
-    step
-    held ← inner.eval e
-    store name held
-    pure flow.Next
-
-  -- the value comes before the target
-  unfoldable pub assign_item : Expr → Expr → Expr → Act Flow
-  assign_item on at e = do
-    step
-    held ← inner.eval e
+  unfoldable pub stored_in_item : Expr → Expr → Value → Act (Unit {0})
+  stored_in_item on at held = do
     container ← inner.eval on
     key ← inner.eval at
     item_stored container key held
-    pure flow.Next
 
-  abbrev pub assigned : Target → Expr → Act Flow
-  assigned (target.Name name) e = assign name e
-  assigned (target.Item on at) e = assign_item on at e
+  abbrev pub stored : Target → Value → Act (Unit {0})
+  stored (target.Name name) held = store name held
+  stored (target.Item on at) held = stored_in_item on at held
+
+  -- each target gets its value, from left to right
+  abbrev pub all_stored : List Target → List Value → Act (Unit {0})
+  all_stored (target ∷ targets) (held ∷ more) = stored target held >> all_stored targets more
+  all_stored _ _ = pure tt
+
+  -- a value goes to a target by itself, or if a comma stands among the targets, what it unpacks into goes to them
+  abbrev pub given : Bool → List Target → Value → Act (Unit {0})
+  given true targets held = unpacked (length targets) held >>= all_stored targets
+  given false (target ∷ others) held = stored target held
+  given false [] held = pure tt
+
+  -- the value comes before the targets
+  unfoldable pub assign : List Target → Bool → Expr → Act Flow
+  assign targets comma e = do
+    step
+    held ← inner.eval e
+    given comma targets held
+    pure flow.Next
 
   -- the target of an augmented assignment is evaluated once, as an expression is
   unfoldable pub as_expression : Act (Unit {0})
@@ -589,17 +612,18 @@ module _ (inner : Inner) where
   source_of e (Expr-F.Call callee args) = call_source callee args
   source_of e other = inner.eval e >>= iterated
 
-  -- a turn takes a step and binds the name
-  abbrev pub turn : Name → Next → (Iteration → Act Flow) → Act Flow
-  turn name None go = pure flow.Next
-  turn name (Some next) go = step >> store name next.0 >> go next.1
+  -- a turn takes a step and binds the names
+  abbrev pub turn : List Name → Bool → Next → (Iteration → Act Flow) → Act Flow
+  turn names comma None go = pure flow.Next
+  turn names comma (Some next) go = step >> names_given comma names next.0 >> go next.1
 
-  unfoldable pub rounds : ℕ → Name → List Stmt → Iteration → Act Flow
-  rounds zero name body from = fail step_limit_error
-  rounds (suc n) name body from = advance from >>= (λ next. turn name next (λ rest. block body >>= (λ ended. after_turn ended (rounds n name body rest))))
+  unfoldable pub rounds : ℕ → List Name → Bool → List Stmt → Iteration → Act Flow
+  rounds zero names comma body from = fail step_limit_error
+  rounds (suc n) names comma body from =
+      advance from >>= (λ next. turn names comma next (λ rest. block body >>= (λ ended. after_turn ended (rounds n names comma body rest))))
 
-  unfoldable pub for_each : Name → Expr → List Stmt → Act Flow
-  for_each name e body = step >> source_of e (out-Expr e) >>= rounds most_turns name body
+  unfoldable pub for_each : List Name → Bool → Expr → List Stmt → Act Flow
+  for_each names comma e body = step >> source_of e (out-Expr e) >>= rounds most_turns names comma body
 
   abbrev pub statement : Stmt-F Stmt Arm Def → Act Flow
   statement Stmt-F.Pass = step >> pure flow.Next
@@ -608,12 +632,12 @@ module _ (inner : Inner) where
   statement (Stmt-F.Return e) = return e
   statement (Stmt-F.Global names) = step >> pure flow.Next
   statement (Stmt-F.Delete target) = deleted target
-  statement (Stmt-F.Assign target e) = assigned target e
+  statement (Stmt-F.Assign targets comma e) = assign targets comma e
   statement (Stmt-F.Augment target o e) = augment_at target o e
   statement (Stmt-F.Expression e) = show e
   statement (Stmt-F.If tests other) = step >> arms tests other
   statement (Stmt-F.While test body) = repeat test body
-  statement (Stmt-F.For name source body) = for_each name source body
+  statement (Stmt-F.For names comma source body) = for_each names comma source body
   statement (Stmt-F.Function def) = define def
 
 -- with this many levels left

@@ -7,6 +7,7 @@ use Rattle.py_value.specs.Reprs.{key_text}
 use Rattle.py_value.specs.Values.{weight}
 use Rattle.py_heap.specs.declared.heap.Object.{Object}
 use Rattle.py_heap.specs.declared.heap.Object.TheVariants as object
+use Rattle.py_heap.specs.declared.heap.SequenceKind.TheVariants as sequences
 use Rattle.py_heap.specs.Dicts.{Pairs, value_under}
 use Rattle.py_machine.specs.declared.frame.Change.TheVariants as changes
 use Rattle.py_machine.specs.declared.method.BoundMethod.{BoundMethod}
@@ -187,7 +188,7 @@ as_texts texts = map (λ text. value.Text text) texts
 -- a new list of the pieces
 abbrev pub split : List ℕ → Value → Act Value
 split text (value.Text []) = fail empty_separator
-split text (value.Text (x ∷ separator)) = joined (as_texts (split_at (x ∷ separator) text))
+split text (value.Text (x ∷ separator)) = joined sequences.List (as_texts (split_at (x ∷ separator) text))
 split text held = fail (wrong_argument (codes "split"))
 
 abbrev pub starts_with : List ℕ → Value → Act Value

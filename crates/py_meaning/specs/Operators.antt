@@ -6,9 +6,13 @@ use Rattle.py_tree.specs.declared.expressions.Op.TheVariants as op
 use Rattle.py_value.specs.declared.value.Value.{Value}
 use Rattle.py_value.specs.declared.value.Value.TheVariants as value
 use Rattle.py_value.specs.Values.{weight}
+use Rattle.py_heap.specs.declared.heap.Object.{Object}
 use Rattle.py_heap.specs.declared.heap.Object.TheVariants as object
+use Rattle.py_heap.specs.declared.heap.SequenceKind.{SequenceKind}
+use Rattle.py_heap.specs.declared.heap.SequenceKind.TheVariants as kind
+use Rattle.py_heap.specs.Sequences.{sequence}
 use Rattle.py_machine.specs.Errors.{unsupported_operands, bad_operand}
-use Rattle.py_meaning.specs.Acts.{Act, ◌>>=◌, ◌>>◌, pure, fail, step, charge, add, list_at, kind_of}
+use Rattle.py_meaning.specs.Acts.{Act, ◌>>=◌, ◌>>◌, pure, fail, step, charge, add, object_at, kind_of}
 use Rattle.py_meaning.specs.Numbers.{as_number, number, calculated}
 
 -- this many steps
@@ -16,17 +20,22 @@ unfoldable pub steps : ℕ → Act (Unit {0})
 steps zero = pure tt
 steps (suc n) = step >> steps n
 
--- a list that a display or an operator makes is charged 1 and the weights of its items
-abbrev pub list_units : List Value → ℕ
-list_units items = 1 + sum_by weight items
+-- a list or a tuple that a display or an operator makes is charged 1 and the weights of its items
+abbrev pub sequence_units : List Value → ℕ
+sequence_units items = 1 + sum_by weight items
 
--- a new list of copied items: the charge comes first, and then a step for each item
-unfoldable pub joined : List Value → Act Value
-joined items = do
-  charge (list_units items)
-  steps (length items)
-  at ← add (object.List items)
+-- a new list or tuple
+unfoldable pub made : SequenceKind → List Value → Act Value
+made kind items = do
+  at ← add (sequence kind items)
   pure (value.Ref at)
+
+-- a new list or tuple of copied items: the charge comes first, and then a step for each item
+unfoldable pub joined : SequenceKind → List Value → Act Value
+joined kind items = do
+  charge (sequence_units items)
+  steps (length items)
+  made kind items
 
 -- a text that is made is charged by its bytes
 unfoldable pub made_text : List ℕ → Act Value
@@ -38,36 +47,39 @@ unsupported o left right = do
   right_kind ← kind_of right
   fail (unsupported_operands o left_kind right_kind)
 
-abbrev pub lists_joined : ℕ → ℕ → Option (List Value) → Option (List Value) → Act Value
-lists_joined a b (Some items) (Some more) = joined (items ++ more)
-lists_joined a b _ _ = unsupported op.Plus (value.Ref a) (value.Ref b)
+-- two lists or two tuples
+abbrev pub objects_joined : ℕ → ℕ → Option Object → Option Object → Act Value
+objects_joined a b (Some (object.List items)) (Some (object.List more)) = joined kind.List (items ++ more)
+objects_joined a b (Some (object.Tuple items)) (Some (object.Tuple more)) = joined kind.Tuple (items ++ more)
+objects_joined a b one other = unsupported op.Plus (value.Ref a) (value.Ref b)
 
-unfoldable pub lists_sum : ℕ → ℕ → Act Value
-lists_sum a b = do
-  items ← list_at a
-  more ← list_at b
-  lists_joined a b items more
+unfoldable pub refs_joined : ℕ → ℕ → Act Value
+refs_joined a b = do
+  object ← object_at a
+  other ← object_at b
+  objects_joined a b object other
 
 -- `+` between what isn't two numbers
 abbrev pub together : Value → Value → Act Value
 together (value.Text text) (value.Text more) = made_text (text ++ more)
-together (value.Ref a) (value.Ref b) = lists_sum a b
+together (value.Ref a) (value.Ref b) = refs_joined a b
 together left right = unsupported op.Plus left right
 
--- ---- repetition: of a text or a list, by a number on either side; a number below 1 gives an empty one
+-- ---- repetition: of a text, a list or a tuple, by a number on either side; a number below 1 gives an empty one
 
 abbrev pub times : ℤ → ℕ
 times (pos n) = n
 times (negsuc n) = 0
 
-abbrev pub list_repeated : ℤ → Value → Value → Option (List Value) → Act Value
-list_repeated n left right (Some items) = joined (repeat (times n) items)
-list_repeated n left right None = unsupported op.Times left right
+abbrev pub object_repeated : ℤ → Value → Value → Option Object → Act Value
+object_repeated n left right (Some (object.List items)) = joined kind.List (repeat (times n) items)
+object_repeated n left right (Some (object.Tuple items)) = joined kind.Tuple (repeat (times n) items)
+object_repeated n left right other = unsupported op.Times left right
 
 unfoldable pub ref_repeated : ℤ → Value → Value → ℕ → Act Value
-ref_repeated n left right at = list_at at >>= list_repeated n left right
+ref_repeated n left right at = object_at at >>= object_repeated n left right
 
--- a text or a list, which is one of the two operands, this many times
+-- a text, a list or a tuple, which is one of the two operands, this many times
 abbrev pub repeated : ℤ → Value → Value → Value → Act Value
 repeated n left right (value.Text text) = made_text (repeat (times n) text)
 repeated n left right (value.Ref at) = ref_repeated n left right at

@@ -7,9 +7,10 @@ use Rattle.py_heap.specs.declared.heap.Object.{Object}
 use Rattle.py_heap.specs.declared.heap.Object.TheVariants as object
 use Rattle.py_meaning.specs.Acts.{Act, ◌>>=◌, pure, object_at}
 
--- all but the empty list and the empty dict; a reference to no object counts as None
+-- all but an empty list, tuple or dict; a reference to no object counts as None
 abbrev pub object_true : Option Object → Bool
 object_true (Some (object.List items)) = not (length items == 0)
+object_true (Some (object.Tuple items)) = not (length items == 0)
 object_true (Some (object.Dict pairs)) = not (length pairs == 0)
 object_true (Some (object.Function def)) = true
 object_true (Some (object.Handle name uses)) = true

@@ -56,6 +56,7 @@ fn object_bound(
 {
     match machine.object_at(at) {
         Some(Object::List(_)) => list_bound(alloc, machine, at, name),
+        Some(Object::Tuple(_)) => Err(Fault::Raised(no_attribute(alloc, ValueKind::Tuple, name)?)),
         Some(Object::Dict(_)) => dict_bound(alloc, machine, at, name),
         Some(Object::Function(_)) => {
             Err(Fault::Raised(no_attribute(alloc, ValueKind::Function, name)?))

@@ -1,14 +1,14 @@
 ghost use Rattle.std.specs.Prelude.{◌≡◌, ◌<◌, ◌≤◌, ◌^◌, length, IfOk, MatchOption, SomeIff};
 ghost use Rattle.py_machine.specs.Runs.{Is, Still, charge as meter_charge};
 ghost use Rattle.py_meaning.specs.Acts.{run};
-ghost use Rattle.py_meaning.specs.Operators.{joined as new_list, list_units};
+ghost use Rattle.py_meaning.specs.Operators.{joined as new_list, sequence_units};
 ghost use Rattle.py_meaning.specs.Texts.{split_at};
 ghost use Rattle.py_meaning.specs.Methods as spec;
 
 use plain_data::{Items, SharedText};
-use py_heap::{METER_LIMIT, Object};
+use py_heap::{METER_LIMIT, SequenceKind};
 use py_machine::{Fault, MAX_STEPS, Machine, empty_separator, memory_error, wrong_argument};
-use py_ops::{joined, take_steps};
+use py_ops::{joined, made, take_steps};
 use py_value::Value;
 use std::alloc::{AllocError, Global};
 
@@ -34,7 +34,7 @@ fn bytes(text: &str) -> u128
 /// The units of a list of the pieces of a text, if the meter's limit has room for them.
 fn units_of(text: &str, separator: &str) -> Option<u64>
     requires { 0 < length separator.now }
-    ensures { SomeIff result (list_units (spec.as_texts (split_at separator.now text.entry.now)) ≤ METER_LIMIT) (list_units (spec.as_texts (split_at separator.now text.entry.now))) }
+    ensures { SomeIff result (sequence_units (spec.as_texts (split_at separator.now text.entry.now)) ≤ METER_LIMIT) (sequence_units (spec.as_texts (split_at separator.now text.entry.now))) }
 {
     let mut units: u128 = 1;
     let mut rest = text;
@@ -59,7 +59,7 @@ fn charge_pieces(
     separator: &str,
 ) -> Result<(), Fault>
     requires { 0 < length separator.now }
-    ensures runs { Is (meter_charge (list_units (spec.as_texts (split_at separator.now text.now))) machine.old) result machine.new }
+    ensures runs { Is (meter_charge (sequence_units (spec.as_texts (split_at separator.now text.now))) machine.old) result machine.new }
     ensures drawn { machine.new.drawn ≡ machine.old.drawn }
 {
     match units_of(text, separator) {
@@ -117,17 +117,14 @@ fn split_into_many(
     separator: &str,
 ) -> Result<Value, Fault>
     requires { 0 < length separator.now }
-    ensures runs { Still (run (new_list (spec.as_texts (split_at separator.now text.now)))) machine.old result machine.new }
+    ensures runs { Still (run (new_list SequenceKind.List (spec.as_texts (split_at separator.now text.now)))) machine.old result machine.new }
     ensures drawn { machine.new.drawn ≡ machine.old.drawn }
 {
     charge_pieces(alloc, machine, text, separator)?;
     let count = count_of(text, separator);
     take_steps(alloc, machine, count)?;
     match pieces(alloc, text, separator, count)? {
-        Some(all) => {
-            let at = machine.add(Object::List(all))?;
-            Ok(Value::Ref(at))
-        }
+        Some(all) => made(machine, SequenceKind::List, all),
         None => unreachable!(),
     }
 }
@@ -141,12 +138,12 @@ fn split_text(
     separator: &str,
 ) -> Result<Value, Fault>
     requires { 0 < length separator.now }
-    ensures runs { Still (run (new_list (spec.as_texts (split_at separator.now text.now)))) machine.old result machine.new }
+    ensures runs { Still (run (new_list SequenceKind.List (spec.as_texts (split_at separator.now text.now)))) machine.old result machine.new }
     ensures drawn { machine.new.drawn ≡ machine.old.drawn }
 {
     let left = MAX_STEPS.saturating_sub(machine.steps);
     match pieces(alloc, text, separator, left as usize)? {
-        Some(all) => joined(alloc, machine, all),
+        Some(all) => joined(alloc, machine, SequenceKind::List, all),
         None => split_into_many(alloc, machine, text, separator),
     }
 }

@@ -12,17 +12,22 @@ use Rattle.py_heap.specs.Dicts.{Pairs}
 use Rattle.py_heap.specs.Objects.{items_at, pairs_at}
 use Rattle.py_machine.specs.declared.machine.Machine.{Machine}
 use Rattle.py_machine.specs.Runs.{Outcome, object_at}
-use Rattle.py_meaning.specs.Acts.{run, list_at}
-use Rattle.py_meaning.specs.Compared.{Compares, items_equal, pairs_equal, refs_equal, in_items, in_ref, items_ordered, refs_ordered, order_holds}
+use Rattle.py_meaning.specs.Acts.{run}
+use Rattle.py_meaning.specs.Compared.{Compares, sequences_equal, pairs_equal, refs_equal, in_items, in_ref, items_ordered, refs_ordered, order_holds}
 
 -- what a look at an option saw
 pub seen : {A : Type 0} {x y : A} {o : Option A} → Some x ≡ o → x ≡ y → o ≡ Some y
 seen e f = sym e ∙ ap Some f
 
 pub lists_at : (below : Compares) (a b : ℕ) (draws : List Drawn) (m : Machine) (vs ws : List Value) (o : Outcome Bool) → slice_get m.state.heap a ≡ Some (object.List vs) → slice_get m.state.heap b ≡ Some (object.List ws)
-    → length vs ≡ length ws → run (items_equal below (items_at m.state.heap a) (items_at m.state.heap b)) draws m ≡ o → run (refs_equal below a b) draws m ≡ o
+    → run (sequences_equal below (items_at m.state.heap a) (items_at m.state.heap b)) draws m ≡ o → run (refs_equal below a b) draws m ≡ o
 unfolding refs_equal object_at
-lists_at below a b draws m vs ws o e f l h = rw (e, f, eq-eqb (length vs) (length ws) l) (rw (e, f) at h)
+lists_at below a b draws m vs ws o e f h = rw (e, f) (rw (e, f) at h)
+
+pub tuples_at : (below : Compares) (a b : ℕ) (draws : List Drawn) (m : Machine) (vs ws : List Value) (o : Outcome Bool) → slice_get m.state.heap a ≡ Some (object.Tuple vs) → slice_get m.state.heap b ≡ Some (object.Tuple ws)
+    → run (sequences_equal below (items_at m.state.heap a) (items_at m.state.heap b)) draws m ≡ o → run (refs_equal below a b) draws m ≡ o
+unfolding refs_equal object_at
+tuples_at below a b draws m vs ws o e f h = rw (e, f) (rw (e, f) at h)
 
 pub dicts_at : (below : Compares) (a b : ℕ) (draws : List Drawn) (m : Machine) (vs ws : Pairs) (o : Outcome Bool) → slice_get m.state.heap a ≡ Some (object.Dict vs) → slice_get m.state.heap b ≡ Some (object.Dict ws)
     → length vs ≡ length ws → run (pairs_equal below (pairs_at m.state.heap a) (pairs_at m.state.heap b)) draws m ≡ o → run (refs_equal below a b) draws m ≡ o
@@ -34,9 +39,19 @@ pub searched_at : (below : Compares) (held : Value) (a : ℕ) (draws : List Draw
 unfolding in_ref object_at
 searched_at below held a draws m vs o e h = rw e (rw e at h)
 
+pub searched_in_tuple : (below : Compares) (held : Value) (a : ℕ) (draws : List Drawn) (m : Machine) (vs : List Value) (o : Outcome Bool) → slice_get m.state.heap a ≡ Some (object.Tuple vs)
+    → run (in_items below held (items_at m.state.heap a)) draws m ≡ o → run (in_ref below held a) draws m ≡ o
+unfolding in_ref object_at
+searched_in_tuple below held a draws m vs o e h = rw e (rw e at h)
+
+pub tuples_ordered_at : (equal : Compares) (ordered : Op → Compares) (op : Op) (a b : ℕ) (draws : List Drawn) (m : Machine) (vs ws : List Value) (o : Outcome Bool) → slice_get m.state.heap a ≡ Some (object.Tuple vs)
+    → slice_get m.state.heap b ≡ Some (object.Tuple ws) → run (items_ordered equal ordered op (items_at m.state.heap a) (items_at m.state.heap b)) draws m ≡ o → run (refs_ordered equal ordered op a b) draws m ≡ o
+unfolding refs_ordered object_at
+tuples_ordered_at equal ordered op a b draws m vs ws o e f h = rw (e, f) (rw (e, f) at h)
+
 pub ordered_at : (equal : Compares) (ordered : Op → Compares) (op : Op) (a b : ℕ) (draws : List Drawn) (m : Machine) (vs ws : List Value) (o : Outcome Bool) → slice_get m.state.heap a ≡ Some (object.List vs)
     → slice_get m.state.heap b ≡ Some (object.List ws) → run (items_ordered equal ordered op (items_at m.state.heap a) (items_at m.state.heap b)) draws m ≡ o → run (refs_ordered equal ordered op a b) draws m ≡ o
-unfolding refs_ordered list_at object_at
+unfolding refs_ordered object_at
 ordered_at equal ordered op a b draws m vs ws o e f h = rw (e, f) (rw (e, f) at h)
 
 cmp_left : (k a b : ℕ) → k ≤ a → k ≤ b → nat_cmp (a - k) (b - k) ≡ nat_cmp a b

@@ -7,7 +7,7 @@ use Rattle.py_value.specs.declared.value.Value.TheVariants as value
 use Rattle.py_heap.specs.declared.heap.Object.{Object}
 use Rattle.py_heap.specs.Objects.{items_at, pairs_at}
 
--- the item at an index of the list at an address, and None past its end
+-- the item at an index of the list or the tuple at an address, and None past its end
 abbrev pub item_of : List Object → ℕ → ℕ → Value
 item_of heap at position = slice_index_or (items_at heap at) position value.Nothing
 

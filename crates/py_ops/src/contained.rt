@@ -39,7 +39,7 @@ fn in_text(
     }
 }
 
-/// Whether one of the items of the list at an address is the value or equal to it.
+/// Whether one of the items of the list or the tuple at an address is the value or equal to it.
 fn in_items(
     alloc: Global,
     left: u32,
@@ -85,6 +85,10 @@ fn in_ref(
             let count = items.len();
             in_items(alloc, left, machine, value, at, count)
         }
+        Some(Object::Tuple(items)) => {
+            let count = items.len();
+            in_items(alloc, left, machine, value, at, count)
+        }
         Some(Object::Dict(pairs)) => in_pairs(alloc, machine, value, pairs),
         Some(Object::Function(_)) => Err(Fault::Raised(not_searched(alloc, ValueKind::Function)?)),
         Some(Object::Handle { .. }) => Err(Fault::Raised(not_searched(alloc, ValueKind::Handle)?)),
@@ -100,7 +104,7 @@ fn not_searchable(alloc: Global, machine: &Machine, value: &Value) -> Result<boo
     Err(Fault::Raised(not_searched(alloc, kind)?))
 }
 
-/// Whether a value is in another: a text is searched for a text, a list for a value, and a dict for a key. Pairs have `left`
+/// Whether a value is in another: a text is searched for a text, a list or a tuple for a value, and a dict for a key. Pairs have `left`
 /// levels left.
 pub(crate) fn is_in(
     alloc: Global,

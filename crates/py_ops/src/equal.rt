@@ -21,7 +21,7 @@ fn is_one(left: &Value, right: &Value) -> bool
     }
 }
 
-/// Compares the items of two lists, pair by pair, up to the first one that isn't equal.
+/// Compares the items of two lists or two tuples, pair by pair, up to the first one that isn't equal.
 #[cycle(equal)]
 fn items_equal(
     alloc: Global,
@@ -45,6 +45,30 @@ fn items_equal(
         }
     }
     Ok(true)
+}
+
+/// Compares the lists or the tuples at two addresses, which have `count` and `others` items.
+#[cycle(equal)]
+fn sequences_equal(
+    alloc: Global,
+    left: u32,
+    machine: &mut Machine,
+    a: u32,
+    b: u32,
+    count: usize,
+    others: usize,
+) -> Result<bool, Fault>
+    requires first { length (items_at machine.old.state.heap a) ≡ count }
+    requires second { length (items_at machine.old.state.heap b) ≡ others }
+    ensures runs { Still (run (spec.sequences_equal (spec.pair_equal left) (items_at machine.old.state.heap a) (items_at machine.old.state.heap b))) machine.old result machine.new }
+    ensures drawn { machine.new.drawn ≡ machine.old.drawn }
+    ensures same { OnOk result (machine.new.state ≡ machine.old.state) }
+{
+    if count == others {
+        items_equal(alloc, left, machine, a, b, count)
+    } else {
+        Ok(false)
+    }
 }
 
 /// Compares a value with one that is under the same key, if there is one.
@@ -108,14 +132,20 @@ fn refs_equal(
         Some(Object::List(items)) => match machine.object_at(b) {
             Some(Object::List(others)) => {
                 let count = items.len();
-                if count != others.len() {
-                    return Ok(false);
-                }
-                items_equal(alloc, left, machine, a, b, count)
+                let others = others.len();
+                sequences_equal(alloc, left, machine, a, b, count, others)
             }
-            Some(Object::Dict(_) | Object::Function(_) | Object::Handle { .. }) | None => Ok(
-                a == b,
-            ),
+            Some(Object::Tuple(_) | Object::Dict(_) | Object::Function(_) | Object::Handle { .. })
+            | None => Ok(a == b),
+        },
+        Some(Object::Tuple(items)) => match machine.object_at(b) {
+            Some(Object::Tuple(others)) => {
+                let count = items.len();
+                let others = others.len();
+                sequences_equal(alloc, left, machine, a, b, count, others)
+            }
+            Some(Object::List(_) | Object::Dict(_) | Object::Function(_) | Object::Handle { .. })
+            | None => Ok(a == b),
         },
         Some(Object::Dict(pairs)) => match machine.object_at(b) {
             Some(Object::Dict(others)) => {
@@ -125,9 +155,8 @@ fn refs_equal(
                 }
                 pairs_equal(alloc, left, machine, a, b, count)
             }
-            Some(Object::List(_) | Object::Function(_) | Object::Handle { .. }) | None => Ok(
-                a == b,
-            ),
+            Some(Object::List(_) | Object::Tuple(_) | Object::Function(_) | Object::Handle { .. })
+            | None => Ok(a == b),
         },
         Some(Object::Function(_)) | Some(Object::Handle { .. }) | None => Ok(a == b),
     }
@@ -155,7 +184,7 @@ fn others_equal(
     }
 }
 
-/// Whether two values are equal: numbers by value, texts by characters, lists by what they hold. Pairs inside have `left`
+/// Whether two values are equal: numbers by value, texts by characters, lists, tuples and dicts by what they hold. Pairs inside have `left`
 /// levels left.
 #[cycle(equal)]
 #[tactic(auto, unfolding(py_meaning::specs::Compared::values_equal))]

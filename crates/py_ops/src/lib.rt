@@ -18,5 +18,7 @@ pub use affixes::{begins, ends, occurs};
 pub use comparing::compare;
 pub use numbers::as_number;
 pub use objects::{copy_items, keyed, kind_of, list_at, take_steps, truth_of};
-pub use operators::{binary, charge, charge_items, charge_list, joined, made_text, signed};
+pub use operators::{
+    binary, charge, charge_items, charge_sequence, joined, made, made_text, signed,
+};
 pub use signs::{Signed, by_sign, sign_of};

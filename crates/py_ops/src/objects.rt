@@ -34,6 +34,7 @@ fn kind_at(machine: &Machine, at: u32) -> ValueKind
 {
     match machine.object_at(at) {
         Some(Object::List(_)) => ValueKind::List,
+        Some(Object::Tuple(_)) => ValueKind::Tuple,
         Some(Object::Dict(_)) => ValueKind::Dict,
         Some(Object::Function(_)) => ValueKind::Function,
         Some(Object::Handle { .. }) => ValueKind::Handle,
@@ -68,7 +69,7 @@ fn object_true(machine: &Machine, at: u32) -> bool
     ensures { result ≡ truth.object_true (slice_get machine.now.state.heap at) }
 {
     match machine.object_at(at) {
-        Some(Object::List(items)) => items.len() != 0,
+        Some(Object::List(items) | Object::Tuple(items)) => items.len() != 0,
         Some(Object::Dict(dict)) => dict.len() != 0,
         Some(Object::Function(_)) | Some(Object::Handle { .. }) => true,
         None => false,

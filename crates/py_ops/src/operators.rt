@@ -1,15 +1,15 @@
 ghost use Rattle.std.specs.Prelude.{◌≡◌, ◌++◌, neg_ℤ, length, sum_by, IfOk};
 ghost use Rattle.py_value.specs.Values.{weight as weight_of};
 ghost use Rattle.py_machine.specs.Runs.{Is, Still, charge as meter_charge};
-ghost use Rattle.py_meaning.specs.Acts.{run, chain, add, pure};
+ghost use Rattle.py_meaning.specs.Acts.{run, chain};
 ghost use Rattle.py_meaning.specs.Numbers.{number};
 ghost use Rattle.py_meaning.specs.Operators as spec;
 
 use crate::numbers::{as_number, calculated};
-use crate::repetition::multiplied;
-use crate::{kind_of, list_at, take_steps};
+use crate::repetition::{append_copies, multiplied};
+use crate::{copy_items, kind_of, take_steps};
 use plain_data::{Items, SharedText, Text};
-use py_heap::{METER_LIMIT, Object};
+use py_heap::{METER_LIMIT, Object, SequenceKind};
 use py_machine::{Fault, Machine, bad_operand, memory_error, overflow_error, unsupported_operands};
 use py_tree::Op;
 use py_value::{Value, weight};
@@ -56,10 +56,10 @@ pub fn made_text(alloc: Global, machine: &mut Machine, text: Text) -> Result<Val
     Ok(Value::Text(SharedText::new(alloc, text)?))
 }
 
-/// The charge of a new list with these items.
+/// The charge of a new list or tuple with these items.
 #[tactic(auto, unfolding(py_machine::specs::Runs::charge))]
-pub fn charge_list(alloc: Global, machine: &mut Machine, items: &[Value]) -> Result<(), Fault>
-    ensures runs { Is (meter_charge (spec.list_units items.entry.now) machine.old) result machine.new }
+pub fn charge_sequence(alloc: Global, machine: &mut Machine, items: &[Value]) -> Result<(), Fault>
+    ensures runs { Is (meter_charge (spec.sequence_units items.entry.now) machine.old) result machine.new }
     ensures drawn { machine.new.drawn ≡ machine.old.drawn }
 {
     let mut units: u64 = 1;
@@ -75,28 +75,43 @@ pub fn charge_list(alloc: Global, machine: &mut Machine, items: &[Value]) -> Res
     machine.charge(alloc, units)
 }
 
-/// A new list of items, whose charge is paid: a step for each.
-pub(crate) fn listed(
-    alloc: Global,
-    machine: &mut Machine,
-    items: Items<Value>,
-) -> Result<Value, Fault>
-    ensures runs { Still (run (chain (spec.steps (length items)) (λ _. chain (add (Object.List items)) (λ at. pure (Value.Ref at))))) machine.old result machine.new }
+/// A new list or tuple of items, whose charge is paid.
+#[tactic(auto, unfolding(py_meaning::specs::Operators::made))]
+pub fn made(machine: &mut Machine, kind: SequenceKind, items: Items<Value>) -> Result<Value, Fault>
+    ensures runs { Still (run (spec.made kind items)) machine.old result machine.new }
     ensures drawn { machine.new.drawn ≡ machine.old.drawn }
 {
-    take_steps(alloc, machine, items.len())?;
-    let at = machine.add(Object::List(items))?;
+    let at = machine.add(Object::sequence(kind, items))?;
     Ok(Value::Ref(at))
 }
 
-/// A new list of copied items: the charge comes first, and then a step for each item.
-#[tactic(auto, unfolding(py_meaning::specs::Operators::joined))]
-pub fn joined(alloc: Global, machine: &mut Machine, items: Items<Value>) -> Result<Value, Fault>
-    ensures runs { Still (run (spec.joined items)) machine.old result machine.new }
+/// A new list or tuple of copied items, whose charge is paid: a step for each.
+pub(crate) fn copied(
+    alloc: Global,
+    machine: &mut Machine,
+    kind: SequenceKind,
+    items: Items<Value>,
+) -> Result<Value, Fault>
+    ensures runs { Still (run (chain (spec.steps (length items)) (λ _. spec.made kind items))) machine.old result machine.new }
     ensures drawn { machine.new.drawn ≡ machine.old.drawn }
 {
-    charge_list(alloc, machine, items.as_slice())?;
-    listed(alloc, machine, items)
+    take_steps(alloc, machine, items.len())?;
+    made(machine, kind, items)
+}
+
+/// A new list or tuple of copied items: the charge comes first, and then a step for each item.
+#[tactic(auto, unfolding(py_meaning::specs::Operators::joined))]
+pub fn joined(
+    alloc: Global,
+    machine: &mut Machine,
+    kind: SequenceKind,
+    items: Items<Value>,
+) -> Result<Value, Fault>
+    ensures runs { Still (run (spec.joined kind items)) machine.old result machine.new }
+    ensures drawn { machine.new.drawn ≡ machine.old.drawn }
+{
+    charge_sequence(alloc, machine, items.as_slice())?;
+    copied(alloc, machine, kind, items)
 }
 
 /// The charge of a text that is made of two, by its bytes.
@@ -125,14 +140,12 @@ fn joined_text(
     Ok(Value::Text(SharedText::new(alloc, whole)?))
 }
 
-/// The first items, with the others after them.
-fn extended(items: Items<Value>, more: Items<Value>) -> Result<Items<Value>, AllocError>
-    ensures { IfOk result (λ all. all ≡ items ++ more) }
+/// Copies of the first items, with copies of the others after them.
+fn both(alloc: Global, items: &[Value], more: &[Value]) -> Result<Items<Value>, AllocError>
+    ensures { IfOk result (λ all. all ≡ items.now ++ more.now) }
 {
-    let mut all = items;
-    for item in more.into_vec() {
-        all.push(item)?;
-    }
+    let mut all = copy_items(alloc, items)?;
+    append_copies(&mut all, more)?;
     Ok(all)
 }
 
@@ -154,17 +167,36 @@ pub(crate) fn unsupported(
     Err(Fault::Raised(unsupported_operands(alloc, op, left, right)?))
 }
 
-/// The new list of two lists' items.
-#[tactic(auto, unfolding(py_meaning::specs::Operators::lists_sum))]
-fn lists_sum(alloc: Global, machine: &mut Machine, a: u32, b: u32) -> Result<Value, Fault>
-    ensures runs { Still (run (spec.lists_sum a b)) machine.old result machine.new }
+/// The new list of two lists' items, or the new tuple of two tuples'.
+#[tactic(auto, unfolding(py_meaning::specs::Operators::refs_joined, py_machine::specs::Runs::object_at))]
+fn refs_joined(alloc: Global, machine: &mut Machine, a: u32, b: u32) -> Result<Value, Fault>
+    ensures runs { Still (run (spec.refs_joined a b)) machine.old result machine.new }
     ensures drawn { machine.new.drawn ≡ machine.old.drawn }
 {
-    let items = list_at(alloc, machine, a)?;
-    let more = list_at(alloc, machine, b)?;
-    match (items, more) {
-        (Some(items), Some(more)) => joined(alloc, machine, extended(items, more)?),
-        _ => unsupported(alloc, machine, Op::Plus, &Value::Ref(a), &Value::Ref(b)),
+    match machine.object_at(a) {
+        Some(Object::List(items)) => match machine.object_at(b) {
+            Some(Object::List(more)) => {
+                let all = both(alloc, items.as_slice(), more.as_slice())?;
+                joined(alloc, machine, SequenceKind::List, all)
+            }
+            Some(Object::Tuple(_) | Object::Dict(_) | Object::Function(_) | Object::Handle { .. })
+            | None => unsupported(alloc, machine, Op::Plus, &Value::Ref(a), &Value::Ref(b)),
+        },
+        Some(Object::Tuple(items)) => match machine.object_at(b) {
+            Some(Object::Tuple(more)) => {
+                let all = both(alloc, items.as_slice(), more.as_slice())?;
+                joined(alloc, machine, SequenceKind::Tuple, all)
+            }
+            Some(Object::List(_) | Object::Dict(_) | Object::Function(_) | Object::Handle { .. })
+            | None => unsupported(alloc, machine, Op::Plus, &Value::Ref(a), &Value::Ref(b)),
+        },
+        Some(Object::Dict(_) | Object::Function(_) | Object::Handle { .. }) | None => unsupported(
+            alloc,
+            machine,
+            Op::Plus,
+            &Value::Ref(a),
+            &Value::Ref(b),
+        ),
     }
 }
 
@@ -180,7 +212,7 @@ fn together(
 {
     match (left, right) {
         (Value::Text(text), Value::Text(more)) => joined_text(alloc, machine, text, more),
-        (Value::Ref(a), Value::Ref(b)) => lists_sum(alloc, machine, *a, *b),
+        (Value::Ref(a), Value::Ref(b)) => refs_joined(alloc, machine, *a, *b),
         _ => unsupported(alloc, machine, Op::Plus, left, right),
     }
 }
@@ -215,7 +247,7 @@ fn combined(
 }
 
 /// What a binary operator gives of two values: `op` is one of the five from `Plus` to `Mod`. Numbers are calculated with, two
-/// texts or two lists are put together, and a text or a list is repeated. Else a TypeError; a number past 128 bits is an
+/// texts, lists or tuples are put together, and a text, a list or a tuple is repeated. Else a TypeError; a number past 128 bits is an
 /// OverflowError, a divisor that is 0 a ZeroDivisionError. (Python reference: binary arithmetic operations.)
 #[inline(always)]
 #[tactic(auto, unfolding(py_meaning::specs::Operators::operated))]

@@ -45,7 +45,7 @@ fn no_order(
     Err(Fault::Raised(not_ordered(alloc, op, left, right)?))
 }
 
-/// Compares two lists: the first pair that isn't equal decides, and else the lengths.
+/// Compares two lists or two tuples: the first pair that isn't equal decides, and else the lengths.
 #[cycle(order)]
 fn items_ordered(
     alloc: Global,
@@ -72,9 +72,9 @@ fn items_ordered(
     Ok(order_holds(op, count.cmp(&others)))
 }
 
-/// Compares the lists at two addresses.
+/// Compares the objects at two addresses: two lists or two tuples.
 #[cycle(order)]
-#[tactic(auto, unfolding(py_meaning::specs::Compared::refs_ordered, py_meaning::specs::Acts::list_at, py_machine::specs::Runs::object_at))]
+#[tactic(auto, unfolding(py_meaning::specs::Compared::refs_ordered, py_machine::specs::Runs::object_at))]
 fn refs_ordered(
     alloc: Global,
     left: u32,
@@ -93,13 +93,25 @@ fn refs_ordered(
                 let others = others.len();
                 items_ordered(alloc, left, machine, op, a, b, count, others)
             }
-            Some(Object::Dict(_))
-            | Some(Object::Function(_))
-            | Some(Object::Handle { .. })
+            Some(Object::Tuple(_) | Object::Dict(_) | Object::Function(_) | Object::Handle { .. })
             | None => no_order(alloc, machine, op, &Value::Ref(a), &Value::Ref(b)),
         },
-        Some(Object::Dict(_)) | Some(Object::Function(_)) | Some(Object::Handle { .. }) | None =>
-            no_order(alloc, machine, op, &Value::Ref(a), &Value::Ref(b)),
+        Some(Object::Tuple(items)) => match machine.object_at(b) {
+            Some(Object::Tuple(others)) => {
+                let count = items.len();
+                let others = others.len();
+                items_ordered(alloc, left, machine, op, a, b, count, others)
+            }
+            Some(Object::List(_) | Object::Dict(_) | Object::Function(_) | Object::Handle { .. })
+            | None => no_order(alloc, machine, op, &Value::Ref(a), &Value::Ref(b)),
+        },
+        Some(Object::Dict(_) | Object::Function(_) | Object::Handle { .. }) | None => no_order(
+            alloc,
+            machine,
+            op,
+            &Value::Ref(a),
+            &Value::Ref(b),
+        ),
     }
 }
 
@@ -126,7 +138,7 @@ fn others_ordered(
     }
 }
 
-/// Whether a comparison of order holds between two values: numbers, texts by characters, lists by their first pair that isn't
+/// Whether a comparison of order holds between two values: numbers, texts by characters, lists and tuples by their first pair that isn't
 /// equal. Pairs inside have `left` levels left.
 #[cycle(order)]
 #[inline(always)]

@@ -8,13 +8,13 @@ use py_machine::Machine;
 use py_value::Value;
 use std::alloc::AllocError;
 
-/// A copy of the item at an index of the list at an address.
+/// A copy of the item at an index of the list or the tuple at an address.
 pub(crate) fn item_of(machine: &Machine, at: u32, position: usize) -> Result<Value, AllocError>
     requires { position < length (items_at machine.now.state.heap at) }
     ensures { IfOk result (λ item. item ≡ spec.item_of machine.now.state.heap at position) }
 {
     match machine.object_at(at) {
-        Some(Object::List(items)) => match items.get(position) {
+        Some(Object::List(items) | Object::Tuple(items)) => match items.get(position) {
             Some(item) => item.copy(),
             None => unreachable!(),
         },

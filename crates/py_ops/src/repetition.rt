@@ -7,11 +7,11 @@ ghost use Rattle.py_meaning.specs.Numbers as numbers;
 ghost use Rattle.py_meaning.specs.Operators as spec;
 ghost use Rattle.py_ops.specs.Signs.{number_of};
 
-use crate::list_at;
-use crate::operators::{listed, unsupported};
+use crate::copy_items;
+use crate::operators::{copied, unsupported};
 use crate::signs::{Signed, sign_of};
 use plain_data::{Items, SharedText, Text};
-use py_heap::METER_LIMIT;
+use py_heap::{METER_LIMIT, Object, SequenceKind};
 use py_machine::{Fault, Machine, memory_error};
 use py_tree::Op;
 use py_value::{Value, weight};
@@ -106,10 +106,10 @@ fn weights(items: &[Value]) -> Option<u64>
     Some(units)
 }
 
-/// The units of a list of items `count` times, if the meter's limit has room for them.
+/// The units of a list or a tuple of items `count` times, if the meter's limit has room for them.
 #[tactic(auto, using(crate::proofs::Repeated::weighed))]
-fn list_units(count: u128, items: &[Value]) -> Option<u64>
-    ensures { SomeIff result (spec.list_units (repeat count items.now) ≤ METER_LIMIT) (spec.list_units (repeat count items.now)) }
+fn sequence_units(count: u128, items: &[Value]) -> Option<u64>
+    ensures { SomeIff result (spec.sequence_units (repeat count items.now) ≤ METER_LIMIT) (spec.sequence_units (repeat count items.now)) }
 {
     if count == 0 {
         return Some(1);
@@ -123,7 +123,7 @@ fn list_units(count: u128, items: &[Value]) -> Option<u64>
     }
 }
 
-/// The charge of a new list of items `count` times.
+/// The charge of a new list or tuple of items `count` times.
 #[tactic(auto, unfolding(py_machine::specs::Runs::charge))]
 fn charge_copies(
     alloc: Global,
@@ -131,18 +131,18 @@ fn charge_copies(
     count: u128,
     items: &[Value],
 ) -> Result<(), Fault>
-    ensures runs { Is (charge (spec.list_units (repeat count items.now)) machine.old) result machine.new }
+    ensures runs { Is (charge (spec.sequence_units (repeat count items.now)) machine.old) result machine.new }
     ensures drawn { machine.new.drawn ≡ machine.old.drawn }
-    ensures within { OnOk result (spec.list_units (repeat count items.now) ≤ METER_LIMIT) }
+    ensures within { OnOk result (spec.sequence_units (repeat count items.now) ≤ METER_LIMIT) }
 {
-    match list_units(count, items) {
+    match sequence_units(count, items) {
         Some(units) => machine.charge(alloc, units),
         None => Err(Fault::Raised(memory_error(alloc)?)),
     }
 }
 
 /// Puts copies of items after others. After an error some of them may be there.
-fn append_copies(all: &mut Items<Value>, items: &[Value]) -> Result<(), AllocError>
+pub(crate) fn append_copies(all: &mut Items<Value>, items: &[Value]) -> Result<(), AllocError>
     ensures { OnOk result (all.new ≡ all.old ++ items.now) }
 {
     for item in items {
@@ -154,7 +154,7 @@ fn append_copies(all: &mut Items<Value>, items: &[Value]) -> Result<(), AllocErr
 /// Items `count` times.
 #[tactic(auto, using(crate::proofs::Repeated::copied))]
 fn copies_of_items(alloc: Global, count: u128, items: &[Value]) -> Result<Items<Value>, AllocError>
-    requires { spec.list_units (repeat count items.now) ≤ METER_LIMIT }
+    requires { spec.sequence_units (repeat count items.now) ≤ METER_LIMIT }
     ensures { IfOk result (λ all. all ≡ repeat count items.now) }
 {
     let mut all = Items::new(alloc);
@@ -167,24 +167,25 @@ fn copies_of_items(alloc: Global, count: u128, items: &[Value]) -> Result<Items<
     Ok(all)
 }
 
-/// A list that is repeated. It is charged before it is made.
+/// A list or a tuple that is repeated. It is charged before it is made.
 #[tactic(auto, unfolding(py_meaning::specs::Operators::joined))]
 fn items_repeated(
     alloc: Global,
     machine: &mut Machine,
+    kind: SequenceKind,
     count: u128,
     items: &[Value],
 ) -> Result<Value, Fault>
-    ensures runs { Still (run (spec.joined (repeat count items.now))) machine.old result machine.new }
+    ensures runs { Still (run (spec.joined kind (repeat count items.now))) machine.old result machine.new }
     ensures drawn { machine.new.drawn ≡ machine.old.drawn }
 {
     charge_copies(alloc, machine, count, items)?;
     let all = copies_of_items(alloc, count, items)?;
-    listed(alloc, machine, all)
+    copied(alloc, machine, kind, all)
 }
 
-/// The list at an address, repeated.
-#[tactic(auto, unfolding(py_meaning::specs::Operators::ref_repeated))]
+/// The list or the tuple at an address, repeated.
+#[tactic(auto, unfolding(py_meaning::specs::Operators::ref_repeated, py_machine::specs::Runs::object_at))]
 fn ref_repeated(
     alloc: Global,
     machine: &mut Machine,
@@ -196,13 +197,38 @@ fn ref_repeated(
     ensures runs { Still (run (spec.ref_repeated (number_of number) left.now right.now at)) machine.old result machine.new }
     ensures drawn { machine.new.drawn ≡ machine.old.drawn }
 {
-    match list_at(alloc, machine, at)? {
-        Some(items) => items_repeated(alloc, machine, times(number), items.as_slice()),
-        None => unsupported(alloc, machine, Op::Times, left, right),
+    match machine.object_at(at) {
+        Some(Object::List(items)) => {
+            let items = copy_items(alloc, items.as_slice())?;
+            items_repeated(
+                alloc,
+                machine,
+                SequenceKind::List,
+                times(number),
+                items.as_slice(),
+            )
+        }
+        Some(Object::Tuple(items)) => {
+            let items = copy_items(alloc, items.as_slice())?;
+            items_repeated(
+                alloc,
+                machine,
+                SequenceKind::Tuple,
+                times(number),
+                items.as_slice(),
+            )
+        }
+        Some(Object::Dict(_) | Object::Function(_) | Object::Handle { .. }) | None => unsupported(
+            alloc,
+            machine,
+            Op::Times,
+            left,
+            right,
+        ),
     }
 }
 
-/// A text or a list, which is one of the two operands, repeated.
+/// A text, a list or a tuple, which is one of the two operands, repeated.
 fn repeated(
     alloc: Global,
     machine: &mut Machine,

@@ -1,120 +1,85 @@
 -- The verdict says what it says in the words of the grammar.
-use Rattle.std.proofs.Common.{◌≡◌, ℕ, zero, suc, ◌+◌, ◌-◌, ◌<◌, ◌≤◌, Bool, true, false, nat_lt, nat_eq, if◌then◌else◌, List, [], ◌∷◌, length, take, slice_get, Option, Some, None, Result, Ok, Err, refl, ap, ◌∙◌, sym, subst, arith}
+use Rattle.std.proofs.Common.{◌≡◌, ℕ, suc, ◌-◌, ◌≤◌, Bool, true, false, nat_lt, if◌then◌else◌, List, [], length, take, drop, slice_get, Some, None, Result, Ok, Err, refl, ap, ◌∙◌, sym, subst, arith}
+use Rattle.std.proofs.lemmas.Bool.{ltb-true, ltb-false}
+use Rattle.std.proofs.lemmas.Option.{slice_get_within}
 use Rattle.py_token.specs.declared.kinds.Kind.{Kind}
 use Rattle.py_token.specs.declared.kinds.Token.{Token}
-use Rattle.py_token.specs.declared.faults.TokenFault.{TokenFault}
+use Rattle.py_token.specs.Cuts.{kinds}
 use Rattle.py_token.specs.Lines.{tokens_of}
 use Rattle.py_tree.specs.declared.statements.Tree.{Tree}
 use Rattle.py_grammar.specs.States as m
+use Rattle.py_grammar.specs.States.{done}
+use Rattle.py_grammar.specs.Statements.{Cell, IsCell}
+use Rattle.py_grammar.specs.Depth.{IsTooDeep, AreTooDeep}
 use Rattle.py_grammar.specs.Outside.{Fails, outside}
-use Rattle.py_grammar.proofs.Whole.{led, then_run, read_is}
-use Rattle.py_token.proofs.Ends.{ends_well}
-use Rattle.py_grammar.proofs.Failing.{is_failing}
-use Rattle.py_postfix.specs.declared.entries.Entry.{Entry}
-use Rattle.py_postfix.specs.Statements.{post_cell}
-use Rattle.py_nesting.specs.Depth.{depth, IsShallow, IsFirstTooDeep}
-use Rattle.py_build.specs.Built.{kinds}
+use Rattle.py_grammar.proofs.Failing.{is_failing, stands_at, stands_where}
+use Rattle.py_grammar.proofs.Whole.{read_is}
+use Rattle.py_blocks.specs.Follows.{forms_run}
+use Rattle.py_blocks.specs.Telling.{IsOf}
 use Rattle.py_reader.specs.declared.fault.SyntaxFault.{SyntaxFault}
-use Rattle.py_reader.specs.declared.fault.SyntaxFault.TheVariants.{TooLong, TooDeep}
-use Rattle.py_reader.specs.Verdicts.{start_of, parts_before, of_cell, of_open, Verdict, too_long, bad_token, too_deep, refused, whole}
-use Rattle.py_reader.specs.Verdict.{End, all_read, stopped, run_from, deep_from, most, unless_deep, nested, of_end, of_tokens, verdict}
+use Rattle.py_reader.specs.declared.fault.SyntaxFault.TheVariants.{TooDeep}
 use Rattle.py_reader.specs.declared.fault.ReadError.{ReadError}
 use Rattle.py_reader.specs.declared.fault.ReadError.TheVariants.{OutOfMemory, Fault}
+use Rattle.py_reader.specs.Verdicts.{start_of, refusal, of_cell as cell_deep, of_open, Verdict, too_long, bad_token, too_deep, refused, whole}
+use Rattle.py_reader.specs.Verdict.{deepest_of, deep_fault, nested, stop_fault, of_cell, verdict}
 use Rattle.py_reader.specs.Gives as gives
-use Rattle.py_reader.proofs.Ended.{IsDone}
-use Rattle.py_reader.proofs.Judged.{beyond_most, at_end, all_done}
-use Rattle.py_reader.proofs.Final.{ends_so}
+use Rattle.py_reader.proofs.Deep.{tells, cell-tells}
+use Rattle.py_reader.proofs.Ended.{all_done}
+use Rattle.py_reader.proofs.Judged.{means-with}
+use Rattle.py_reader.proofs.Scanned.{kinds-length}
 
 -- ---- nesting
 
--- what the search finds from a number of tokens on, if no token before is too deep
-pub data Deep (es : List Entry) : Option ℕ → Type 0 where
-  nowhere : IsShallow es → Deep es None
-  first_at : (left : ℕ) → IsFirstTooDeep es left → Deep es (Some left)
+pub no-more : (n : ℕ) → n ≤ 0 → n ≡ 0
+no-more n l = omega (arith, l)
 
-search : (es : List Entry) (n : ℕ) → ((left : ℕ) → n < left → depth left es ≤ 64) → depth 0 es ≤ 64 → Deep es (deep_from n es)
-search es zero before last = nowhere (λ left. at left (nat_eq left 0) refl)
+-- of a whole cell
+pub nested-means : {A : Type 0} (P : Result A SyntaxFault → Type 0) (tokens : List Token) (c : Cell) (judged : Result A SyntaxFault) → IsCell (kinds tokens) c → ((place : ℕ) → IsTooDeep c place → P (Err (TooDeep (start_of tokens place))))
+    → (((other : ℕ) → IsTooDeep c other → ⊥) → P judged) → P (nested tokens (deepest_of tokens (done c) []) judged)
+nested-means {A} P tokens c judged is deep shallow = on (nat_lt 0 (deepest_of tokens (done c) [])) refl
   where
-    at : (left : ℕ) (b : Bool) → nat_eq left 0 ≡ b → depth left es ≤ 64
-    at left true q = let same : left ≡ 0 = grind arith in subst (λ n. depth n es ≤ 64) (sym same) last
-    at left false q = before left (grind arith)
-search es (suc k) before last = on (nat_lt 64 (depth (suc k) es)) refl (λ h. search es k h last)
+    on : (b : Bool) → nat_lt 0 (deepest_of tokens (done c) []) ≡ b → P (if b then Err (deep_fault tokens (deepest_of tokens (done c) [])) else judged)
+    on true q = deep (suc (length tokens) - deepest_of tokens (done c) []) ((cell-tells tokens c is).0 (ltb-true 0 (deepest_of tokens (done c) []) q))
+    on false q = shallow ((cell-tells tokens c is).1 (no-more (deepest_of tokens (done c) []) (ltb-false 0 (deepest_of tokens (done c) []) q)))
+
+-- before a failing token
+pub stop-means : (P : SyntaxFault → Type 0) (alone : Bool) (tokens : List Token) (place : ℕ) (s : m.State) (t : Kind) → forms_run alone m.start (take place (kinds tokens)) ≡ Some s → slice_get (kinds tokens) place ≡ Some t
+    → ((at : ℕ) → AreTooDeep (IsOf alone) (take place (kinds tokens)) at → P (TooDeep (start_of tokens at)))
+    → (((at : ℕ) → AreTooDeep (IsOf alone) (take place (kinds tokens)) at → ⊥) → P (refusal (start_of tokens place) t (outside s t))) → P (stop_fault tokens place s t)
+stop-means P alone tokens place s t r g deep shallow = on (nat_lt (suc (length tokens) - place) (deepest_of tokens s (drop place (kinds tokens)))) refl
   where
-    further : nat_lt 64 (depth (suc k) es) ≡ false → (left : ℕ) → k < left → depth left es ≤ 64
-    further q left l = at (nat_eq left (suc k)) refl
-      where
-        at : (b : Bool) → nat_eq left (suc k) ≡ b → depth left es ≤ 64
-        at true e = let same : left ≡ suc k = grind arith in subst (λ n. depth n es ≤ 64) (sym same) (grind arith)
-        at false e = before left (grind arith)
+    within : place ≤ length tokens
+    within = let w = slice_get_within (kinds tokens) place t g in let k = kinds-length tokens in omega (arith, w, k)
 
-    on : (b : Bool) → nat_lt 64 (depth (suc k) es) ≡ b → (((left : ℕ) → k < left → depth left es ≤ 64) → Deep es (deep_from k es)) → Deep es (if b then Some (suc k) else deep_from k es)
-    on true q f = first_at (suc k) (record { deep = grind arith; first = before })
-    on false q f = f (further q)
-
-pub searched : (es : List Entry) → depth 0 es ≡ 0 → Deep es (deep_from (most es) es)
-searched es z = search es (most es) (λ left l. let b = beyond_most es left l in omega arith) (omega arith)
-
-nested_on : {A : Type 0} (P : Result A SyntaxFault → Type 0) (tokens : List Token) (es : List Entry) (judged : Result A SyntaxFault)
-    → ((left : ℕ) → IsFirstTooDeep es left → P (Err (TooDeep (start_of tokens (length tokens - left))))) → (IsShallow es → P judged) → (o : Option ℕ) → Deep es o → P (unless_deep tokens o judged)
-nested_on P tokens es judged d f None (nowhere s) = f s
-nested_on P tokens es judged d f (Some left) (first_at _ h) = d left h
-
-pub nested_means : {A : Type 0} (P : Result A SyntaxFault → Type 0) (tokens : List Token) (es : List Entry) (judged : Result A SyntaxFault)
-    → ((left : ℕ) → IsFirstTooDeep es left → P (Err (TooDeep (start_of tokens (length tokens - left))))) → (IsShallow es → P judged) → P (nested tokens es judged)
-nested_means P tokens es judged d f = nested_on P tokens es judged d f (deep_from (most es) es) (searched es (at_end es))
-
--- ---- where the machine ends
-
-data Ran (s : m.State) (ts : List Kind) (n : ℕ) : End → Type 0 where
-  to_end : (u : m.State) → m.run s ts ≡ Some u → Ran s ts n (all_read u)
-  to_stop : (k place : ℕ) (u : m.State) (t : Kind) → k ≡ n + place → m.run s (take place ts) ≡ Some u → slice_get ts place ≡ Some t → m.step u t ≡ None → Ran s ts n (stopped k u t)
-
-ran_further : (s v : m.State) (t : Kind) (ts : List Kind) (n : ℕ) (e : End) → m.step s t ≡ Some v → Ran v ts (suc n) e → Ran s (t ∷ ts) n e
-ran_further s v t ts n _ h (to_end u e) = to_end u (ap (then_run ts) h ∙ e)
-ran_further s v t ts n _ h (to_stop k place u x i e g b) = to_stop k (suc place) u x (omega arith) (ap (then_run (take place ts)) h ∙ e) g b
-
-ran : (ts : List Kind) (n : ℕ) (s : m.State) → Ran s ts n (run_from n s ts)
-ran [] n s = to_end s refl
-ran (t ∷ ts) n s = on (m.step s t) refl (λ v. ran ts (suc n) v)
-  where
-    on : (o : Option m.State) → m.step s t ≡ o → ((v : m.State) → Ran v ts (suc n) (run_from (suc n) v ts)) → Ran s (t ∷ ts) n (elim o [ None ↦ stopped n s t | Some u ↦ run_from (suc n) u ts ])
-    on None h f = to_stop n 0 s t (omega arith) refl refl h
-    on (Some v) h f = ran_further s v t ts n _ h (f v)
+    on : (b : Bool) → nat_lt (suc (length tokens) - place) (deepest_of tokens s (drop place (kinds tokens))) ≡ b
+        → P (if b then deep_fault tokens (deepest_of tokens s (drop place (kinds tokens))) else refusal (start_of tokens place) t (outside s t))
+    on true q = deep (suc (length tokens) - deepest_of tokens s (drop place (kinds tokens))) ((tells alone tokens place s within r).deep (ltb-true (suc (length tokens) - place) (deepest_of tokens s (drop place (kinds tokens))) q))
+    on false q = shallow ((tells alone tokens place s within r).shallow (ltb-false (suc (length tokens) - place) (deepest_of tokens s (drop place (kinds tokens))) q))
 
 -- ---- the failing token
 
 abbrev fails_of : (tokens : List Kind) (place : ℕ) (s : m.State) (t : Kind) → m.run m.start (take place tokens) ≡ Some s → slice_get tokens place ≡ Some t → m.step s t ≡ None → Fails tokens place (outside s t)
 fails_of tokens place s t e g b =
-    let l = led (take place tokens) m.start s (tt, tt) e in
-    record { failing = is_failing tokens place s t e g b; open_forms = s; stand = l.stands; before_it = l.spelled; token = t; is_token = g; begins_construct = refl }
+    record { failing = is_failing tokens place s t e g b; open_forms = s; stand = stands_where (take place tokens) s e; before_it = stands_at (take place tokens) s e; token = t; is_token = g; begins_construct = refl }
 
 -- ---- the verdict
 
-end_means : (code : List ℕ) (tokens : List Token) → length code ≤ 262144 → (e : tokens_of code ≡ Ok tokens) → (end : End) → Ran m.start (kinds tokens) 0 end → Verdict code (of_end code tokens end)
-end_means code tokens l e _ (to_end u r) =
-    let w = ends_well code tokens e in
-    done_means u r (all_done (kinds w.front) u (ap (m.run m.start) (sym (ends_so code tokens w)) ∙ r))
-  where
-    done_means : (u : m.State) → m.run m.start (kinds tokens) ≡ Some u → IsDone u → Verdict code (of_end code tokens (all_read u))
-    done_means u r (c, is) =
-        let cell = read_is (kinds tokens) c (r ∙ ap Some is) in
-        subst (λ x. Verdict code (of_end code tokens (all_read x))) (sym is) (nested_means (Verdict code) tokens (post_cell c) _ (λ left. too_deep l e (of_cell c cell)) (λ s. whole l e cell s))
-end_means code tokens l e _ (to_stop k place u t i r g b) =
-    let same : k ≡ place = omega arith in
-    let f = fails_of (kinds tokens) place u t r g b in
-    subst (λ n. Verdict code (of_end code tokens (stopped n u t))) (sym same) (nested_means (Verdict code) tokens (parts_before f) _ (λ left. too_deep l e (of_open f)) (λ s. refused l e f s))
+end-means : (code : List ℕ) (tokens : List Token) (s : m.State) → length code ≤ 262144 → tokens_of code ≡ Ok tokens → m.run m.start (kinds tokens) ≡ Some s → Verdict code (of_cell code tokens s)
+end-means code tokens s l e r =
+    let d = all_done false code tokens s e r in
+    let is = read_is (kinds tokens) d.0 (r ∙ ap Some d.1) in
+    subst (λ u. Verdict code (of_cell code tokens u)) (sym d.1)
+    (nested-means (Verdict code) tokens d.0 _ is (λ place deep. too_deep l e (cell_deep d.0 is deep)) (λ shallow. whole l e is shallow))
 
-tokens_mean : (code : List ℕ) → length code ≤ 262144 → (o : Result (List Token) TokenFault) → tokens_of code ≡ o → Verdict code (of_tokens code o)
-tokens_mean code l (Err fault) e = bad_token l e
-tokens_mean code l (Ok tokens) e = end_means code tokens l e (run_from 0 m.start (kinds tokens)) (ran (kinds tokens) 0 m.start)
+stopped-means : (code : List ℕ) (tokens : List Token) (place : ℕ) (s : m.State) (t : Kind) → length code ≤ 262144 → tokens_of code ≡ Ok tokens → m.run m.start (take place (kinds tokens)) ≡ Some s → slice_get (kinds tokens) place ≡ Some t
+    → m.step s t ≡ None → Verdict code (Err (stop_fault tokens place s t))
+stopped-means code tokens place s t l e r g b =
+    let f = fails_of (kinds tokens) place s t r g b in
+    stop-means (λ fault. Verdict code (Err fault)) false tokens place s t r g (λ at deep. too_deep l e (of_open f deep)) (λ shallow. refused l e f shallow)
 
 pub means : (code : List ℕ) → Verdict code (verdict code)
 unfolding verdict
-means code = on (nat_lt 262144 (length code)) refl
-  where
-    on : (b : Bool) → nat_lt 262144 (length code) ≡ b → Verdict code (if b then Err TooLong else of_tokens code (tokens_of code))
-    on true q = too_long (grind arith)
-    on false q = tokens_mean code (grind arith) (tokens_of code) refl
+means code = means-with false (of_cell code) code (Verdict code) too_long (λ fault l e. bad_token l e) (λ tokens s l e r. end-means code tokens s l e r) (λ tokens place s t l e r g b. stopped-means code tokens place s t l e r g b)
 
 pub told : (code : List ℕ) (result : Result Tree ReadError) → gives.Gives result (verdict code) → gives.Means code result
 told code (Ok tree) e = subst (Verdict code) e (means code)

@@ -5,13 +5,13 @@ use Rattle.py_tree.specs.declared.statements.Stmt.{Stmt}
 use Rattle.py_tree.specs.declared.statements.Tree.{Tree}
 use Rattle.py_grammar.specs.Statements.{Cell, Statements, statements_one, statements_more, spell_statement, spell_statements}
 use Rattle.py_grammar.specs.Trees.{Source, tree_statement, tree_top, tree_cell}
-use Rattle.py_build.specs.Source.{source_of, bytes_of}
-use Rattle.py_build.proofs.Boundaries.{whole_text}
+use Rattle.py_blocks.specs.Source.{source_of}
 use Rattle.py_reader.specs.declared.fault.ReadError.{ReadError}
 use Rattle.py_reader.specs.Gives as gives
 use Rattle.py_reader.specs.Verdicts.{Verdict, whole}
 use Rattle.py_reader.specs.Verdict.{verdict}
-use Rattle.py_reader.specs.Sources.{HasSources}
+use Rattle.py_reader.specs.Sources.{bytes_of, HasSources}
+use Rattle.py_reader.proofs.Boundaries.{whole_text}
 use Rattle.py_reader.proofs.Meant.{means}
 
 top-same : (f g : Source) → ((from to : ℕ) → f from to ≡ g from to) → (xs : Statements) → tree_top f xs ≡ tree_top g xs

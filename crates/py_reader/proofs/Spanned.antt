@@ -12,13 +12,13 @@ use Rattle.py_grammar.specs.Words.{def_word}
 use Rattle.py_grammar.specs.Statements.{Params, Block, Statement, compound, define, spell_statement}
 use Rattle.py_grammar.proofs.Places.{statement-tokens}
 use Rattle.py_grammar.specs.Alone.{IsDefinition}
-use Rattle.py_build.specs.Source.{is_layout, last_word, text_of, text_up_to, text_from, source_of}
-use Rattle.py_build.specs.Built.{kinds}
-use Rattle.py_build.proofs.Texts.{text_of-utf8}
+use Rattle.py_blocks.specs.Source.{is_layout, last_word, text_of, text_up_to, text_from, source_of}
+use Rattle.py_token.specs.Cuts.{kinds}
+use Rattle.py_blocks.proofs.Texts.{text_of-utf8}
 use Rattle.py_reader.specs.Verdicts.{start_of}
 use Rattle.py_reader.specs.Definitions.{end_if, end_of_words}
 use Rattle.py_reader.proofs.Scanned.{kinds-length}
-use Rattle.py_reader.proofs.Final.{ends_so}
+use Rattle.py_reader.proofs.Ended.{ends_so}
 
 -- ---- where they end
 

@@ -5,7 +5,7 @@ use Rattle.py_token.specs.declared.kinds.Token.{Token}
 use Rattle.py_token.specs.declared.faults.TokenFault.{TokenFault}
 use Rattle.py_token.specs.Lines.{tokens_of}
 use Rattle.py_grammar.specs.Words.{colon}
-use Rattle.py_build.specs.Source.{last_word}
+use Rattle.py_blocks.specs.Source.{last_word}
 use Rattle.py_reader.specs.declared.fault.SyntaxFault.TheVariants.{NoParse}
 use Rattle.py_reader.specs.declared.answer.Completeness.{Completeness}
 use Rattle.py_reader.specs.declared.answer.Completeness.TheVariants.{Complete, Incomplete, Invalid}

@@ -1,21 +1,16 @@
 -- What a text is read as, if it is to be one function alone: its definition, or the fault that it is refused for.
-use Rattle.std.specs.Prelude.{◌≡◌, ℕ, ◌-◌, ◌<◌, ◌≤◌, false, List, [], length, drop, Option, Some, None, Result, Ok, Err}
-use Rattle.py_token.specs.declared.kinds.Kind.{Kind}
+use Rattle.std.specs.Prelude.{◌≡◌, ℕ, ◌<◌, ◌≤◌, false, List, length, take, Option, Some, None, Result, Ok, Err}
 use Rattle.py_token.specs.declared.kinds.Token.{Token}
 use Rattle.py_token.specs.declared.faults.TokenFault.{TokenFault}
+use Rattle.py_token.specs.Cuts.{kinds}
 use Rattle.py_token.specs.Lines.{tokens_of}
 use Rattle.py_tree.specs.declared.statements.Def.{Def, roll-Def}
 use Rattle.py_grammar.specs.declared.constructs.Construct.{Construct}
 use Rattle.py_grammar.specs.Statements.{Params, Block}
 use Rattle.py_grammar.specs.Trees.{tree_params, tree_block}
-use Rattle.py_grammar.specs.Alone.{alone, IsDefinition, FailsAlone}
-use Rattle.py_postfix.specs.declared.entries.Entry.{Entry}
-use Rattle.py_postfix.specs.Statements.{post_cell}
-use Rattle.py_statements.specs.Written.{written_state}
-use Rattle.py_nesting.specs.Depth.{IsShallow, IsFirstTooDeep}
-use Rattle.py_nesting.specs.Open.{open_state}
-use Rattle.py_build.specs.Source.{last_word}
-use Rattle.py_build.specs.Built.{kinds}
+use Rattle.py_grammar.specs.Alone.{alone, IsDefinition, IsFunction, FailsAlone}
+use Rattle.py_grammar.specs.Depth.{IsTooDeep, AreTooDeep}
+use Rattle.py_blocks.specs.Source.{last_word}
 use Rattle.py_reader.specs.declared.fault.SyntaxFault.{SyntaxFault}
 use Rattle.py_reader.specs.declared.fault.SyntaxFault.TheVariants.{TooLong, Token as BadToken, NoParse, TooDeep}
 use Rattle.py_reader.specs.Verdicts.{start_of, refusal}
@@ -32,10 +27,6 @@ end_of_words tokens = end_if (last_word tokens)
 abbrev pub definition : List ℕ → List ℕ → Params → Block → Def
 definition code called takes block = roll-Def (record { name = called; params = tree_params takes; body = tree_block block; source = code })
 
--- the nodes that the tokens before the failing one begin
-abbrev pub parts_before_alone : {tokens : List Kind} {place : ℕ} {construct : Option Construct} → FailsAlone tokens place construct → List Entry
-parts_before_alone {tokens} {place} fails = open_state fails.open_forms (drop place tokens) (written_state fails.open_forms (drop place tokens) [])
-
 -- How a text is judged: by its length and its tokens. If they are those of one function, it is judged by what is before it,
 -- its nesting and what is after it; else by the nesting before the failing token, and by that token.
 pub data DefinitionVerdict : List ℕ → Result Def SyntaxFault → Type 0 where
@@ -43,16 +34,15 @@ pub data DefinitionVerdict : List ℕ → Result Def SyntaxFault → Type 0 wher
   bad_token : {code : List ℕ} {fault : TokenFault} → length code ≤ 262144 → tokens_of code ≡ Err fault → DefinitionVerdict code (Err (BadToken fault))
   stands_later : {code : List ℕ} {tokens : List Token} {called : List ℕ} {takes : Params} {block : Block} → length code ≤ 262144 → tokens_of code ≡ Ok tokens
       → IsDefinition (kinds tokens) called takes block → 0 < start_of tokens 0 → DefinitionVerdict code (Err (NoParse 0 false))
-  whole_too_deep : {code : List ℕ} {tokens : List Token} {called : List ℕ} {takes : Params} {block : Block} {left : ℕ} → length code ≤ 262144 → tokens_of code ≡ Ok tokens
-      → IsDefinition (kinds tokens) called takes block → start_of tokens 0 ≡ 0 → IsFirstTooDeep (post_cell (alone called takes block)) left
-      → DefinitionVerdict code (Err (TooDeep (start_of tokens (length tokens - left))))
+  whole_too_deep : {code : List ℕ} {tokens : List Token} {called : List ℕ} {takes : Params} {block : Block} {place : ℕ} → length code ≤ 262144 → tokens_of code ≡ Ok tokens
+      → IsDefinition (kinds tokens) called takes block → start_of tokens 0 ≡ 0 → IsTooDeep (alone called takes block) place → DefinitionVerdict code (Err (TooDeep (start_of tokens place)))
   goes_on : {code : List ℕ} {tokens : List Token} {called : List ℕ} {takes : Params} {block : Block} → length code ≤ 262144 → tokens_of code ≡ Ok tokens
-      → IsDefinition (kinds tokens) called takes block → start_of tokens 0 ≡ 0 → IsShallow (post_cell (alone called takes block)) → end_of_words tokens < length code
+      → IsDefinition (kinds tokens) called takes block → start_of tokens 0 ≡ 0 → ((at : ℕ) → IsTooDeep (alone called takes block) at → ⊥) → end_of_words tokens < length code
       → DefinitionVerdict code (Err (NoParse (end_of_words tokens) false))
   whole : {code : List ℕ} {tokens : List Token} {called : List ℕ} {takes : Params} {block : Block} → length code ≤ 262144 → tokens_of code ≡ Ok tokens
-      → IsDefinition (kinds tokens) called takes block → start_of tokens 0 ≡ 0 → IsShallow (post_cell (alone called takes block)) → end_of_words tokens ≡ length code
+      → IsDefinition (kinds tokens) called takes block → start_of tokens 0 ≡ 0 → ((at : ℕ) → IsTooDeep (alone called takes block) at → ⊥) → end_of_words tokens ≡ length code
       → DefinitionVerdict code (Ok (definition code called takes block))
-  too_deep_before : {code : List ℕ} {tokens : List Token} {place : ℕ} {construct : Option Construct} {left : ℕ} → length code ≤ 262144 → tokens_of code ≡ Ok tokens
-      → (fails : FailsAlone (kinds tokens) place construct) → IsFirstTooDeep (parts_before_alone fails) left → DefinitionVerdict code (Err (TooDeep (start_of tokens (length tokens - left))))
+  too_deep_before : {code : List ℕ} {tokens : List Token} {place failing : ℕ} {construct : Option Construct} → length code ≤ 262144 → tokens_of code ≡ Ok tokens
+      → FailsAlone (kinds tokens) failing construct → AreTooDeep IsFunction (take failing (kinds tokens)) place → DefinitionVerdict code (Err (TooDeep (start_of tokens place)))
   refused : {code : List ℕ} {tokens : List Token} {place : ℕ} {construct : Option Construct} → length code ≤ 262144 → tokens_of code ≡ Ok tokens
-      → (fails : FailsAlone (kinds tokens) place construct) → IsShallow (parts_before_alone fails) → DefinitionVerdict code (Err (refusal (start_of tokens place) fails.token construct))
+      → (fails : FailsAlone (kinds tokens) place construct) → ((at : ℕ) → AreTooDeep IsFunction (take place (kinds tokens)) at → ⊥) → DefinitionVerdict code (Err (refusal (start_of tokens place) fails.token construct))

@@ -11,7 +11,6 @@ use Rattle.py_reader.specs.declared.fault.ReadError.TheVariants.{OutOfMemory, Fa
 use Rattle.py_reader.specs.Verdicts.{Verdict}
 use Rattle.py_reader.specs.Verdict.{Judged}
 use Rattle.py_reader.specs.Definitions.{DefinitionVerdict}
-use Rattle.py_reader.specs.DefinitionVerdict.{JudgedDefinition}
 
 abbrev pub of_token : TokenError → ReadError
 of_token token.OutOfMemory = OutOfMemory
@@ -25,6 +24,11 @@ abbrev pub Gives : Result Tree ReadError → Judged → Type 0
 Gives (Ok tree) judged = judged ≡ Ok tree.body
 Gives (Err error) judged = Refuses error judged
 
+-- the same of tokens, statements or a definition
+abbrev pub Answers : {A : Type 0} → Result A ReadError → Result A SyntaxFault → Type 0
+Answers (Ok a) judged = judged ≡ Ok a
+Answers (Err error) judged = Refuses error judged
+
 -- the same in the words of the grammar
 abbrev pub MeansFault : List ℕ → ReadError → Type 0
 MeansFault code OutOfMemory = Unit {0}
@@ -36,11 +40,6 @@ Means code (Err error) = MeansFault code error
 
 -- ---- a text that is to be one function alone
 
-abbrev pub GivesDefinition : Result Def ReadError → JudgedDefinition → Type 0
-GivesDefinition (Ok def) judged = judged ≡ Ok def
-GivesDefinition (Err error) judged = Refuses error judged
-
--- the same in the words of the grammar
 abbrev pub MeansDefinitionFault : List ℕ → ReadError → Type 0
 MeansDefinitionFault code OutOfMemory = Unit {0}
 MeansDefinitionFault code (Fault fault) = DefinitionVerdict code (Err fault)

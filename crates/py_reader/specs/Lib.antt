@@ -4,7 +4,6 @@ pub mod Definitions
 pub mod DefinitionVerdict
 pub mod Gives
 pub mod Scans
-pub mod Alone
 pub mod Texts
 pub mod Sources
 pub mod Completeness

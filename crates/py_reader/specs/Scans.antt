@@ -1,72 +1,60 @@
--- What is read of some tokens: the first of them, as far as their number says, or up to one that is refused.
-use Rattle.std.specs.Prelude.{◌≡◌, ℕ, ◌+◌, ◌<◌, List, [], take, drop, slice_get, Option, Some, None, Result, Ok}
+-- What is read of some tokens of a code, as a cell or as a function alone.
+use Rattle.std.specs.Prelude.{◌≡◌, ℕ, ◌+◌, ◌<◌, Bool, List, [], take, slice_get, Option, Some, None, Result, Ok}
 use Rattle.py_token.specs.declared.kinds.Kind.{Kind}
-use Rattle.py_grammar.specs.declared.constructs.Construct.{Construct}
-use Rattle.py_grammar.specs.States as forms
-use Rattle.py_grammar.specs.Outside.{outside}
-use Rattle.py_postfix.specs.declared.entries.Entry.{Entry}
-use Rattle.py_statements.specs.declared.state.Reader.{Reader}
-use Rattle.py_statements.specs.Follows.{Hears, reader_at}
-use Rattle.py_statements.specs.Written.{written_state}
 use Rattle.py_token.specs.declared.kinds.Token.{Token}
-use Rattle.py_tree.specs.declared.statements.Tree.{Tree}
-use Rattle.py_grammar.specs.Statements.{Cell, IsCell}
+use Rattle.py_token.specs.Cuts.{kinds}
+use Rattle.py_token.specs.Lines.{tokens_of}
+use Rattle.py_tree.specs.declared.statements.Stmt.{Stmt}
+use Rattle.py_tree.specs.declared.statements.Def.{Def}
+use Rattle.py_grammar.specs.States as forms
+use Rattle.py_grammar.specs.States.{done}
+use Rattle.py_grammar.specs.Statements.{Cell, Params, Block}
 use Rattle.py_grammar.specs.Trees.{tree_cell}
-use Rattle.py_postfix.specs.Statements.{post_cell}
-use Rattle.py_nesting.specs.Open.{open_state}
-use Rattle.py_build.specs.Source.{source_of}
-use Rattle.py_build.specs.Built.{kinds}
+use Rattle.py_grammar.specs.Alone.{alone, IsDefinition}
+use Rattle.py_blocks.specs.declared.state.Reader.{Reader}
+use Rattle.py_blocks.specs.Follows.{forms_run, run}
+use Rattle.py_blocks.specs.Source.{most, left_of, source_of}
+use Rattle.py_blocks.specs.Steps.{start}
 use Rattle.py_reader.specs.declared.fault.SyntaxFault.{SyntaxFault}
 use Rattle.py_reader.specs.declared.fault.ReadError.{ReadError}
-use Rattle.py_reader.specs.Verdicts.{start_of, refusal}
-use Rattle.py_reader.specs.Verdict.{nested, nested_fault}
-use Rattle.py_reader.specs.Gives.{Gives}
-use Rattle.py_reader.specs.declared.scan.Advance.{Advance}
-use Rattle.py_reader.specs.declared.scan.Advance.TheVariants.{Onward, Halted}
 use Rattle.py_reader.specs.declared.scan.Scan.{Scan}
 use Rattle.py_reader.specs.declared.scan.Scan.TheVariants.{Whole, Refused}
+use Rattle.py_reader.specs.Verdict.{stop_fault, deepest_of, nested}
+use Rattle.py_reader.specs.DefinitionVerdict.{of_alone}
+use Rattle.py_reader.specs.Gives.{Answers}
 
--- the first tokens are read, with this reader and these entries
-pub record Reads (tokens : List Kind) (count : ℕ) (reader : Reader) (entries : List Entry) : Type 0 where
-  pub state : forms.State
-  pub run : forms.run forms.start (take count tokens) ≡ Some state
-  pub names_heard : Hears state reader.names
-  pub is_held : reader ≡ reader_at state (drop count tokens) reader.names
-  pub is_written : entries ≡ written_state state (drop count tokens) []
+-- what is held after the first tokens, if they are read
+abbrev pub read_first : Bool → List ℕ → List Token → ℕ → Option Reader
+read_first alone code tokens count = run alone (left_of code tokens) most start (take count (kinds tokens))
 
--- what is before the token with that number, and the construct that it begins there
-pub record Reaches (tokens : List Kind) (place : ℕ) (construct : Option Construct) : Type 0 where
-  pub state : forms.State
-  pub run : forms.run forms.start (take place tokens) ≡ Some state
-  pub token : Kind
-  pub is_token : slice_get tokens place ≡ Some token
-  pub begins : outside state token ≡ construct
+abbrev pub IsRead : Bool → List ℕ → List Token → ℕ → Type 0
+IsRead alone code tokens count = (reader : Reader) × (read_first alone code tokens count ≡ Some reader)
 
--- that token is refused
-pub record Refuses (tokens : List Kind) (place : ℕ) (construct : Option Construct) : Type 0 where
-  pub reached : Reaches tokens place construct
-  pub refused : forms.step reached.state reached.token ≡ None
+-- the tokens before the one with this number are read, and no more
+abbrev pub StopsAt : Bool → List ℕ → List Token → ℕ → Type 0
+StopsAt alone code tokens place = IsRead alone code tokens place × (read_first alone code tokens (place + 1) ≡ None)
 
--- one more token is read, or refused
-abbrev pub Advances : List Kind → ℕ → Reader → List Entry → Advance → List Entry → Type 0
-Advances tokens index reader old (Onward next) new = Reads tokens index reader old → Reads tokens (index + 1) next new
-Advances tokens index reader old (Halted construct) new = Reads tokens index reader old → Refuses tokens index construct
+-- the first tokens are read, or those before one of them
+abbrev pub Scans : Bool → List ℕ → List Token → ℕ → Scan → Type 0
+Scans alone code tokens count (Whole reader) = read_first alone code tokens count ≡ Some reader
+Scans alone code tokens count (Refused place) = (place < count) × StopsAt alone code tokens place
 
-abbrev pub Scans : List Kind → ℕ → Scan → Type 0
-Scans tokens count (Whole reader entries) = Reads tokens count reader entries
-Scans tokens count (Refused place construct) = (place < count) × Refuses tokens place construct
+-- why the token with this number is refused, or what is too deep before it
+abbrev pub IsRefusal : Bool → List Token → ℕ → SyntaxFault → Type 0
+IsRefusal alone tokens place fault = (s : forms.State) (t : Kind) → forms_run alone forms.start (take place (kinds tokens)) ≡ Some s → slice_get (kinds tokens) place ≡ Some t → stop_fault tokens place s t ≡ fault
 
--- the nodes that the tokens before the one with that number begin
-abbrev pub ArePartsBefore : List Token → ℕ → List Entry → Type 0
-ArePartsBefore tokens place parts = (construct : Option Construct) (reached : Reaches (kinds tokens) place construct)
-    → parts ≡ open_state reached.state (drop place (kinds tokens)) (written_state reached.state (drop place (kinds tokens)) [])
+-- the statements of the cell that the tokens are
+abbrev pub GivesStatements : Bool → List ℕ → List Token → Result (List Stmt) ReadError → Type 0
+GivesStatements alone code tokens result = (c : Cell) → forms_run alone forms.start (kinds tokens) ≡ Some (done c) → Answers result (nested tokens (deepest_of tokens (done c) []) (Ok (tree_cell (source_of code tokens) c)))
 
--- why the token is refused, or what is too deep before it
-abbrev pub IsRefusal : List Token → ℕ → Option Construct → SyntaxFault → Type 0
-IsRefusal tokens place construct fault = (reached : Reaches (kinds tokens) place construct)
-    → nested_fault tokens (open_state reached.state (drop place (kinds tokens)) (written_state reached.state (drop place (kinds tokens)) [])) (refusal (start_of tokens place) reached.token construct) ≡ fault
+-- the tokens of a text are those of one function
+pub record AreFunction (code : List ℕ) (tokens : List Token) : Type 0 where
+  pub of_text : tokens_of code ≡ Ok tokens
+  pub called : List ℕ
+  pub takes : Params
+  pub block : Block
+  pub is_definition : IsDefinition (kinds tokens) called takes block
 
--- the tree of the cell that the tokens are
-abbrev pub GivesCell : List ℕ → List Token → List Entry → Result Tree ReadError → Type 0
-GivesCell code tokens entries result = (cell : Cell) → IsCell (kinds tokens) cell → entries ≡ post_cell cell
-    → Gives result (nested tokens entries (Ok (tree_cell (source_of code tokens) cell)))
+-- what that function is read as
+abbrev pub GivesFunction : List ℕ → List Token → Result Def ReadError → Type 0
+GivesFunction code tokens result = (f : AreFunction code tokens) → Answers result (of_alone code tokens (done (alone f.called f.takes f.block)))

@@ -10,7 +10,6 @@ use Rattle.py_reader.specs.declared.fault.SyntaxFault.TheVariants.{TooLong, Toke
 -- what such a construct is called
 abbrev pub construct_words : Construct → List ℕ
 construct_words (c.Word keyword) = word keyword
-construct_words c.Tuple = codes "tuple"
 construct_words c.Comprehension = codes "comprehension"
 construct_words c.Set = codes "set"
 construct_words c.Is = codes "is"

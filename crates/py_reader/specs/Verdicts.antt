@@ -1,22 +1,18 @@
 -- What a code is read as: its tree, or the fault that it is refused for.
-use Rattle.std.specs.Prelude.{◌≡◌, ℕ, ◌-◌, ◌<◌, ◌≤◌, Bool, true, false, List, [], length, drop, slice_get, Option, Some, None, Result, Ok, Err}
+use Rattle.std.specs.Prelude.{◌≡◌, ℕ, ◌<◌, ◌≤◌, Bool, true, false, List, length, take, slice_get, Option, Some, None, Result, Ok, Err}
 use Rattle.py_token.specs.declared.kinds.Kind.{Kind}
 use Rattle.py_token.specs.declared.kinds.Kind.TheVariants as t
 use Rattle.py_token.specs.declared.kinds.Token.{Token}
 use Rattle.py_token.specs.declared.faults.TokenFault.{TokenFault}
+use Rattle.py_token.specs.Cuts.{kinds}
 use Rattle.py_token.specs.Lines.{tokens_of}
 use Rattle.py_tree.specs.declared.statements.Stmt.{Stmt}
 use Rattle.py_grammar.specs.declared.constructs.Construct.{Construct}
 use Rattle.py_grammar.specs.Statements.{Cell, IsCell}
+use Rattle.py_grammar.specs.Depth.{IsTooDeep, AreTooDeep}
 use Rattle.py_grammar.specs.Outside.{Fails}
 use Rattle.py_grammar.specs.Trees.{tree_cell}
-use Rattle.py_postfix.specs.declared.entries.Entry.{Entry}
-use Rattle.py_postfix.specs.Statements.{post_cell}
-use Rattle.py_statements.specs.Written.{written_state}
-use Rattle.py_nesting.specs.Depth.{IsShallow, IsFirstTooDeep}
-use Rattle.py_nesting.specs.Open.{open_state}
-use Rattle.py_build.specs.Source.{source_of}
-use Rattle.py_build.specs.Built.{kinds}
+use Rattle.py_blocks.specs.Source.{source_of}
 use Rattle.py_reader.specs.declared.fault.SyntaxFault.{SyntaxFault}
 use Rattle.py_reader.specs.declared.fault.SyntaxFault.TheVariants.{TooLong, Token as BadToken, NoParse, TooDeep, Outside}
 
@@ -28,15 +24,6 @@ start_if (Some token) = token.start
 abbrev pub start_of : List Token → ℕ → ℕ
 start_of tokens number = start_if (slice_get tokens number)
 
--- the nodes that the tokens before the failing one begin: those that have ended, and those that are open
-abbrev pub parts_before : {tokens : List Kind} {place : ℕ} {construct : Option Construct} → Fails tokens place construct → List Entry
-parts_before {tokens} {place} fails = open_state fails.open_forms (drop place tokens) (written_state fails.open_forms (drop place tokens) [])
-
--- the nodes of the cell that the tokens spell, or those before the failing token
-pub data Parts : List Kind → List Entry → Type 0 where
-  of_cell : {tokens : List Kind} (cell : Cell) → IsCell tokens cell → Parts tokens (post_cell cell)
-  of_open : {tokens : List Kind} {place : ℕ} {construct : Option Construct} (fails : Fails tokens place construct) → Parts tokens (parts_before fails)
-
 abbrev pub is_end : Kind → Bool
 is_end t.End = true
 is_end _ = false
@@ -46,13 +33,17 @@ abbrev pub refusal : ℕ → Kind → Option Construct → SyntaxFault
 refusal at kind None = NoParse at (is_end kind)
 refusal at kind (Some construct) = Outside at construct
 
+-- the tokens are a cell that is too deep at the token with this number, or those before the failing one are too deep there
+pub data DeepAt : List Kind → ℕ → Type 0 where
+  of_cell : {tokens : List Kind} {place : ℕ} (cell : Cell) → IsCell tokens cell → IsTooDeep cell place → DeepAt tokens place
+  of_open : {tokens : List Kind} {place failing : ℕ} {construct : Option Construct} → Fails tokens failing construct → AreTooDeep IsCell (take failing tokens) place → DeepAt tokens place
+
 -- how a code is judged: by its length, its tokens, its nesting, and then the grammar
 pub data Verdict : List ℕ → Result (List Stmt) SyntaxFault → Type 0 where
   too_long : {code : List ℕ} → 262144 < length code → Verdict code (Err TooLong)
   bad_token : {code : List ℕ} {fault : TokenFault} → length code ≤ 262144 → tokens_of code ≡ Err fault → Verdict code (Err (BadToken fault))
-  too_deep : {code : List ℕ} {tokens : List Token} {es : List Entry} {left : ℕ} → length code ≤ 262144 → tokens_of code ≡ Ok tokens → Parts (kinds tokens) es
-      → IsFirstTooDeep es left → Verdict code (Err (TooDeep (start_of tokens (length tokens - left))))
+  too_deep : {code : List ℕ} {tokens : List Token} {place : ℕ} → length code ≤ 262144 → tokens_of code ≡ Ok tokens → DeepAt (kinds tokens) place → Verdict code (Err (TooDeep (start_of tokens place)))
   refused : {code : List ℕ} {tokens : List Token} {place : ℕ} {construct : Option Construct} → length code ≤ 262144 → tokens_of code ≡ Ok tokens
-      → (fails : Fails (kinds tokens) place construct) → IsShallow (parts_before fails) → Verdict code (Err (refusal (start_of tokens place) fails.token construct))
+      → (fails : Fails (kinds tokens) place construct) → ((at : ℕ) → AreTooDeep IsCell (take place (kinds tokens)) at → ⊥) → Verdict code (Err (refusal (start_of tokens place) fails.token construct))
   whole : {code : List ℕ} {tokens : List Token} {cell : Cell} → length code ≤ 262144 → tokens_of code ≡ Ok tokens → IsCell (kinds tokens) cell
-      → IsShallow (post_cell cell) → Verdict code (Ok (tree_cell (source_of code tokens) cell))
+      → ((at : ℕ) → IsTooDeep cell at → ⊥) → Verdict code (Ok (tree_cell (source_of code tokens) cell))

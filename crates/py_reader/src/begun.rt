@@ -8,7 +8,7 @@ ghost use Rattle.py_reader.specs.Completeness.{IsCompleteness};
 use crate::answer::Completeness;
 use crate::fault::{ReadError, SyntaxFault};
 use crate::read::{MAX_CODE, read_cell};
-use py_build::last_word;
+use py_blocks::last_word;
 use py_token::{Kind, Symbol, Token, TokenError, tokens};
 use std::alloc::{AllocError, Global};
 

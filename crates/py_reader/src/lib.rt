@@ -1,9 +1,10 @@
 //! Reading the code of a cell: its tree, or the fault that it is refused for, and how far it is a cell. The same of a text that
 //! is one function alone.
 //!
-//! The tokens are read one after the other by a machine that writes the postfix form of the cell (`py_statements`), from which
-//! the nesting is judged (`py_nesting`) and the tree is built (`py_build`). Nothing is recursive, so no text, however deep its
-//! brackets or long its chains, needs a larger stack.
+//! The tokens are read one after the other by one machine (`py_blocks`), whose open frames hold the tree; each part keeps the
+//! first place at each depth in it, by which the nesting is judged. Nothing is recursive, so no text, however deep its brackets
+//! or long its chains, needs a larger stack. If a token is refused, those before it are read once more, for what is too deep
+//! among them, and again for the construct that it begins.
 //!
 //! `Trees` keeps the trees of codes that were read, so that a code that comes again isn't read again. Contracts say nothing of which
 //! codes are kept, so a `look` that finds nothing, or a `keep` that keeps nothing, would be proved too. `reader_show`

@@ -1,23 +1,25 @@
-ghost use Rattle.std.specs.Prelude.{◌≡◌, ◌≤◌, ◌<◌, length, IfOk};
-ghost use Rattle.py_reader.specs.Gives.{Gives, Means};
-ghost use Rattle.py_reader.specs.Scans.{ArePartsBefore, IsRefusal, GivesCell};
-ghost use Rattle.py_reader.specs.Verdict.{verdict, deep_from, most, place_of_deep};
+ghost use Rattle.std.specs.Prelude.{◌≡◌, ◌<◌, ◌-◌, length, Some, IfOk};
+ghost use Rattle.py_blocks.specs.Source.{most};
+ghost use Rattle.py_reader.specs.Gives.{Gives, Answers, Means};
+ghost use Rattle.py_reader.specs.Scans.{read_first, StopsAt, IsRefusal, GivesStatements};
+ghost use Rattle.py_reader.specs.Verdict.{tokens_within, verdict};
 ghost use Rattle.py_reader.specs.Verdicts.{start_of, is_end, refusal};
 ghost use Rattle.py_reader.specs.Sources.{HasSources};
 
 use crate::fault::{ReadError, SyntaxFault, token_error};
-use crate::scan::{Scan, kind_at, read_tokens};
-use plain_data::Stack;
-use py_build::{build, listed};
+use crate::scan::{Scan, held_before, kind_at, read_tokens};
+use plain_data::Items;
+use py_blocks::{MOST, Reader, State, deepest, outside};
 use py_grammar::Construct;
-use py_nesting::{first_too_deep, open_parts};
-use py_postfix::Entry;
 use py_token::{Kind, Token, tokens};
-use py_tree::Tree;
+use py_tree::{Stmt, Tree};
 use std::alloc::{AllocError, Global};
 
 /// The most bytes of a code.
 pub const MAX_CODE: usize = 262_144;
+
+/// The most depths.
+const MAX_DEPTH: usize = 64;
 
 /// The place of the token with that number.
 pub fn start_of(tokens: &[Token], number: usize) -> u32
@@ -27,6 +29,13 @@ pub fn start_of(tokens: &[Token], number: usize) -> u32
         Some(token) => token.start,
         None => 0,
     }
+}
+
+/// Where the token begins that has this place, counted down from `MOST`.
+fn start_at(tokens: &[Token], place: usize) -> u32
+    ensures { result ≡ start_of tokens.now (most - place) }
+{
+    start_of(tokens, MOST.saturating_sub(place))
 }
 
 fn is_end(kind: &Kind) -> bool
@@ -48,88 +57,79 @@ fn refused(at: u32, token: &Kind, construct: Option<Construct>) -> SyntaxFault
     }
 }
 
-/// The place of the first node that is too deep.
-pub fn too_deep(
-    alloc: Global,
-    tokens: &[Token],
-    entries: &[Entry],
-) -> Result<Option<u32>, AllocError>
-    ensures { IfOk result (λ found. found ≡ place_of_deep tokens.now (deep_from (most entries.now) entries.now)) }
+/// The tokens of a code that isn't too long.
+pub fn tokens_within(alloc: Global, code: &str) -> Result<Items<Token>, ReadError>
+    ensures { Answers result (tokens_within code.now) }
 {
-    match first_too_deep(alloc, entries)? {
-        None => Ok(None),
-        Some(left) => Ok(Some(start_of(tokens, tokens.len().saturating_sub(left)))),
+    if MAX_CODE < code.len() {
+        return Err(ReadError::Fault(SyntaxFault::TooLong));
     }
-}
-
-/// The tree of the cell that the tokens are, unless it is too deep.
-fn whole(
-    alloc: Global,
-    code: &str,
-    tokens: &[Token],
-    entries: Stack<Entry>,
-) -> Result<Tree, ReadError>
-    ensures { GivesCell code.now tokens.now entries result }
-{
-    let entries = listed(alloc, entries)?;
-    if let Some(at) = too_deep(alloc, tokens, entries.as_slice())? {
-        return Err(ReadError::Fault(SyntaxFault::TooDeep(at)));
-    }
-    Ok(Tree {
-        body: build(alloc, entries, code, tokens)?,
-    })
-}
-
-/// The nodes that the tokens before the one with that number begin: those that have ended, and those that are open.
-fn parts_before(alloc: Global, tokens: &[Token], place: usize) -> Result<Stack<Entry>, AllocError>
-    requires { place ≤ length tokens.now }
-    ensures { IfOk result (ArePartsBefore tokens.now place) }
-{
-    match read_tokens(alloc, tokens, place)? {
-        Scan::Whole(reader, mut entries) => {
-            open_parts(reader.state, tokens.len() - place, &mut entries)?;
-            Ok(entries)
-        }
-        Scan::Refused(..) => Ok(Stack::new(alloc)),
+    match tokens(alloc, code) {
+        Ok(tokens) => Ok(tokens),
+        Err(error) => Err(token_error(error)),
     }
 }
 
 /// Why the token with that number is refused, or what is too deep before it.
 pub fn refusal_at(
+    alone: bool,
     alloc: Global,
+    code: &str,
     tokens: &[Token],
     place: usize,
-    construct: Option<Construct>,
 ) -> Result<SyntaxFault, AllocError>
-    requires { place < length tokens.now }
-    ensures { IfOk result (IsRefusal tokens.now place construct) }
+    requires within { place < length tokens.now }
+    requires stops { StopsAt alone code.now tokens.now place }
+    ensures { IfOk result (IsRefusal alone tokens.now place) }
 {
-    let parts = listed(alloc, parts_before(alloc, tokens, place)?)?;
-    match too_deep(alloc, tokens, parts.as_slice())? {
-        Some(at) => Ok(SyntaxFault::TooDeep(at)),
-        None => Ok(refused(start_of(tokens, place), kind_at(tokens, place), construct)),
+    let held = held_before(alone, alloc, code, tokens, place)?;
+    let deep = deepest(alloc, held)?;
+    let least = MOST.saturating_sub(place);
+    if least < deep {
+        return Ok(SyntaxFault::TooDeep(start_at(tokens, deep)));
     }
+    let Reader { state, .. } = held_before(alone, alloc, code, tokens, place)?;
+    let token = kind_at(tokens, place);
+    let construct = outside(alloc, state, token)?;
+    Ok(refused(start_of(tokens, place), token, construct))
+}
+
+/// The statements of the cell that the tokens are, unless it is too deep.
+pub fn statements(
+    alone: bool,
+    alloc: Global,
+    code: &str,
+    tokens: &[Token],
+    reader: Reader,
+) -> Result<Items<Stmt>, ReadError>
+    requires { read_first alone code.now tokens.now (length tokens.now) ≡ Some reader }
+    ensures { GivesStatements alone code.now tokens.now result }
+{
+    let Reader { state, .. } = reader;
+    let State::End(done) = state else {
+        return Ok(Items::new(alloc));
+    };
+    let deep = done.under.reach(MAX_DEPTH);
+    if 0 < deep {
+        let at = start_at(tokens, deep);
+        return Err(ReadError::Fault(SyntaxFault::TooDeep(at)));
+    }
+    Ok(done.statements)
 }
 
 /// What the code is read as.
 fn judge(alloc: Global, code: &str) -> Result<Tree, ReadError>
     ensures { Gives result (verdict code.now) }
 {
-    if MAX_CODE < code.len() {
-        return Err(ReadError::Fault(SyntaxFault::TooLong));
-    }
-    let tokens = match tokens(alloc, code) {
-        Ok(tokens) => tokens,
-        Err(error) => return Err(token_error(error)),
-    };
+    let tokens = tokens_within(alloc, code)?;
     let all = tokens.as_slice();
-    match read_tokens(alloc, all, all.len())? {
-        Scan::Whole(reader, entries) => {
-            drop(reader);
-            whole(alloc, code, all, entries)
+    match read_tokens(false, alloc, code, all, all.len())? {
+        Scan::Whole(reader) => {
+            let body = statements(false, alloc, code, all, reader)?;
+            Ok(Tree { body })
         }
-        Scan::Refused(place, construct) => {
-            let fault = refusal_at(alloc, all, place, construct)?;
+        Scan::Refused(place) => {
+            let fault = refusal_at(false, alloc, code, all, place)?;
             Err(ReadError::Fault(fault))
         }
     }
@@ -138,10 +138,11 @@ fn judge(alloc: Global, code: &str) -> Result<Tree, ReadError>
 /// Reads the code of a cell.
 ///
 /// A code of more than 262,144 bytes is `TooLong`, and one without tokens has the fault of its tokens. Otherwise, if a node
-/// is at depth 65 or deeper, the first such node is `TooDeep`: in a code without a tree a node counts as far as the tokens
-/// before the failing one begin it. Otherwise the code has its one tree in the grammar, or it is refused at the first token
-/// such that no cell begins with the tokens up to it: as `Outside` if that token begins a construct of Python that this
-/// language leaves out, and else as `NoParse`. (Python language reference, in the subset of docs/LANGUAGE.md.)
+/// is at depth 65 or deeper, the first such node is `TooDeep`: a code without a tree is too deep at a place if each cell that
+/// begins with the tokens before the failing one is too deep there or earlier, and one is just there. Otherwise the code has
+/// its one tree in the grammar, or it is refused at the first token such that no cell begins with the tokens up to it: as
+/// `Outside` if that token begins a construct of Python that this language leaves out, and else as `NoParse`. (Python
+/// language reference, in the subset of docs/LANGUAGE.md.)
 #[tactic(auto, using(crate::proofs::Meant::told, crate::proofs::Sources::sources))]
 pub fn read_cell(alloc: Global, code: &str) -> Result<Tree, ReadError>
     // The verdict as a definition that computes.

@@ -14,7 +14,6 @@ fn construct_words(construct: Construct) -> &'static str
 {
     match construct {
         Construct::Word(keyword) => word(keyword),
-        Construct::Tuple => "tuple",
         Construct::Comprehension => "comprehension",
         Construct::Set => "set",
         Construct::Is => "is",

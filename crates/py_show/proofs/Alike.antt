@@ -9,6 +9,8 @@ use Rattle.py_value.specs.declared.value.Value.TheVariants as value
 use Rattle.py_value.specs.Keys.{value_of}
 use Rattle.py_heap.specs.declared.heap.Object.{Object}
 use Rattle.py_heap.specs.declared.heap.Object.TheVariants as object
+use Rattle.py_heap.specs.declared.heap.SequenceKind.{SequenceKind}
+use Rattle.py_heap.specs.declared.heap.SequenceKind.TheVariants as sequences
 use Rattle.py_heap.specs.declared.state.State.{State}
 use Rattle.py_heap.specs.Dicts.{Pairs}
 use Rattle.py_heap.specs.Searches.{has}
@@ -132,18 +134,21 @@ from_empty {t = t} first = record {
   on = λ before draws m e. first.on before [] draws m e ∙ ap (λ z. on_machine m (t (limited z) m.steps)) (append-nil before);
 }
 
--- what shows the items of lists and dicts
+-- what shows the items of lists, tuples and dicts
 pub record Below (state : State) (below : Shows) (s : List ℕ → Value → Puts) : Type 0 where
   pub at : (path : List ℕ) (held : Value) → Alike state (λ text. below path text held) (s path held)
 
 module _ {state : State} {below : Shows} {s : List ℕ → Value → Puts} (b : Below state below s) where
-  more_items : (path : List ℕ) (items : List Value) → Alike state (λ text. spec.more_items below path text items) (on.more_items state s path items)
-  more_items path [] = put (codes "]")
-  more_items path (item ∷ items) = chained (after_put (codes ", ") (b.at path item)) (more_items path items)
+  more_items : (end path : List ℕ) (items : List Value) → Alike state (λ text. spec.more_items below end path text items) (on.more_items state s end path items)
+  more_items end path [] = put end
+  more_items end path (item ∷ items) = chained (after_put (codes ", ") (b.at path item)) (more_items end path items)
 
-  all_items : (path : List ℕ) (items : List Value) → Alike state (λ text. spec.all_items below path text items) (on.all_items state s path items)
-  all_items path [] = put (codes "]")
-  all_items path (item ∷ items) = chained (b.at path item) (more_items path items)
+  all_items : (end path : List ℕ) (items : List Value) → Alike state (λ text. spec.all_items below end path text items) (on.all_items state s end path items)
+  all_items end path [] = put end
+  all_items end path (item ∷ items) = chained (b.at path item) (more_items end path items)
+
+  sequence : (kind : SequenceKind) (path : List ℕ) (at : ℕ) (items : List Value) → Alike state (λ text. spec.sequence_text below kind path text at items) (on.sequence_shown state s kind path at items)
+  sequence kind path at items = after_put (spec.opening kind) (all_items (spec.closing kind items) (path ++ at ∷ []) items)
 
   pair : (path : List ℕ) (p : Key × Value) → Alike state (λ text. spec.pair_text below path text p) (on.pair_shown state s path p)
   pair path p = chained (b.at path (value_of p.0)) (after_put (codes ": ") (b.at path p.1))
@@ -157,7 +162,8 @@ module _ {state : State} {below : Shows} {s : List ℕ → Value → Puts} (b : 
   all_pairs path (p ∷ pairs) = chained (pair path p) (more_pairs path pairs)
 
   object_alike : (path : List ℕ) (at : ℕ) (o : Option Object) → Alike state (λ text. spec.object_shown below path text at o) (on.object_shown state s path at o)
-  object_alike path at (Some (object.List items)) = after_put (codes "[") (all_items (path ++ at ∷ []) items)
+  object_alike path at (Some (object.List items)) = sequence sequences.List path at items
+  object_alike path at (Some (object.Tuple items)) = sequence sequences.Tuple path at items
   object_alike path at (Some (object.Dict pairs)) = after_put (codes "{") (all_pairs (path ++ at ∷ []) pairs)
   object_alike path at (Some (object.Function def)) = put (function_text def.name)
   object_alike path at (Some (object.Handle name uses)) = put (handle_text name)

@@ -7,13 +7,15 @@ use Rattle.py_value.specs.declared.value.Value.TheVariants as value
 use Rattle.py_value.specs.Keys.{value_of}
 use Rattle.py_heap.specs.declared.heap.Object.{Object}
 use Rattle.py_heap.specs.declared.heap.Object.TheVariants as object
+use Rattle.py_heap.specs.declared.heap.SequenceKind.{SequenceKind}
+use Rattle.py_heap.specs.declared.heap.SequenceKind.TheVariants as kind
 use Rattle.py_heap.specs.declared.state.State.{State}
 use Rattle.py_heap.specs.Dicts.{Pairs}
 use Rattle.py_heap.specs.Searches.{has}
 use Rattle.py_machine.specs.declared.error.PyError.{PyError}
 use Rattle.py_machine.specs.Errors.{recursion_error, step_limit_error}
 use Rattle.py_machine.specs.Runs.{Stop, raised}
-use Rattle.py_meaning.specs.Shown.{plain_text, open_text, function_text, handle_text}
+use Rattle.py_meaning.specs.Shown.{opening, closing, plain_text, open_text, function_text, handle_text}
 use Rattle.py_show.specs.Limits.{Limit, pushed}
 
 -- a value or an end, and the steps so far
@@ -47,16 +49,16 @@ abbrev pub stepped : Puts → Puts
 stepped p text steps = after (one_step steps).0 (one_step steps).1 (λ _. p text)
 
 module _ (state : State) (below : List ℕ → Value → Puts) where
-  abbrev pub more_items : List ℕ → List Value → Puts
-  more_items path [] = puts (codes "]")
-  more_items path (item ∷ items) = puts (codes ", ") >> below path item >> more_items path items
+  abbrev pub more_items : List ℕ → List ℕ → List Value → Puts
+  more_items end path [] = puts end
+  more_items end path (item ∷ items) = puts (codes ", ") >> below path item >> more_items end path items
 
-  abbrev pub all_items : List ℕ → List Value → Puts
-  all_items path [] = puts (codes "]")
-  all_items path (item ∷ items) = below path item >> more_items path items
+  abbrev pub all_items : List ℕ → List ℕ → List Value → Puts
+  all_items end path [] = puts end
+  all_items end path (item ∷ items) = below path item >> more_items end path items
 
-  abbrev pub list_shown : List ℕ → ℕ → List Value → Puts
-  list_shown path at items = puts (codes "[") >> all_items (path ++ at ∷ []) items
+  abbrev pub sequence_shown : SequenceKind → List ℕ → ℕ → List Value → Puts
+  sequence_shown kind path at items = puts (opening kind) >> all_items (closing kind items) (path ++ at ∷ []) items
 
   abbrev pub pair_shown : List ℕ → Key × Value → Puts
   pair_shown path pair = below path (value_of pair.0) >> (puts (codes ": ") >> below path pair.1)
@@ -73,13 +75,14 @@ module _ (state : State) (below : List ℕ → Value → Puts) where
   dict_shown path at pairs = puts (codes "{") >> all_pairs (path ++ at ∷ []) pairs
 
   abbrev pub object_shown : List ℕ → ℕ → Option Object → Puts
-  object_shown path at (Some (object.List items)) = list_shown path at items
+  object_shown path at (Some (object.List items)) = sequence_shown kind.List path at items
+  object_shown path at (Some (object.Tuple items)) = sequence_shown kind.Tuple path at items
   object_shown path at (Some (object.Dict pairs)) = dict_shown path at pairs
   object_shown path at (Some (object.Function def)) = puts (function_text def.name)
   object_shown path at (Some (object.Handle name uses)) = puts (handle_text name)
   object_shown path at None = puts (plain_text (value.Ref at))
 
-  -- a list or a dict that is open already isn't looked into again
+  -- a list, a tuple or a dict that is open already isn't looked into again
   unfoldable pub ref_shown : List ℕ → ℕ → Puts
   ref_shown path at = cond (has path at) (puts (open_text (slice_get state.heap at))) (object_shown path at (slice_get state.heap at))
 

@@ -6,7 +6,7 @@ ghost use Rattle.py_show.specs.Limits.{pushed};
 use crate::limited::Limited;
 use crate::quoted::put_quoted;
 use plain_data::{SharedText, Text};
-use py_heap::{Object, State};
+use py_heap::{Object, SequenceKind, State};
 use py_value::{Builtin, Key, Value, key_text};
 use std::alloc::{AllocError, Global};
 
@@ -76,6 +76,29 @@ pub(crate) fn put_handle(
     out.push_str(">")
 }
 
+/// What stands before the items of a list or a tuple.
+pub(crate) fn opening(kind: SequenceKind) -> &'static str
+    ensures { result.now ≡ spec.opening kind }
+{
+    match kind {
+        SequenceKind::List => "[",
+        SequenceKind::Tuple => "(",
+    }
+}
+
+/// What stands after the items of a list or a tuple: a tuple of one item has a comma there.
+pub(crate) fn closing(kind: SequenceKind, items: &[Value]) -> &'static str
+    ensures { result.now ≡ spec.closing kind items.now }
+{
+    match kind {
+        SequenceKind::List => "]",
+        SequenceKind::Tuple => match items {
+            [_] => ",)",
+            _ => ")",
+        },
+    }
+}
+
 /// The object at an address, if there is one.
 pub(crate) fn object_on(state: &State, at: u32) -> Option<&Object>
     ensures { option_copied result ≡ slice_get state.now.heap at }
@@ -93,6 +116,7 @@ pub(crate) fn open_text(state: &State, at: u32) -> &'static str
 {
     match object_on(state, at) {
         Some(Object::Dict(_)) => "{...}",
+        Some(Object::Tuple(_)) => "(...)",
         _ => "[...]",
     }
 }

@@ -6,9 +6,9 @@ ghost use Rattle.py_show.specs.OnState as spec;
 ghost use Rattle.py_show.specs.Uses.{Takes, Gives, PutsRun};
 
 use crate::limited::Limited;
-use crate::plain::{object_on, open_text, put_function, put_handle, put_plain};
+use crate::plain::{closing, object_on, open_text, opening, put_function, put_handle, put_plain};
 use plain_data::Items;
-use py_heap::{Dict, Object, State};
+use py_heap::{Dict, Object, SequenceKind, State};
 use py_machine::{Fault, MAX_STEPS, recursion_error, step_limit_error};
 use py_value::{Key, Value};
 use std::alloc::Global;
@@ -25,7 +25,7 @@ fn take_step(alloc: Global, steps: &mut u32) -> Result<(), Fault>
     Err(Fault::Raised(step_limit_error(alloc)?))
 }
 
-/// Whether a list or a dict is open.
+/// Whether a list, a tuple or a dict is open.
 fn is_open(path: &[u32], at: u32) -> bool
     ensures { result ≡ has path.now at }
 {
@@ -76,7 +76,32 @@ fn show_ref(
     }
     match object_on(state, at) {
         Some(Object::List(items)) => {
-            show_list(alloc, left, state, steps, path, at, items.as_slice(), out)
+            let kind = SequenceKind::List;
+            show_sequence(
+                alloc,
+                left,
+                state,
+                steps,
+                path,
+                kind,
+                at,
+                items.as_slice(),
+                out,
+            )
+        }
+        Some(Object::Tuple(items)) => {
+            let kind = SequenceKind::Tuple;
+            show_sequence(
+                alloc,
+                left,
+                state,
+                steps,
+                path,
+                kind,
+                at,
+                items.as_slice(),
+                out,
+            )
         }
         Some(Object::Dict(dict)) => show_dict(alloc, left, state, steps, path, at, dict, out),
         Some(Object::Function(function)) => {
@@ -183,29 +208,39 @@ fn show_pair(
     show(alloc, left, state, steps, path, value, out)
 }
 
-/// Puts what the list at an address shows.
+/// Puts what the list or the tuple at an address shows.
 #[cycle(show)]
-fn show_list(
+fn show_sequence(
     alloc: Global,
     left: u32,
     state: &State,
     steps: &mut u32,
     path: &mut Items<u32>,
+    kind: SequenceKind,
     at: u32,
     items: &[Value],
     out: &mut Limited,
 ) -> Result<(), Fault>
-    ensures shows { Gives (spec.list_shown state.now (spec.shown state.now left) path.old at items.now) out.old steps.old result out.new steps.new }
+    ensures shows { Gives (spec.sequence_shown state.now (spec.shown state.now left) kind path.old at items.now) out.old steps.old result out.new steps.new }
     ensures path { OnOk result (path.new ≡ path.old) }
 {
-    out.push_str("[")?;
+    out.push_str(opening(kind))?;
     path.push(at)?;
-    show_items(alloc, left, state, steps, path, items, out)?;
+    show_items(
+        alloc,
+        left,
+        state,
+        steps,
+        path,
+        closing(kind, items),
+        items,
+        out,
+    )?;
     path.pop();
     Ok(())
 }
 
-/// Puts what the items of a list show, and its end.
+/// Puts what the items of a list or a tuple show, and its end.
 #[cycle(show)]
 fn show_items(
     alloc: Global,
@@ -213,25 +248,26 @@ fn show_items(
     state: &State,
     steps: &mut u32,
     path: &mut Items<u32>,
+    end: &str,
     items: &[Value],
     out: &mut Limited,
 ) -> Result<(), Fault>
-    ensures shows { Gives (spec.all_items state.now (spec.shown state.now left) path.old items.now) out.old steps.old result out.new steps.new }
+    ensures shows { Gives (spec.all_items state.now (spec.shown state.now left) end.now path.old items.now) out.old steps.old result out.new steps.new }
     ensures path { OnOk result (path.new ≡ path.old) }
 {
     match items {
         [first, more @ ..] => {
             show(alloc, left, state, steps, path, first, out)?;
-            show_more(alloc, left, state, steps, path, more, out)
+            show_more(alloc, left, state, steps, path, end, more, out)
         }
         [] => {
-            out.push_str("]")?;
+            out.push_str(end)?;
             Ok(())
         }
     }
 }
 
-/// Puts what the items of a list after its first one show, and its end.
+/// Puts what the items of a list or a tuple after its first one show, and its end.
 #[cycle(show)]
 fn show_more(
     alloc: Global,
@@ -239,17 +275,18 @@ fn show_more(
     state: &State,
     steps: &mut u32,
     path: &mut Items<u32>,
+    end: &str,
     items: &[Value],
     out: &mut Limited,
 ) -> Result<(), Fault>
-    ensures shows { Gives (spec.more_items state.now (spec.shown state.now left) path.old items.now) out.old steps.old result out.new steps.new }
+    ensures shows { Gives (spec.more_items state.now (spec.shown state.now left) end.now path.old items.now) out.old steps.old result out.new steps.new }
     ensures path { OnOk result (path.new ≡ path.old) }
 {
     for item in items {
         out.push_str(", ")?;
         show(alloc, left, state, steps, path, item, out)?;
     }
-    out.push_str("]")?;
+    out.push_str(end)?;
     Ok(())
 }
 
@@ -291,7 +328,7 @@ fn show(
     show_one(alloc, left - 1, state, steps, path, value, out)
 }
 
-/// Puts what a value shows (its `repr`), with `left` levels left and no list or dict open.
+/// Puts what a value shows (its `repr`), with `left` levels left and nothing open.
 fn show_first(
     alloc: Global,
     left: u32,

@@ -1,5 +1,5 @@
 -- What each statement binds and declares global.
-use Rattle.std.proofs.Common.{◌≡◌, ℕ, Option, List, [], ◌∷◌, ◌++◌, sym, ap, ◌∙◌, append_assoc, refl, arith, length, get_or, take, ◌<◌, ◌+◌}
+use Rattle.std.proofs.Common.{◌≡◌, ℕ, Option, List, [], ◌∷◌, ◌++◌, sym, ap, ◌∙◌, append_assoc, refl, arith, length, get_or, take, ◌<◌, ◌+◌, Bool}
 use Rattle.std.proofs.lemmas.List.{take_more, append-nil}
 use Rattle.std.proofs.lemmas.Grind.{common_steps}
 use Rattle.std.specs.Prelude.{map}
@@ -14,7 +14,7 @@ use Rattle.py_tree.specs.declared.statements.Stmt.TheOpen.{Stmt-F}
 use Rattle.py_tree.specs.declared.statements.Stmt.TheFolds.{fold-roll-Stmt, fold_out-Arm}
 use Rattle.py_tree.specs.declared.statements.Stmt.TheVariants as s
 use Rattle.py_tree.specs.Added.{added}
-use Rattle.py_tree.specs.Locals.{Names, joined, bound_at, bound_step, globals_step, arm_step, def_step, bound_by, global_by, bound_by_arm, global_by_arm, bound_in, globals_in, bound_in_arms, globals_in_arms}
+use Rattle.py_tree.specs.Locals.{Names, joined, bound_at, bound_at_all, bound_step, globals_step, arm_step, def_step, bound_by, global_by, bound_by_arm, global_by_arm, bound_in, globals_in, bound_in_arms, globals_in_arms}
 
 pub bound-pass : bound_by s.Pass ≡ []
 unfolding bound_by bound_by_arm
@@ -80,13 +80,13 @@ pub global-delete : (target : Target) → global_by (s.Delete target) ≡ []
 unfolding global_by global_by_arm
 global-delete target = ap global_by (sym (s.rolls-Delete target)) ∙ fold-roll-Stmt Names Names Names globals_step arm_step def_step (Stmt-F.Delete target)
 
-pub bound-assign : (target : Target) (e : Expr) → bound_by (s.Assign target e) ≡ bound_at target
+pub bound-assign : (targets : List Target) (comma : Bool) (e : Expr) → bound_by (s.Assign targets comma e) ≡ bound_at_all targets
 unfolding bound_by bound_by_arm
-bound-assign target e = ap bound_by (sym (s.rolls-Assign target e)) ∙ fold-roll-Stmt Names Names Names bound_step arm_step def_step (Stmt-F.Assign target e)
+bound-assign targets comma e = ap bound_by (sym (s.rolls-Assign targets comma e)) ∙ fold-roll-Stmt Names Names Names bound_step arm_step def_step (Stmt-F.Assign targets comma e)
 
-pub global-assign : (target : Target) (e : Expr) → global_by (s.Assign target e) ≡ []
+pub global-assign : (targets : List Target) (comma : Bool) (e : Expr) → global_by (s.Assign targets comma e) ≡ []
 unfolding global_by global_by_arm
-global-assign target e = ap global_by (sym (s.rolls-Assign target e)) ∙ fold-roll-Stmt Names Names Names globals_step arm_step def_step (Stmt-F.Assign target e)
+global-assign targets comma e = ap global_by (sym (s.rolls-Assign targets comma e)) ∙ fold-roll-Stmt Names Names Names globals_step arm_step def_step (Stmt-F.Assign targets comma e)
 
 pub bound-augment : (target : Target) (op : Op) (e : Expr) → bound_by (s.Augment target op e) ≡ bound_at target
 unfolding bound_by bound_by_arm
@@ -112,13 +112,13 @@ pub global-while : (test : Expr) (body : List Stmt) → global_by (s.While test 
 unfolding global_by global_by_arm
 global-while test body = ap global_by (sym (s.rolls-While test body)) ∙ fold-roll-Stmt Names Names Names globals_step arm_step def_step (Stmt-F.While test body)
 
-pub bound-for : (name : List ℕ) (source : Expr) (body : List Stmt) → bound_by (s.For name source body) ≡ name ∷ bound_in body
+pub bound-for : (names : Names) (comma : Bool) (e : Expr) (body : List Stmt) → bound_by (s.For names comma e body) ≡ names ++ bound_in body
 unfolding bound_by bound_by_arm
-bound-for name source body = ap bound_by (sym (s.rolls-For name source body)) ∙ fold-roll-Stmt Names Names Names bound_step arm_step def_step (Stmt-F.For name source body)
+bound-for names comma e body = ap bound_by (sym (s.rolls-For names comma e body)) ∙ fold-roll-Stmt Names Names Names bound_step arm_step def_step (Stmt-F.For names comma e body)
 
-pub global-for : (name : List ℕ) (source : Expr) (body : List Stmt) → global_by (s.For name source body) ≡ globals_in body
+pub global-for : (names : Names) (comma : Bool) (e : Expr) (body : List Stmt) → global_by (s.For names comma e body) ≡ globals_in body
 unfolding global_by global_by_arm
-global-for name source body = ap global_by (sym (s.rolls-For name source body)) ∙ fold-roll-Stmt Names Names Names globals_step arm_step def_step (Stmt-F.For name source body)
+global-for names comma e body = ap global_by (sym (s.rolls-For names comma e body)) ∙ fold-roll-Stmt Names Names Names globals_step arm_step def_step (Stmt-F.For names comma e body)
 
 pub bound-arm : (arm : Arm) → bound_by_arm arm ≡ bound_in (out-Arm arm).body
 unfolding bound_by_arm bound_by
@@ -142,5 +142,14 @@ one_more f g xs i x first middle last within is before now =
     let fs = ap (λ ys. joined (map f ys)) more ∙ joined-push f (take i xs) x in
     let gs = ap (λ ys. joined (map g ys)) more ∙ joined-push g (take i xs) x in
     now ∙ ap (λ n. added n (f x) (g x)) before ∙ rw (fs, gs, append_assoc, append_assoc) refl
+
+-- one more target
+pub nothing-more : {X : Type 0} (f : X → Names) (xs : List X) (i : ℕ) (x : X) (first middle last : collected.Names) → i < length xs → x ≡ get_or xs i x
+    → middle ≡ added first (joined (map f (take i xs))) [] → last ≡ added middle (f x) []
+    → last ≡ added first (joined (map f (take (i + 1) xs))) []
+nothing-more f xs i x first middle last within is before now =
+    let more : take (i + 1) xs ≡ take i xs ++ x ∷ [] = take_more xs i x within ∙ ap (λ y. take i xs ++ y ∷ []) (sym is) in
+    let fs = ap (λ ys. joined (map f ys)) more ∙ joined-push f (take i xs) x in
+    now ∙ ap (λ n. added n (f x) []) before ∙ rw (fs, append_assoc, append-nil) refl
 
 pub ruleset walks = (bound-pass, global-pass, bound-break, global-break, bound-continue, global-continue, bound-return, global-return, bound-show, global-show, bound-function, global-function, bound-global, global-global, bound-delete, global-delete, bound-assign, global-assign, bound-augment, global-augment, bound-if, global-if, bound-while, global-while, bound-for, global-for, append_assoc, append-nil)

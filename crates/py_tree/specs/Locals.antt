@@ -24,14 +24,17 @@ abbrev pub bound_at : Target → Names
 bound_at (Name name) = name ∷ []
 bound_at (Item value at) = []
 
+abbrev pub bound_at_all : List Target → Names
+bound_at_all targets = joined (map bound_at targets)
+
 -- by one statement, with the names of each inner statement at its position
 abbrev pub bound_step : Stmt-F Names Names Names → Names
 bound_step (Stmt-F.Delete target) = bound_at target
-bound_step (Stmt-F.Assign target value) = bound_at target
+bound_step (Stmt-F.Assign targets comma value) = bound_at_all targets
 bound_step (Stmt-F.Augment target op value) = bound_at target
 bound_step (Stmt-F.If arms other) = joined arms ++ joined other
 bound_step (Stmt-F.While test body) = joined body
-bound_step (Stmt-F.For name source body) = name ∷ joined body
+bound_step (Stmt-F.For names comma iterable body) = names ++ joined body
 bound_step _ = []
 
 -- ---- declared global by a block
@@ -40,7 +43,7 @@ abbrev pub globals_step : Stmt-F Names Names Names → Names
 globals_step (Stmt-F.Global names) = names
 globals_step (Stmt-F.If arms other) = joined arms ++ joined other
 globals_step (Stmt-F.While test body) = joined body
-globals_step (Stmt-F.For name source body) = joined body
+globals_step (Stmt-F.For names comma iterable body) = joined body
 globals_step _ = []
 
 -- ---- both, over whole statements

@@ -36,6 +36,8 @@ pub enum Expr {
     Literal(Literal),
     /// `[a, b]`
     ListOf(Items<Expr>),
+    /// `a, b`, `(a, b)` or `()`
+    TupleOf(Items<Expr>),
     /// `{a: b}`
     DictOf(Items<Pair>),
     /// `yes if test else no`

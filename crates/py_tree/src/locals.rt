@@ -1,6 +1,6 @@
 ghost use Rattle.std.specs.Prelude.{◌≡◌, ◌++◌, ◌∷◌, [], IfOk, OnOk, not, filter};
 ghost use Rattle.py_tree.specs.Added.{added};
-ghost use Rattle.py_tree.specs.Locals.{bound_at, bound_by, global_by, bound_in, globals_in, bound_in_arms, globals_in_arms, is_among, distinct, locals_of};
+ghost use Rattle.py_tree.specs.Locals.{bound_at, bound_at_all, bound_by, global_by, bound_in, globals_in, bound_in_arms, globals_in_arms, is_among, distinct, locals_of};
 
 use crate::expressions::Target;
 use crate::statements::{Arm, Def, Stmt};
@@ -38,6 +38,15 @@ fn collect_target(alloc: Global, target: &Target, names: &mut Names) -> Result<(
     }
 }
 
+fn collect_targets(alloc: Global, targets: &[Target], names: &mut Names) -> Result<(), AllocError>
+    ensures { OnOk result (names.new ≡ added names.old (bound_at_all targets.now) []) }
+{
+    for target in targets {
+        collect_target(alloc, target, names)?;
+    }
+    Ok(())
+}
+
 /// Adds the names of one statement.
 #[cycle(names)]
 #[tactic(auto, using(crate::proofs::Walks::walks))]
@@ -46,7 +55,7 @@ fn collect_statement(alloc: Global, statement: &Stmt, names: &mut Names) -> Resu
 {
     match statement {
         Stmt::Delete(target) => collect_target(alloc, target, names),
-        Stmt::Assign { target, .. } => collect_target(alloc, target, names),
+        Stmt::Assign { targets, .. } => collect_targets(alloc, targets.as_slice(), names),
         Stmt::Augment { target, .. } => collect_target(alloc, target, names),
         Stmt::Global(global) => copy_all(alloc, &mut names.global, global),
         Stmt::If { arms, other } => {
@@ -54,8 +63,12 @@ fn collect_statement(alloc: Global, statement: &Stmt, names: &mut Names) -> Resu
             collect(alloc, other.as_slice(), names)
         }
         Stmt::While { body, .. } => collect(alloc, body.as_slice(), names),
-        Stmt::For { name, body, .. } => {
-            copy_onto(alloc, &mut names.bound, name)?;
+        Stmt::For {
+            names: bound,
+            body,
+            ..
+        } => {
+            copy_all(alloc, &mut names.bound, bound)?;
             collect(alloc, body.as_slice(), names)
         }
         Stmt::Pass
@@ -125,8 +138,9 @@ fn distinct(alloc: Global, names: &[Text]) -> Result<Items<Text>, AllocError>
     Ok(seen)
 }
 
-/// The locals of a function: its parameters, and then the names that its body assigns, augments, deletes or uses as the
-/// target of a `for` and doesn't declare global, in the order of their first positions, each once.
+/// The locals of a function: its parameters, and then the names that its body assigns, augments, deletes or uses as a
+/// name of a `for` and doesn't declare global, in the order of their first positions, each once. An assignment assigns
+/// each of its targets that is a name.
 #[tactic(auto, unfolding(crate::specs::Locals::locals))]
 pub fn locals_of(alloc: Global, def: &Def) -> Result<Items<Text>, AllocError>
     ensures { IfOk result (λ names. names ≡ locals_of def.now) }

@@ -17,8 +17,11 @@ pub enum Stmt {
     Return(Option<Expr>),
     Global(Items<Text>),
     Delete(Target),
+    /// `target = value`, and `a, b = value` if a comma is among the targets: then the value is unpacked, also if
+    /// there is one target.
     Assign {
-        target: Target,
+        targets: Items<Target>,
+        comma: bool,
         value: Expr,
     },
     /// `target op= value`
@@ -38,9 +41,12 @@ pub enum Stmt {
         test: Expr,
         body: Items<Stmt>,
     },
+    /// `for name in iterable:`, and `for a, b in iterable:` if a comma is among the names: then each item is
+    /// unpacked, also if there is one name.
     For {
-        name: Text,
-        source: Expr,
+        names: Items<Text>,
+        comma: bool,
+        iterable: Expr,
         body: Items<Stmt>,
     },
     Function(Shared<Def>),

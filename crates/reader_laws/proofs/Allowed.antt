@@ -1,22 +1,24 @@
 -- The statements of a cell are allowed, if each function at its top is of a kind: no function is elsewhere.
-use Rattle.std.proofs.Common.{◌≡◌, ℕ, false, IsTrue, List, [], ◌∷◌, map, Option, Some, None, refl, ap, ◌∙◌, subst}
-use Rattle.std.specs.List.{AllByRecursion}
+use Rattle.std.proofs.Common.{◌≡◌, ℕ, Bool, false, IsTrue, List, [], ◌∷◌, map, Option, Some, None, refl, ap, ◌∙◌, subst}
+use Rattle.std.specs.List.{All, AllByRecursion}
+use Rattle.std.proofs.lemmas.List.Elements.{All-from_recursion}
 use Rattle.py_token.specs.declared.kinds.Kind.{Kind}
 use Rattle.py_token.specs.declared.kinds.Kind.TheVariants as t
 use Rattle.py_tree.specs.declared.expressions.Expr.{Expr}
 use Rattle.py_tree.specs.declared.expressions.Op.{Op}
 use Rattle.py_tree.specs.declared.expressions.Target as tree_of
+use Rattle.py_tree.specs.declared.expressions.Target.TheVariants as target
 use Rattle.py_tree.specs.declared.statements.Arm.{Arm}
 use Rattle.py_tree.specs.declared.statements.Def.{Def, roll-Def}
 use Rattle.py_tree.specs.declared.statements.Stmt.{Stmt}
 use Rattle.py_tree.specs.declared.statements.Stmt.TheOpen.{Stmt-F, Arm-F, Def-F}
 use Rattle.py_tree.specs.declared.statements.Stmt.TheFolds.{every-Arm, every-Def, every_made-Stmt, every_made-Arm, every_made-Def}
 use Rattle.py_tree.specs.declared.statements.Stmt.TheVariants as s
-use Rattle.py_grammar.specs.Expressions.{Expression}
-use Rattle.py_grammar.specs.Statements.{Target, to_name, to_item, pass_, break_, continue_, Simple, word, return_, give, declare, delete, assign, augment, show, spell_simple, Params, Statement, simple, compound, Head, choose, otherwise, while_true, for_each, define, Condition, if_true, else_if, Branches, branches, Block, inline, indented, Statements, statements_one, statements_more, spell_statement, spell_head, spell_condition, spell_branches, spell_block, spell_statements, Around, inside, hear, statement_stands, head_stands, condition_stands, branches_stand, block_stands, statements_stand}
-use Rattle.py_grammar.specs.Trees.{tree_expression, tree_target, tree_simple, tree_statement, tree_compound, arms_before, arms, tree_block, tree_statements}
+use Rattle.py_grammar.specs.Statements.{to_name, to_item, pass_, break_, continue_, Simple, word, return_, give, declare, delete, assign, augment, show, spell_simple, Params, Statement, simple, compound, Head, choose, otherwise, while_true, for_each, define, Condition, if_true, else_if, Branches, branches, Block, inline, indented, Statements, statements_one, statements_more, spell_statement, spell_head, spell_condition, spell_branches, spell_block, spell_statements, Around, inside, hear, statement_stands, head_stands, condition_stands, branches_stand, block_stands, statements_stand}
+use Rattle.py_grammar.specs.Trees.{tree_exprs, tree_target, tree_targets, tree_variables, tree_simple, tree_statement, tree_compound, arms_before, arms, tree_block, tree_statements}
 use Rattle.py_laws.specs.Allowed.{MayBindAt, IsAllowedHere, ArmAny, DefAny, IsAllowed}
-use Rattle.reader_laws.proofs.Named.{push, AreKnown, head, condition, statements}
+use Rattle.reader_laws.proofs.Made.{Ats}
+use Rattle.reader_laws.proofs.Named.{push, AreKnown, assigned, varied, head, condition, statements}
 use Rattle.reader_laws.proofs.Tokens.{Variable}
 
 -- each element together with what holds of it
@@ -31,8 +33,8 @@ if_layer tests other = Stmt-F.If tests other
 abbrev while_layer : Expr → List Stmt → Stmt-F Stmt Arm Def
 while_layer test body = Stmt-F.While test body
 
-abbrev for_layer : List ℕ → Expr → List Stmt → Stmt-F Stmt Arm Def
-for_layer n source body = Stmt-F.For n source body
+abbrev for_layer : List (List ℕ) → Bool → Expr → List Stmt → Stmt-F Stmt Arm Def
+for_layer ns comma source body = Stmt-F.For ns comma source body
 
 abbrev arm_layer : Expr → List Stmt → Arm-F Stmt Arm Def
 arm_layer test body = record { test = test; body = body }
@@ -73,8 +75,8 @@ module _ (IsOfKind : Def → Type 0) where
   allowed_delete : (to : tree_of.Target) → Allowed (s.Delete to)
   allowed_delete to = subst Allowed (s.rolls-Delete to) (every_made-Stmt Here ArmAny DefAny (Stmt-F.Delete to) (Stmt-F.Delete to) refl tt)
 
-  allowed_assign : (to : tree_of.Target) (x : Expr) → MayBindAt to → Allowed (s.Assign to x)
-  allowed_assign to x h = subst Allowed (s.rolls-Assign to x) (every_made-Stmt Here ArmAny DefAny (Stmt-F.Assign to x) (Stmt-F.Assign to x) refl h)
+  allowed_assign : (ts : List tree_of.Target) (comma : Bool) (x : Expr) → All MayBindAt ts → Allowed (s.Assign ts comma x)
+  allowed_assign ts comma x h = subst Allowed (s.rolls-Assign ts comma x) (every_made-Stmt Here ArmAny DefAny (Stmt-F.Assign ts comma x) (Stmt-F.Assign ts comma x) refl h)
 
   allowed_augment : (to : tree_of.Target) (o : Op) (x : Expr) → MayBindAt to → Allowed (s.Augment to o x)
   allowed_augment to o x h = subst Allowed (s.rolls-Augment to o x) (every_made-Stmt Here ArmAny DefAny (Stmt-F.Augment to o x) (Stmt-F.Augment to o x) refl h)
@@ -94,10 +96,10 @@ module _ (IsOfKind : Def → Type 0) where
       let b = with_each Allowed body h in
       subst Allowed (s.rolls-While test body) (every_made-Stmt Here ArmAny DefAny (Stmt-F.While test body) (Stmt-F.While test b.0) (ap (λ xs. while_layer test xs) b.1) tt)
 
-  allowed_for : (n : List ℕ) (source : Expr) (body : List Stmt) → Variable n → AllByRecursion Allowed body → Allowed (s.For n source body)
-  allowed_for n source body v h =
+  allowed_for : (ns : List (List ℕ)) (comma : Bool) (source : Expr) (body : List Stmt) → All Variable ns → AllByRecursion Allowed body → Allowed (s.For ns comma source body)
+  allowed_for ns comma source body v h =
       let b = with_each Allowed body h in
-      subst Allowed (s.rolls-For n source body) (every_made-Stmt Here ArmAny DefAny (Stmt-F.For n source body) (Stmt-F.For n source b.0) (ap (λ xs. for_layer n source xs) b.1) v)
+      subst Allowed (s.rolls-For ns comma source body) (every_made-Stmt Here ArmAny DefAny (Stmt-F.For ns comma source body) (Stmt-F.For ns comma source b.0) (ap (λ xs. for_layer ns comma source xs) b.1) v)
 
   allowed_arm : (test : Expr) (body : List Stmt) → AllByRecursion Allowed body → ArmAllowed (record { test = test; body = body })
   allowed_arm test body h =
@@ -116,19 +118,23 @@ module _ (IsOfKind : Def → Type 0) where
 
   -- ---- forms
 
+  may_bind : (ts : List tree_of.Target) → Ats Variable ts → AllByRecursion MayBindAt ts
+  may_bind [] h = tt
+  may_bind (target.Name n ∷ ts) h = (h.0.0, may_bind ts h.1)
+  may_bind (target.Item on at ∷ ts) h = (tt, may_bind ts h.1)
+
   simple-in : (x : Simple) (rest : List Kind) → AreKnown Variable (spell_simple x rest) → Allowed (tree_simple x)
   simple-in (word pass_) rest h = allowed_pass
   simple-in (word break_) rest h = allowed_break
   simple-in (word continue_) rest h = allowed_continue
   simple-in return_ rest h = allowed_return None
-  simple-in (give a) rest h = allowed_return (Some (tree_expression a))
+  simple-in (give a) rest h = allowed_return (Some (tree_exprs a))
   simple-in (declare ns) rest h = allowed_global _
   simple-in (delete to) rest h = allowed_delete (tree_target to)
-  simple-in (assign (to_name n) a) rest h = allowed_assign _ (tree_expression a) h.0
-  simple-in (assign (to_item p b) a) rest h = allowed_assign _ (tree_expression a) tt
-  simple-in (augment (to_name n) by a) rest h = allowed_augment _ _ (tree_expression a) h.0
-  simple-in (augment (to_item p b) by a) rest h = allowed_augment _ _ (tree_expression a) tt
-  simple-in (show a) rest h = allowed_show (tree_expression a)
+  simple-in (assign ts a) rest h = allowed_assign (tree_targets ts) _ (tree_exprs a) (All-from_recursion MayBindAt (tree_targets ts) (may_bind (tree_targets ts) (assigned Variable ts _ h).0))
+  simple-in (augment (to_name n) by a) rest h = allowed_augment _ _ (tree_exprs a) h.0
+  simple-in (augment (to_item p b) by a) rest h = allowed_augment _ _ (tree_exprs a) tt
+  simple-in (show a) rest h = allowed_show (tree_exprs a)
 
   abbrev pub IsDefine : Head → Type 0
   IsDefine (define n ps) = Unit {0}
@@ -166,7 +172,7 @@ module _ (IsOfKind : Def → Type 0) where
     head-in source (choose c) a e rest deep stands h body k = if_allowed source c body (condition-in c a e rest stands h) k
     head-in source (otherwise bs) a e rest deep stands h body k = allowed_if _ body (branches-in bs a e _ stands h) k
     head-in source (while_true x) a e rest deep stands h body k = allowed_while _ body k
-    head-in source (for_each n x) a e rest deep stands h body k = allowed_for n _ body h.1.0 k
+    head-in source (for_each vs x) a e rest deep stands h body k = allowed_for (tree_variables vs) _ _ body (All-from_recursion Variable (tree_variables vs) (varied Variable vs _ h.1).0) k
     head-in source (define n ps) a e rest deep stands h body k = absurd (deep tt)
 
     condition-in : (x : Condition) (a : Around) (e : List Kind → List Kind) (rest : List Kind) → condition_stands x a e → AreKnown Variable (spell_condition x rest) → AllByRecursion ArmAllowed (arms_before x)

@@ -1,5 +1,5 @@
 -- A function of a cell is what its text alone is read as.
-use Rattle.std.proofs.Common.{◌≡◌, ℕ, ◌+◌, ◌-◌, ◌≤◌, true, false, List, [], ◌∷◌, ◌++◌, length, drop, Some, None, Ok, Err, refl, sym, ap, ◌∙◌, subst, arith, append_assoc, length-take, length-drop, IsUtf8}
+use Rattle.std.proofs.Common.{◌≡◌, ℕ, ◌+◌, ◌-◌, ◌≤◌, true, false, List, [], ◌∷◌, ◌++◌, length, drop, Ok, Err, sym, ap, ◌∙◌, subst, arith, append_assoc, length-take, length-drop, IsUtf8}
 use Rattle.std.specs.Prelude.{slice_range, nat_lt, if◌then◌else◌}
 use Rattle.std.proofs.lemmas.Bool.Decides.{nat_tests}
 use Rattle.py_token.specs.declared.kinds.Kind.{Kind}
@@ -7,23 +7,23 @@ use Rattle.py_token.specs.declared.kinds.Kind.TheVariants as t
 use Rattle.py_token.specs.declared.kinds.Token.{Token}
 use Rattle.py_token.specs.Lines.{tokens_of}
 use Rattle.py_token.proofs.Covers.{covers}
-use Rattle.py_tree.specs.declared.statements.Def.{Def}
 use Rattle.py_grammar.specs.Words.{def_word}
-use Rattle.py_grammar.specs.Statements.{Params, Block, Statement, compound, define, statements_one, Cell, spell_statement, outside_all, statement_stands}
+use Rattle.py_grammar.specs.Statements.{Params, Block, Statement, compound, define, spell_statement, outside_all, statement_stands}
 use Rattle.py_grammar.proofs.Whole.{one_cell}
 use Rattle.py_grammar.specs.Alone.{alone, IsDefinition}
-use Rattle.py_postfix.specs.Statements.{post_statement, post_cell}
-use Rattle.py_nesting.specs.Depth.{IsShallow}
-use Rattle.py_build.specs.Source.{bytes_up_to, bytes_from, source_of}
-use Rattle.py_build.proofs.Boundaries.{whole_text}
+use Rattle.py_grammar.specs.Depth.{IsTooDeep}
+use Rattle.py_grammar.specs.States.{done}
+use Rattle.py_blocks.specs.Source.{source_of}
 use Rattle.py_reader.specs.declared.fault.SyntaxFault.TheVariants.{NoParse}
-use Rattle.py_reader.specs.Alone.{IsFunction}
+use Rattle.py_reader.specs.Sources.{bytes_up_to, bytes_from}
+use Rattle.py_reader.specs.Scans.{AreFunction}
 use Rattle.py_reader.specs.Verdicts.{start_of}
-use Rattle.py_reader.specs.Verdict.{most, deep_from, place_of_deep, nested}
+use Rattle.py_reader.specs.Verdict.{deepest_of, nested}
 use Rattle.py_reader.specs.Definitions.{end_if, end_of_words, definition}
-use Rattle.py_reader.specs.DefinitionVerdict.{unless_more, of_function, verdict_alone}
-use Rattle.py_reader.proofs.Judged.{shallow_is, nested_shallow}
-use Rattle.py_reader.proofs.JudgedAlone.{gives_function}
+use Rattle.py_reader.specs.DefinitionVerdict.{unless_more, of_alone, verdict_alone}
+use Rattle.py_reader.proofs.Boundaries.{whole_text}
+use Rattle.py_reader.proofs.Deep.{is-shallow}
+use Rattle.py_reader.proofs.Final.{good_tokens, nested-shallow, gives_function}
 use Rattle.py_token.specs.Cuts.{kinds, is_word, level, begins_line, dedents, AreCut}
 use Rattle.py_token.proofs.Cutting.{cuts}
 use Rattle.py_token.proofs.CutBlocks.{kinds-append}
@@ -35,29 +35,22 @@ use Rattle.reader_laws.proofs.Tails.{Ending, ending_steady, ending_tokens, state
 not_less : (m n : ℕ) → m ≡ n → nat_lt m n ≡ false
 not_less m n e = grind (arith, nat_tests)
 
-definition_in : List ℕ → Cell → Def → Def
-definition_in code (Some (statements_one (compound (define called takes) block))) other = definition code called takes block
-definition_in code _ other = other
-
 whole_function : (src : List ℕ) (tokens : List Token) (called : List ℕ) (takes : Params) (block : Block) → tokens_of src ≡ Ok tokens → IsDefinition (kinds tokens) called takes block → start_of tokens 0 ≡ 0
-    → IsShallow (post_cell (alone called takes block)) → end_of_words tokens ≡ length src → of_function src tokens (post_cell (alone called takes block)) (definition src called takes block) ≡ Ok (definition src called takes block)
+    → ((at : ℕ) → IsTooDeep (alone called takes block) at → ⊥) → end_of_words tokens ≡ length src → of_alone src tokens (done (alone called takes block)) ≡ Ok (definition src called takes block)
 whole_function src tokens called takes block e is start shallow end =
-    let es = post_cell (alone called takes block) in
+    let deep = deepest_of tokens (done (alone called takes block)) [] in
     let def = definition src called takes block in
-    let deep : place_of_deep tokens (deep_from (most es) es) ≡ None = ap (place_of_deep tokens) (shallow_is es (most es) shallow) in
-    ap (λ b. if b then Err (NoParse 0 false) else nested tokens es (unless_more src tokens (Ok def))) (not_less 0 (start_of tokens 0) (sym start))
-    ∙ nested_shallow tokens es (unless_more src tokens (Ok def)) deep
+    ap (λ b. if b then Err (NoParse 0 false) else nested tokens deep (unless_more src tokens (Ok def))) (not_less 0 (start_of tokens 0) (sym start))
+    ∙ nested-shallow tokens deep (unless_more src tokens (Ok def)) (is-shallow tokens (alone called takes block) is shallow)
     ∙ ap (λ b. if b then Err (NoParse (end_of_words tokens) false) else Ok def) (not_less (end_of_words tokens) (length src) end)
 
 pub read_alone : (src : List ℕ) (tokens : List Token) (called : List ℕ) (takes : Params) (block : Block) → length src ≤ 262144 → tokens_of src ≡ Ok tokens → IsDefinition (kinds tokens) called takes block → start_of tokens 0 ≡ 0
-    → IsShallow (post_cell (alone called takes block)) → end_of_words tokens ≡ length src → verdict_alone src ≡ Ok (definition src called takes block)
-unfolding definition_in
+    → ((at : ℕ) → IsTooDeep (alone called takes block) at → ⊥) → end_of_words tokens ≡ length src → verdict_alone src ≡ Ok (definition src called takes block)
 read_alone src tokens called takes block short e is start shallow end =
-    let f : IsFunction src tokens (post_cell (alone called takes block)) = record { of_text = e; called = called; takes = takes; block = block; is_definition = is; is_written = refl } in
+    let f : AreFunction src tokens = record { of_text = e; called = called; takes = takes; block = block; is_definition = is } in
     let judged = whole_function src tokens called takes block e is start shallow end in
-    gives_function src tokens (post_cell (alone called takes block)) (Ok (definition src called takes block)) short f
-    (λ g. subst (λ d. of_function src tokens (post_cell (alone called takes block)) d ≡ Ok (definition src called takes block))
-    (ap (λ c. definition_in src c (definition src called takes block)) (one_cell (kinds tokens) (alone called takes block) (alone g.called g.takes g.block) is g.is_definition)) judged)
+    gives_function src tokens (Ok (definition src called takes block)) (good_tokens src tokens short e) f
+    (λ g. subst (λ c. of_alone src tokens (done c) ≡ Ok (definition src called takes block)) (one_cell (kinds tokens) (alone called takes block) (alone g.called g.takes g.block) is g.is_definition) judged)
 
 -- ---- a function of a code
 
@@ -75,7 +68,7 @@ module _ (code : List ℕ) (utf8 : IsUtf8 code) (short : length code ≤ 262144)
     (called : List ℕ) (takes : Params) (block : Block) (rest : List Kind) (spelled : kinds here ≡ spell_statement (compound (define called takes) block) rest)
     (begins : begins_line true (kinds before) ≡ true) (top : level 0 (kinds before) ≡ 0)
     (stands : statement_stands (compound (define called takes) block) outside_all (λ more. more))
-    (shallow : IsShallow (post_statement (compound (define called takes) block) (t.End ∷ []) [])) where
+    (shallow : (at : ℕ) → IsTooDeep (alone called takes block) at → ⊥) where
   abbrev pub function : Statement
   function = compound (define called takes) block
 

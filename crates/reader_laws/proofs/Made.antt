@@ -19,7 +19,7 @@ use Rattle.py_tree.specs.declared.statements.Stmt.TheOpen.{Stmt-F}
 use Rattle.py_tree.specs.declared.statements.Stmt.TheFolds.{map-Stmt, fold-roll-Stmt, fold-roll-Def, fold_out-Arm}
 use Rattle.py_tree.specs.declared.statements.Stmt.TheVariants as s
 use Rattle.py_tree.specs.Locals.{Names, joined}
-use Rattle.py_laws.specs.Mentioned.{expression_step, relation_step, operand_step, pair_step, names_of, names_of_relation, names_of_operand, names_of_pair, if_names, names_at, statement_step, arm_step, def_step, names_by, names_by_arm, names_by_def}
+use Rattle.py_laws.specs.Mentioned.{expression_step, relation_step, operand_step, pair_step, names_of, names_of_relation, names_of_operand, names_of_pair, if_names, names_at, names_at_all, statement_step, arm_step, def_step, names_by, names_by_arm, names_by_def}
 
 module _ (Known : List ℕ → Type 0) where
   abbrev pub Pass : Names → Type 0
@@ -74,6 +74,9 @@ module _ (Known : List ℕ → Type 0) where
 
   pub of_list : (xs : List Expr) → Nameds xs → Named (e.ListOf xs)
   of_list xs h = subst Named (e.rolls-ListOf xs) (made (Expr-F.ListOf xs) (all_joined names_of xs h))
+
+  pub of_tuple : (xs : List Expr) → Nameds xs → Named (e.TupleOf xs)
+  of_tuple xs h = subst Named (e.rolls-TupleOf xs) (made (Expr-F.TupleOf xs) (all_joined names_of xs h))
 
   pub of_dict : (ps : List Pair) → Pairs ps → Named (e.DictOf ps)
   of_dict ps h = subst Named (e.rolls-DictOf ps) (made (Expr-F.DictOf ps) (all_joined names_of_pair ps h))
@@ -181,8 +184,14 @@ module _ (Known : List ℕ → Type 0) where
   pub of_delete : (to : Target) → Pass (names_at to) → Stated (s.Delete to)
   of_delete to h = subst Stated (s.rolls-Delete to) (stated (Stmt-F.Delete to) h)
 
-  pub of_assign : (to : Target) (x : Expr) → Pass (names_at to) → Named x → Stated (s.Assign to x)
-  of_assign to x h k = subst Stated (s.rolls-Assign to x) (stated (Stmt-F.Assign to x) (both (names_at to) (names_of x) h k))
+  abbrev pub At : Target → Type 0
+  At to = Pass (names_at to)
+
+  abbrev pub Ats : List Target → Type 0
+  Ats = AllByRecursion At
+
+  pub of_assign : (ts : List Target) (comma : Bool) (x : Expr) → Ats ts → Named x → Stated (s.Assign ts comma x)
+  of_assign ts comma x h k = subst Stated (s.rolls-Assign ts comma x) (stated (Stmt-F.Assign ts comma x) (both (names_at_all ts) (names_of x) (all_joined names_at ts h) k))
 
   pub of_augment : (to : Target) (o : Op) (x : Expr) → Pass (names_at to) → Named x → Stated (s.Augment to o x)
   of_augment to o x h k = subst Stated (s.rolls-Augment to o x) (stated (Stmt-F.Augment to o x) (both (names_at to) (names_of x) h k))
@@ -198,9 +207,9 @@ module _ (Known : List ℕ → Type 0) where
   pub of_while : (test : Expr) (body : List Stmt) → Named test → Stateds body → Stated (s.While test body)
   of_while test body h k = subst Stated (s.rolls-While test body) (stated (Stmt-F.While test body) (both (names_of test) _ h (all_joined names_by body k)))
 
-  pub of_for : (n : List ℕ) (source : Expr) (body : List Stmt) → Known n → Named source → Stateds body → Stated (s.For n source body)
-  of_for n source body l h k =
-      subst Stated (s.rolls-For n source body) (stated (Stmt-F.For n source body) (l, both (names_of source) _ h (all_joined names_by body k)))
+  pub of_for : (ns : Names) (comma : Bool) (source : Expr) (body : List Stmt) → Pass ns → Named source → Stateds body → Stated (s.For ns comma source body)
+  of_for ns comma source body l h k =
+      subst Stated (s.rolls-For ns comma source body) (stated (Stmt-F.For ns comma source body) (both ns _ l (both (names_of source) _ h (all_joined names_by body k))))
 
   pub of_function : (def : Def) → Pass (names_by_def def) → Stated (s.Function def)
   of_function def h = subst Stated (s.rolls-Function def) (stated (Stmt-F.Function def) h)

@@ -6,9 +6,9 @@ use Rattle.py_tree.specs.declared.statements.Def.{roll-Def}
 use Rattle.py_tree.specs.declared.statements.Stmt.{Stmt}
 use Rattle.py_token.specs.declared.kinds.Kind.{Kind}
 use Rattle.py_token.specs.declared.kinds.Kind.TheVariants as t
-use Rattle.py_grammar.specs.Expressions.{Expression, plain, conditional, Ors, ors_one, ors_more, Ands, ands_one, ands_more, Negation, compared, negated, Compares, compares_one, compares_more, compares_none, compares_not_none, Relational, equal, not_equal, less, at_most, greater, at_least, within, not_within, Sums, sums_one, sums_more, Products, products_one, products_more, Signed, unsigned, signed, Primary, name, number, text, nothing, truth, falsity, group, display, dict, call, index, slice, Callee, function, method, Bound, unbounded, bounded, Args, no_args, args, args_comma, Elements, elements_one, elements_more, Entries, no_entries, entries, entries_comma, Pairs, pairs_one, pairs_more, spell_relational, spell_expression, spell_ors, spell_ands, spell_negation, spell_compares, spell_sums, spell_products, spell_signed, spell_primary, spell_callee, spell_bound, spell_args, spell_elements, spell_entries, spell_pairs}
-use Rattle.py_grammar.specs.Statements.{Target, to_name, to_item, Names, names_one, names_more, pass_, break_, continue_, Simple, word, return_, give, declare, delete, assign, augment, show, spell_target, spell_names, spell_simple, Params, no_params, params, params_comma, Statement, simple, compound, Head, choose, otherwise, while_true, for_each, define, Condition, if_true, else_if, Branches, branches, Block, inline, indented, Statements, statements_one, statements_more, spell_params, spell_statement, spell_head, spell_condition, spell_branches, spell_block, spell_statements}
-use Rattle.py_grammar.specs.Trees.{Source, tree_expression, tree_ors, terms_ors, tree_ands, terms_ands, tree_negation, tree_compares, first_compared, relations, tree_sums, first_summed, summed, tree_products, first_multiplied, multiplied, tree_signed, tree_primary, tree_call, tree_bound, tree_args, tree_elements, tree_entries, tree_pairs, tree_target, tree_names, tree_params, tree_simple, tree_statement, tree_compound, arms_before, arms, tree_block, tree_statements, tree_top}
+use Rattle.py_grammar.specs.Expressions.{Expression, plain, conditional, Ors, ors_one, ors_more, Ands, ands_one, ands_more, Negation, compared, negated, Compares, compares_one, compares_more, compares_none, compares_not_none, Relational, equal, not_equal, less, at_most, greater, at_least, within, not_within, Sums, sums_one, sums_more, Products, products_one, products_more, Signed, unsigned, signed, Primary, name, number, text, nothing, truth, falsity, empty, group, display, dict, call, index, slice, Exprs, single, tuple, tuple_comma, Callee, function, method, Bound, unbounded, bounded, Args, no_args, args, args_comma, Elements, elements_one, elements_more, Entries, no_entries, entries, entries_comma, Pairs, pairs_one, pairs_more, spell_relational, spell_expression, spell_ors, spell_ands, spell_negation, spell_compares, spell_sums, spell_products, spell_signed, spell_primary, spell_exprs, spell_callee, spell_bound, spell_args, spell_elements, spell_entries, spell_pairs}
+use Rattle.py_grammar.specs.Statements.{Target, to_name, to_item, Places, places_one, places_more, Targets, targets, targets_comma, Variables, variables, variables_comma, Names, names_one, names_more, pass_, break_, continue_, Simple, word, return_, give, declare, delete, assign, augment, show, spell_target, spell_places, spell_targets, spell_variables, spell_names, spell_simple, Params, no_params, params, params_comma, Statement, simple, compound, Head, choose, otherwise, while_true, for_each, define, Condition, if_true, else_if, Branches, branches, Block, inline, indented, Statements, statements_one, statements_more, spell_params, spell_statement, spell_head, spell_condition, spell_branches, spell_block, spell_statements}
+use Rattle.py_grammar.specs.Trees.{Source, tree_expression, tree_ors, terms_ors, tree_ands, terms_ands, tree_negation, tree_compares, first_compared, relations, tree_sums, first_summed, summed, tree_products, first_multiplied, multiplied, tree_signed, tree_primary, tree_exprs, tree_call, tree_bound, tree_args, tree_elements, tree_entries, tree_pairs, tree_target, tree_places, tree_targets, tree_variables, tree_names, tree_params, tree_simple, tree_statement, tree_compound, arms_before, arms, tree_block, tree_statements, tree_top}
 use Rattle.py_laws.specs.Mentioned.{if_names, names_at, names_of, names_by_def}
 use Rattle.reader_laws.proofs.Made as made
 use Rattle.reader_laws.proofs.Made.{Pass, Named, Nameds, Stated, Stateds, Arms}
@@ -123,7 +123,8 @@ module _ (Known : List ℕ → Type 0) where
     primary nothing rest h = (made.of_literal Known _, h.1)
     primary truth rest h = (made.of_literal Known _, h.1)
     primary falsity rest h = (made.of_literal Known _, h.1)
-    primary (group a) rest h = let w = expression a _ h.1 in (w.0, w.1.1)
+    primary empty rest h = (made.of_tuple Known [] tt, h.1.1)
+    primary (group a) rest h = let w = exprs a _ h.1 in (w.0, w.1.1)
     primary (display a) rest h = let w = given a _ h.1 in (made.of_list Known _ w.0, w.1.1)
     primary (dict a) rest h = let w = entered a _ h.1 in (made.of_dict Known _ w.0, w.1.1)
     primary (call f a) rest h =
@@ -139,6 +140,14 @@ module _ (Known : List ℕ → Type 0) where
         let v = bound a _ u.1.1 in
         let w = bound b _ v.1.1 in
         (made.of_slice Known _ _ _ u.0 v.0 w.0, w.1.1)
+
+    exprs : (x : Exprs) (rest : List Kind) → AreKnown (spell_exprs x rest) → Named Known (tree_exprs x) × AreKnown rest
+    exprs (single a) rest h = expression a rest h
+    exprs (tuple es a) rest h =
+        let u = elements es _ h in
+        let w = expression a rest u.1.1 in
+        (made.of_tuple Known _ (push (Named Known) (tree_elements es) _ u.0 w.0), w.1)
+    exprs (tuple_comma es) rest h = let w = elements es _ h in (made.of_tuple Known _ w.0, w.1.1)
 
     callee : (x : Callee) (rest : List Kind) → AreKnown (spell_callee x rest) → ((xs : List Expr) → Nameds Known xs → Named Known (tree_call x xs)) × AreKnown rest
     callee (function p) rest h = let u = primary p _ h in (λ xs k. made.of_call Known _ xs u.0 k, u.1)
@@ -185,9 +194,24 @@ module _ (Known : List ℕ → Type 0) where
       let w = expression a _ u.1.1 in
       (made.both Known (names_of (tree_primary p)) (names_of (tree_expression a)) u.0 w.0, w.1.1)
 
+  placed : (x : Places) (rest : List Kind) → AreKnown (spell_places x rest) → made.Ats Known (tree_places x) × AreKnown rest
+  placed (places_one to) rest h = let w = target to rest h in ((w.0, tt), w.1)
+  placed (places_more ps to) rest h =
+      let u = placed ps _ h in
+      let w = target to rest u.1.1 in
+      (push (made.At Known) (tree_places ps) _ u.0 w.0, w.1)
+
+  pub assigned : (x : Targets) (rest : List Kind) → AreKnown (spell_targets x rest) → made.Ats Known (tree_targets x) × AreKnown rest
+  assigned (targets ps) rest h = placed ps rest h
+  assigned (targets_comma ps) rest h = let w = placed ps _ h in (w.0, w.1.1)
+
   listed : (x : Names) (rest : List Kind) → AreKnown (spell_names x rest) → Pass Known (tree_names x) × AreKnown rest
   listed (names_one n) rest h = ((h.0, tt), h.1)
   listed (names_more ns n) rest h = let u = listed ns _ h in (push Known (tree_names ns) n u.0 u.1.1.0, u.1.1.1)
+
+  pub varied : (x : Variables) (rest : List Kind) → AreKnown (spell_variables x rest) → Pass Known (tree_variables x) × AreKnown rest
+  varied (variables ns) rest h = listed ns rest h
+  varied (variables_comma ns) rest h = let w = listed ns _ h in (w.0, w.1.1)
 
   taken : (x : Params) (rest : List Kind) → AreKnown (spell_params x rest) → Pass Known (tree_params x) × AreKnown rest
   taken no_params rest h = (tt, h)
@@ -199,18 +223,18 @@ module _ (Known : List ℕ → Type 0) where
   stated (word break_) rest h = (made.of_break Known, h.1)
   stated (word continue_) rest h = (made.of_continue Known, h.1)
   stated return_ rest h = (made.of_return Known None tt, h.1)
-  stated (give a) rest h = let w = expression a rest h.1 in (made.of_return Known (Some (tree_expression a)) w.0, w.1)
+  stated (give a) rest h = let w = exprs a rest h.1 in (made.of_return Known (Some (tree_exprs a)) w.0, w.1)
   stated (declare ns) rest h = let w = listed ns rest h.1 in (made.of_global Known _ w.0, w.1)
   stated (delete to) rest h = let w = target to rest h.1 in (made.of_delete Known _ w.0, w.1)
-  stated (assign to a) rest h =
-      let u = target to _ h in
-      let w = expression a rest u.1.1 in
-      (made.of_assign Known _ _ u.0 w.0, w.1)
+  stated (assign ts a) rest h =
+      let u = assigned ts _ h in
+      let w = exprs a rest u.1.1 in
+      (made.of_assign Known _ _ _ u.0 w.0, w.1)
   stated (augment to by a) rest h =
       let u = target to _ h in
-      let w = expression a rest u.1.1 in
+      let w = exprs a rest u.1.1 in
       (made.of_augment Known _ _ _ u.0 w.0, w.1)
-  stated (show a) rest h = let w = expression a rest h in (made.of_show Known _ w.0, w.1)
+  stated (show a) rest h = let w = exprs a rest h in (made.of_show Known _ w.0, w.1)
 
   -- ---- statements
 
@@ -243,7 +267,10 @@ module _ (Known : List ℕ → Type 0) where
     head source (choose c) rest h = let w = condition c rest h in (λ body k. chosen source c body w.0 w.1 k, w.2)
     head source (otherwise bs) rest h = let w = branched bs _ h in (λ body k. made.of_if Known _ body w.0 k, w.1.1.1)
     head source (while_true a) rest h = let w = expression a _ h.1 in (λ body k. made.of_while Known _ body w.0 k, w.1.1)
-    head source (for_each n a) rest h = let w = expression a _ h.1.1.1 in (λ body k. made.of_for Known n _ body h.1.0 w.0 k, w.1.1)
+    head source (for_each vs a) rest h =
+        let u = varied vs _ h.1 in
+        let w = exprs a _ u.1.1 in
+        (λ body k. made.of_for Known _ _ _ body u.0 w.0 k, w.1.1)
     head source (define n ps) rest h =
         let w = taken ps _ h.1.1.1 in
         (λ body k. made.of_function Known _ (made.of_def Known n _ body source h.1.0 w.0 k), w.1.1.1)

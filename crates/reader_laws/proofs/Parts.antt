@@ -7,7 +7,7 @@ use Rattle.std.proofs.Math.Seq.{take-append_seam}
 use Rattle.py_token.specs.declared.kinds.Kind.{Kind}
 use Rattle.py_token.specs.declared.kinds.Kind.TheVariants as t
 use Rattle.py_token.specs.declared.kinds.Token.{Token}
-use Rattle.py_build.specs.Source.{is_layout, last_word}
+use Rattle.py_blocks.specs.Source.{is_layout, last_word}
 use Rattle.py_token.specs.Cuts.{kinds, is_word, dedents}
 
 -- ---- by kinds

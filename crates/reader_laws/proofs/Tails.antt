@@ -4,8 +4,8 @@ use Rattle.std.specs.List.{AllByRecursion}
 use Rattle.py_token.specs.declared.kinds.Kind.{Kind}
 use Rattle.py_token.specs.declared.kinds.Kind.TheVariants as t
 use Rattle.py_grammar.specs.Words.{and_word, or_word, not_word, if_word, else_word, elif_word, while_word, for_word, in_word, is_word as is_token, none_word, true_word, false_word, return_word, global_word, del_word, def_word, assign_sign, equal_sign, not_equal_sign, at_most_sign, at_least_sign, less_sign, more_sign, open_parenthesis, close_parenthesis, open_bracket, close_bracket, open_brace, close_brace, colon, comma, dot}
-use Rattle.py_grammar.specs.Expressions.{Expression, plain, conditional, Ors, ors_one, ors_more, Ands, ands_one, ands_more, Negation, compared, negated, Compares, compares_one, compares_more, compares_none, compares_not_none, Relational, equal, not_equal, less, at_most, greater, at_least, within, not_within, Sums, sums_one, sums_more, Additive, plus, minus, Products, products_one, products_more, Multiplicative, times, floor, modulo, Signed, unsigned, signed, Primary, name, number, text, nothing, truth, falsity, group, display, dict, call, index, slice, Callee, function, method, Bound, unbounded, bounded, Args, no_args, args, args_comma, Elements, elements_one, elements_more, Entries, no_entries, entries, entries_comma, Pairs, pairs_one, pairs_more, spell_relational, additive_sign, multiplicative_sign, spell_expression, spell_ors, spell_ands, spell_negation, spell_compares, spell_sums, spell_products, spell_signed, spell_primary, spell_callee, spell_bound, spell_args, spell_elements, spell_entries, spell_pairs}
-use Rattle.py_grammar.specs.Statements.{Target, to_name, to_item, Augmentation, by_plus, by_minus, by_times, by_floor, by_modulo, Names, names_one, names_more, Word, pass_, break_, continue_, Simple, word, return_, give, declare, delete, assign, augment, show, spell_target, augmentation_sign, spell_names, keyword, spell_simple, Params, no_params, params, params_comma, Statement, simple, compound, Head, choose, otherwise, while_true, for_each, define, Condition, if_true, else_if, Branches, branches, Block, inline, indented, Statements, statements_one, statements_more, spell_params, spell_statement, spell_head, spell_condition, spell_branches, spell_block, spell_statements}
+use Rattle.py_grammar.specs.Expressions.{Expression, plain, conditional, Ors, ors_one, ors_more, Ands, ands_one, ands_more, Negation, compared, negated, Compares, compares_one, compares_more, compares_none, compares_not_none, Relational, equal, not_equal, less, at_most, greater, at_least, within, not_within, Sums, sums_one, sums_more, Additive, plus, minus, Products, products_one, products_more, Multiplicative, times, floor, modulo, Signed, unsigned, signed, Primary, name, number, text, nothing, truth, falsity, empty, group, display, dict, call, index, slice, Exprs, single, tuple, tuple_comma, Callee, function, method, Bound, unbounded, bounded, Args, no_args, args, args_comma, Elements, elements_one, elements_more, Entries, no_entries, entries, entries_comma, Pairs, pairs_one, pairs_more, spell_relational, additive_sign, multiplicative_sign, spell_expression, spell_ors, spell_ands, spell_negation, spell_compares, spell_sums, spell_products, spell_signed, spell_primary, spell_exprs, spell_callee, spell_bound, spell_args, spell_elements, spell_entries, spell_pairs}
+use Rattle.py_grammar.specs.Statements.{Target, to_name, to_item, Places, places_one, places_more, Targets, targets, targets_comma, Variables, variables, variables_comma, Augmentation, by_plus, by_minus, by_times, by_floor, by_modulo, Names, names_one, names_more, Word, pass_, break_, continue_, Simple, word, return_, give, declare, delete, assign, augment, show, spell_target, spell_places, spell_targets, spell_variables, augmentation_sign, spell_names, keyword, spell_simple, Params, no_params, params, params_comma, Statement, simple, compound, Head, choose, otherwise, while_true, for_each, define, Condition, if_true, else_if, Branches, branches, Block, inline, indented, Statements, statements_one, statements_more, spell_params, spell_statement, spell_head, spell_condition, spell_branches, spell_block, spell_statements}
 use Rattle.py_token.specs.Cuts.{is_word, level, begins_line, dedents}
 use Rattle.py_token.proofs.CutBlocks.{level-append, begins-append}
 use Rattle.py_token.proofs.CutTurning.{level_word}
@@ -128,12 +128,18 @@ mutual
   primary-words nothing = one none_word refl
   primary-words truth = one true_word refl
   primary-words falsity = one false_word refl
-  primary-words (group a) = first open_parenthesis refl (joined (expression-words a) (one close_parenthesis refl))
+  primary-words empty = first open_parenthesis refl (one close_parenthesis refl)
+  primary-words (group a) = first open_parenthesis refl (joined (exprs-words a) (one close_parenthesis refl))
   primary-words (display a) = first open_bracket refl (after (args-words a) (one close_bracket refl))
   primary-words (dict a) = first open_brace refl (after (entries-words a) (one close_brace refl))
   primary-words (call f a) = joined (callee-words f) (first open_parenthesis refl (after (args-words a) (one close_parenthesis refl)))
   primary-words (index p a) = joined (primary-words p) (first open_bracket refl (joined (expression-words a) (one close_bracket refl)))
   primary-words (slice p a b) = joined (primary-words p) (first open_bracket refl (after (bound-words a) (first colon refl (after (bound-words b) (one close_bracket refl)))))
+
+  exprs-words : (a : Exprs) → SomeWords (spell_exprs a)
+  exprs-words (single a) = expression-words a
+  exprs-words (tuple es a) = joined (elements-words es) (first comma refl (expression-words a))
+  exprs-words (tuple_comma es) = joined (elements-words es) (one comma refl)
 
   callee-words : (a : Callee) → SomeWords (spell_callee a)
   callee-words (function p) = primary-words p
@@ -169,6 +175,18 @@ names-words : (ns : Names) → SomeWords (spell_names ns)
 names-words (names_one n) = one (t.Name n) refl
 names-words (names_more ns n) = joined (names-words ns) (first comma refl (one (t.Name n) refl))
 
+places-words : (ps : Places) → SomeWords (spell_places ps)
+places-words (places_one to) = place-words to
+places-words (places_more ps to) = joined (places-words ps) (first comma refl (place-words to))
+
+targets-words : (ts : Targets) → SomeWords (spell_targets ts)
+targets-words (targets ps) = places-words ps
+targets-words (targets_comma ps) = joined (places-words ps) (one comma refl)
+
+variables-words : (vs : Variables) → SomeWords (spell_variables vs)
+variables-words (variables ns) = names-words ns
+variables-words (variables_comma ns) = joined (names-words ns) (one comma refl)
+
 augmentation : (by : Augmentation) → IsWord (augmentation_sign by)
 augmentation by_plus = refl
 augmentation by_minus = refl
@@ -184,12 +202,12 @@ keyword_word continue_ = refl
 simple-words : (s : Simple) → SomeWords (spell_simple s)
 simple-words (word w) = one (keyword w) (keyword_word w)
 simple-words return_ = one return_word refl
-simple-words (give a) = first return_word refl (expression-words a)
+simple-words (give a) = first return_word refl (exprs-words a)
 simple-words (declare ns) = first global_word refl (names-words ns)
 simple-words (delete to) = first del_word refl (place-words to)
-simple-words (assign to a) = joined (place-words to) (first assign_sign refl (expression-words a))
-simple-words (augment to by a) = joined (place-words to) (first (augmentation_sign by) (augmentation by) (expression-words a))
-simple-words (show a) = expression-words a
+simple-words (assign ts a) = joined (targets-words ts) (first assign_sign refl (exprs-words a))
+simple-words (augment to by a) = joined (place-words to) (first (augmentation_sign by) (augmentation by) (exprs-words a))
+simple-words (show a) = exprs-words a
 
 params-words : (ps : Params) → Words (spell_params ps)
 params-words no_params = none
@@ -294,7 +312,7 @@ mutual
   head-steady (choose c) = condition-steady c
   head-steady (otherwise bs) = joined_steady (branches-steady bs) (words_steady (all (first else_word refl (one colon refl))))
   head-steady (while_true a) = words_steady (all (first while_word refl (joined (expression-words a) (one colon refl))))
-  head-steady (for_each n a) = words_steady (all (first for_word refl (first (t.Name n) refl (first in_word refl (joined (expression-words a) (one colon refl))))))
+  head-steady (for_each vs a) = words_steady (all (first for_word refl (joined (variables-words vs) (first in_word refl (joined (exprs-words a) (one colon refl))))))
   head-steady (define n ps) = words_steady (all (first def_word refl (first (t.Name n) refl (first open_parenthesis refl (after (params-words ps) (first close_parenthesis refl (one colon refl)))))))
 
   condition-steady : (c : Condition) → Steady (spell_condition c)

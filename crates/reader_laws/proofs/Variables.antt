@@ -3,7 +3,7 @@ use Rattle.std.proofs.Common.{◌≡◌, ℕ, List, Ok, subst}
 use Rattle.py_names.specs.Names.{is_variable}
 use Rattle.py_tree.specs.declared.statements.Def.{Def}
 use Rattle.py_tree.specs.declared.statements.Stmt.{Stmt}
-use Rattle.py_build.specs.Source.{source_of}
+use Rattle.py_blocks.specs.Source.{source_of}
 use Rattle.py_laws.specs.Mentioned.{names_by_def, names_in, AllPass}
 use Rattle.py_reader.specs.Verdicts.{Verdict}
 use Rattle.py_reader.specs.Verdicts as cells

@@ -6,6 +6,8 @@
 //! - `["function", source]`: the tree of the one function that the text is, and its locals; or what its fault says;
 //! - `["sources", code]`: the text of each function of the cell, `|` after each;
 //! - `["completeness", code]`: `complete`, `incomplete` and how many spaces the next line begins with, or `invalid`;
+//! - `["statements", times, code]`: how many statements the tree of the cell has at the top, or what its fault says, after the cell
+//!   was read so often (to be timed);
 //! - `["kept", [code, ..], [code, ..]]`: the trees of the first codes are kept, one after the other; for each of the others how
 //!   many statements its kept tree has, or `none` if none is found.
 //!
@@ -84,6 +86,28 @@ fn completeness_text(alloc: Global, code: &str) -> Result<String, AllocError> {
     }
 }
 
+fn count_text(alloc: Global, code: &str) -> Result<String, AllocError> {
+    match read_cell(alloc, code) {
+        Ok(tree) => format!(in alloc; "{}", tree.body.len()),
+        Err(error) => error_text(alloc, error),
+    }
+}
+
+fn statements_text(alloc: Global, request: &Value) -> Result<String> {
+    let (times, code) = match (request.get(1), request.get(2)) {
+        (Some(times), Some(code)) => (times.as_u64(), code.as_str()),
+        _ => bail!("what is counted is asked by how often, and a code"),
+    };
+    let (Some(times), Some(code)) = (times, code) else {
+        bail!("how often is to be a number, and the code a text")
+    };
+    let mut found = count_text(alloc, code)?;
+    for _ in 1..times {
+        found = count_text(alloc, code)?;
+    }
+    Ok(found)
+}
+
 /// The texts in the list at that place of a line.
 fn texts_at(alloc: Global, request: &Value, place: usize) -> Result<Vec<&str>> {
     let Some(items) = request.get(place).and_then(|value| value.as_array()) else {
@@ -128,8 +152,10 @@ fn kept_text(alloc: Global, request: &Value) -> Result<String> {
 /// What is printed for one line.
 fn answer(alloc: Global, line: &str) -> Result<String> {
     let request = Value::from_str(alloc, line)?;
-    if request.get(0).and_then(|asked| asked.as_str()) == Some("kept") {
-        return kept_text(alloc, &request);
+    match request.get(0).and_then(|asked| asked.as_str()) {
+        Some("kept") => return kept_text(alloc, &request),
+        Some("statements") => return statements_text(alloc, &request),
+        _ => {}
     }
     let (asked, text) = match (request.get(0), request.get(1)) {
         (Some(asked), Some(text)) => (asked, text),

@@ -65,6 +65,7 @@ fn write(alloc: Global, out: &mut String, value: &Expr) -> Result<(), AllocError
         Expr::Name(name) => out.push_str(name.as_str()),
         Expr::Literal(literal) => write_literal(alloc, out, literal),
         Expr::ListOf(items) => write_all(alloc, out, "(list", items.as_slice()),
+        Expr::TupleOf(items) => write_all(alloc, out, "(tuple", items.as_slice()),
         Expr::DictOf(pairs) => write_pairs(alloc, out, pairs.as_slice()),
         Expr::Or(items) => write_all(alloc, out, "(or", items.as_slice()),
         Expr::And(items) => write_all(alloc, out, "(and", items.as_slice()),
@@ -195,6 +196,27 @@ fn write_target(
     }
 }
 
+// The targets of an assignment, each after a space. If a comma stands among them, they are in parentheses.
+fn write_targets(
+    alloc: Global,
+    out: &mut String,
+    targets: &[Target],
+    comma: bool,
+) -> Result<(), AllocError> {
+    out.push_str(if comma { " (targets" } else { "" })?;
+    for target in targets {
+        write_target(alloc, out, "", target)?;
+    }
+    out.push_str(if comma { ")" } else { "" })
+}
+
+// The names of a `for`, likewise.
+fn write_variables(out: &mut String, names: &Items<Text>, comma: bool) -> Result<(), AllocError> {
+    out.push_str(if comma { " (names" } else { "" })?;
+    write_names(out, names)?;
+    out.push_str(if comma { ")" } else { "" })
+}
+
 fn write_names(out: &mut String, names: &Items<Text>) -> Result<(), AllocError> {
     for name in names.as_slice() {
         out.push_str(" ")?;
@@ -219,8 +241,13 @@ fn write_simple(alloc: Global, out: &mut String, statement: &Stmt) -> Result<(),
             write_target(alloc, out, "(del", target)?;
             out.push_str(")")
         }
-        Stmt::Assign { target, value } => {
-            write_target(alloc, out, "(assign", target)?;
+        Stmt::Assign {
+            targets,
+            comma,
+            value,
+        } => {
+            out.push_str("(assign")?;
+            write_targets(alloc, out, targets.as_slice(), *comma)?;
             write(alloc, out, value)?;
             out.push_str(")")
         }
@@ -252,10 +279,15 @@ fn write_statement(alloc: Global, out: &mut String, statement: &Stmt) -> Result<
             write(alloc, out, test)?;
             write_block(alloc, out, "", body.as_slice())
         }
-        Stmt::For { name, source, body } => {
-            out.push_str("(for ")?;
-            out.push_str(name.as_str())?;
-            write(alloc, out, source)?;
+        Stmt::For {
+            names,
+            comma,
+            iterable,
+            body,
+        } => {
+            out.push_str("(for")?;
+            write_variables(out, names, *comma)?;
+            write(alloc, out, iterable)?;
             write_block(alloc, out, "", body.as_slice())
         }
         Stmt::Function(def) => write_function(alloc, out, def.get()),

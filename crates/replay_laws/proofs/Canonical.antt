@@ -48,9 +48,18 @@ module _ (R : ℕ → ℕ → Type 0) (one : (a b : ℕ) → R a b → a ≡ b) 
 
   object_equal : (o u : Object) → ObjectsMatch R o u → o ≡ u
   object_equal (object.List vs) (object.List ws) m = ap (λ z. object.List z) (items_equal vs ws m)
+  object_equal (object.Tuple vs) (object.Tuple ws) m = ap (λ z. object.Tuple z) (items_equal vs ws m)
   object_equal (object.Dict vs) (object.Dict ws) m = ap (λ z. object.Dict z) (pairs_equal vs ws m)
   object_equal (object.Function def) (object.Function other) m = ap (λ z. object.Function z) m
   object_equal (object.Handle name uses) (object.Handle other others) m = ap (λ z. object.Handle z uses) m.0 ∙ ap (λ z. object.Handle other z) m.1
+  object_equal (object.List vs) (object.Tuple ws) m = absurd m
+  object_equal (object.Tuple vs) (object.List ws) m = absurd m
+  object_equal (object.Tuple vs) (object.Dict ws) m = absurd m
+  object_equal (object.Tuple vs) (object.Function def) m = absurd m
+  object_equal (object.Tuple vs) (object.Handle name uses) m = absurd m
+  object_equal (object.Dict vs) (object.Tuple ws) m = absurd m
+  object_equal (object.Function def) (object.Tuple ws) m = absurd m
+  object_equal (object.Handle name uses) (object.Tuple ws) m = absurd m
   object_equal (object.List vs) (object.Dict ws) m = absurd m
   object_equal (object.List vs) (object.Function def) m = absurd m
   object_equal (object.List vs) (object.Handle name uses) m = absurd m

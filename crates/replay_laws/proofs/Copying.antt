@@ -79,6 +79,7 @@ module _ (base size : ℕ) where
 
   object_up : (o : Object) → ((a : ℕ) → Contains (object_refs o) a → a < size) → ObjectsMatch Pairs_up o (higher_object base o)
   object_up (object.List items) l = items_up items l
+  object_up (object.Tuple items) l = items_up items l
   object_up (object.Dict pairs) l = pairs_up pairs l
   object_up (object.Function def) l = refl
   object_up (object.Handle name uses) l = (refl, refl)
@@ -110,6 +111,7 @@ module _ (base size : ℕ) where
 
   object_below : (n : ℕ) → base + size ≤ n → (o : Object) → ((a : ℕ) → Contains (object_refs o) a → a < size) → All (λ at. at < n) (object_refs (higher_object base o))
   object_below n k (object.List items) l = items_below n k items l
+  object_below n k (object.Tuple items) l = items_below n k items l
   object_below n k (object.Dict pairs) l = pairs_below n k pairs l
   object_below n k (object.Function def) l = All-nil (λ a. a < n)
   object_below n k (object.Handle name uses) l = All-nil (λ a. a < n)

@@ -54,9 +54,18 @@ module _ (P : ℕ → ℕ → Type 0) where
 
   object_zip : (o u : Option Object) → Both (ObjectsMatch P) o u → Zip (held_refs object_refs o) (held_refs object_refs u)
   object_zip (Some (object.List vs)) (Some (object.List ws)) m = items_zip vs ws m
+  object_zip (Some (object.Tuple vs)) (Some (object.Tuple ws)) m = items_zip vs ws m
   object_zip (Some (object.Dict vs)) (Some (object.Dict ws)) m = pairs_zip vs ws m
   object_zip (Some (object.Function def)) (Some (object.Function other)) m = tt
   object_zip (Some (object.Handle name uses)) (Some (object.Handle other others)) m = tt
+  object_zip (Some (object.List vs)) (Some (object.Tuple ws)) m = absurd m
+  object_zip (Some (object.Tuple vs)) (Some (object.List ws)) m = absurd m
+  object_zip (Some (object.Tuple vs)) (Some (object.Dict ws)) m = absurd m
+  object_zip (Some (object.Tuple vs)) (Some (object.Function def)) m = absurd m
+  object_zip (Some (object.Tuple vs)) (Some (object.Handle name uses)) m = absurd m
+  object_zip (Some (object.Dict vs)) (Some (object.Tuple ws)) m = absurd m
+  object_zip (Some (object.Function def)) (Some (object.Tuple ws)) m = absurd m
+  object_zip (Some (object.Handle name uses)) (Some (object.Tuple ws)) m = absurd m
   object_zip (Some (object.List vs)) (Some (object.Dict ws)) m = absurd m
   object_zip (Some (object.List vs)) (Some (object.Function def)) m = absurd m
   object_zip (Some (object.List vs)) (Some (object.Handle name uses)) m = absurd m

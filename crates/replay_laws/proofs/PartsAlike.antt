@@ -29,6 +29,7 @@ module _ (ps : ℕ → ℕ → Type 0) where
 
   object_refs_zip : (o u : Object) → ObjectsMatch ps o u → AllZip ps (object_refs o) (object_refs u)
   object_refs_zip (object.List items) (object.List others) h = flat_zip ps (ValuesMatch ps) value_refs value_refs value_refs_zip items others h
+  object_refs_zip (object.Tuple items) (object.Tuple others) h = flat_zip ps (ValuesMatch ps) value_refs value_refs value_refs_zip items others h
   object_refs_zip (object.Dict pairs) (object.Dict others) h = flat_zip ps (PairsMatch ps) pair_refs pair_refs (λ p q m. value_refs_zip p.1 q.1 m.1) pairs others h
   object_refs_zip (object.Function def) (object.Function other) h = tt
   object_refs_zip (object.Handle name uses) (object.Handle other others) h = tt
@@ -65,6 +66,7 @@ module _ (ps : ℕ → ℕ → Type 0) where
 
     one_object : (o u : Object) → ObjectsMatch ps o u → numbered_object f o ≡ numbered_object g u
     one_object (object.List items) (object.List others) h = ap object.List (map_same (ValuesMatch ps) (numbered f) (numbered g) one_value items others h)
+    one_object (object.Tuple items) (object.Tuple others) h = ap object.Tuple (map_same (ValuesMatch ps) (numbered f) (numbered g) one_value items others h)
     one_object (object.Dict pairs) (object.Dict others) h = ap object.Dict (map_same (PairsMatch ps) (numbered_pair f) (numbered_pair g) one_pair pairs others h)
     one_object (object.Function def) (object.Function other) h = ap object.Function h
     one_object (object.Handle name uses) (object.Handle other others) h = ap (λ n. object.Handle n uses) h.0 ∙ ap (λ n. object.Handle other n) h.1

@@ -119,6 +119,7 @@ module _ (order : List ℕ) where
 
   pub object_moved : (o : Object) → AreThere (object_refs o) → ObjectsMatch (AtPosition order) o (numbered_object Number o)
   object_moved (object.List items) k = items_moved items k
+  object_moved (object.Tuple items) k = items_moved items k
   object_moved (object.Dict pairs) k = pairs_moved pairs k
   object_moved (object.Function def) k = refl
   object_moved (object.Handle name uses) k = (refl, refl)

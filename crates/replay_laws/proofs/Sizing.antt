@@ -43,6 +43,7 @@ module _ (s : State) (names : List Name) (closed : IsClosed s) where
   handle_at : (at : ℕ) (o : Option Object) → slice_get s.heap at ≡ o → is_handle o ≡ true → Reach s names at → HasHandle s names
   handle_at at (Some (object.Handle name uses)) e h r = (at, name, uses, r, e)
   handle_at at (Some (object.List items)) e h r = cc
+  handle_at at (Some (object.Tuple items)) e h r = cc
   handle_at at (Some (object.Dict pairs)) e h r = cc
   handle_at at (Some (object.Function def)) e h r = cc
   handle_at at None e h r = cc

@@ -38,6 +38,7 @@ higher_pair base pair = (pair.0, higher base pair.1)
 
 abbrev pub higher_object : ℕ → Object → Object
 higher_object base (object.List items) = object.List (map (higher base) items)
+higher_object base (object.Tuple items) = object.Tuple (map (higher base) items)
 higher_object base (object.Dict pairs) = object.Dict (map (higher_pair base) pairs)
 higher_object base (object.Function def) = object.Function def
 higher_object base (object.Handle name uses) = object.Handle name uses

@@ -1,6 +1,5 @@
 -- What bytes are restored to, or why they aren't, is one.
 use Rattle.std.proofs.Common.{◌≡◌, ◌≢◌, ℕ, suc, ◌-◌, ◌<◌, ◌≤◌, List, length, Option, Some, None, Result, Ok, Err, refl, sym, ap, ◌∙◌, ◌⊎◌, inl, inr, subst, arith}
-use Rattle.std.specs.Prelude.{Contains}
 use Rattle.std.proofs.lemmas.Bool.{cases_eq, cases_lt, false≢true}
 use Rattle.std.specs.declared.cmp.Ordering.{Ordering}
 use Rattle.std.specs.declared.cmp.Ordering.TheVariants.{Less, Equal, Greater}
@@ -36,7 +35,7 @@ use Rattle.linked_parts.specs.Parts.{ArePartsOf}
 use Rattle.replay_laws.specs.Walks.{done_again, Passes, begins, goes_on}
 use Rattle.replay_laws.proofs.OneWalk.{walked_twins, asks_too}
 use Rattle.replay_laws.proofs.Canonical.{tidied_equal}
-use Rattle.state_judge.specs.Agreeing.{IsUnlike, IsLoose, IsFirstLoose}
+use Rattle.state_judge.specs.Agreeing.{IsUnlike, IsFirstLoose}
 use Rattle.restore_run.proofs.OneParts.{one_list}
 use Rattle.restore_run.specs.declared.fault.RestoreFault.{RestoreFault}
 use Rattle.restore_run.specs.declared.fault.RestoreFault.TheVariants as fault

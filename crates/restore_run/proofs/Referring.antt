@@ -17,6 +17,9 @@ use Rattle.py_value.specs.declared.value.Value.{Value}
 use Rattle.py_value.specs.declared.value.Value.TheVariants as the_value
 use Rattle.py_heap.specs.declared.heap.Object.{Object}
 use Rattle.py_heap.specs.declared.heap.Object.TheVariants as the_object
+use Rattle.py_heap.specs.declared.heap.SequenceKind.{SequenceKind}
+use Rattle.py_heap.specs.declared.heap.SequenceKind.TheVariants as sequences
+use Rattle.py_heap.specs.Sequences.{sequence}
 use Rattle.py_heap.specs.Dicts.{Pairs, value_under}
 use Rattle.py_heap.specs.References.{value_refs, pair_refs, object_refs, AreLive}
 use Rattle.py_heap.specs.Reaching.{held_refs}
@@ -25,7 +28,7 @@ use Rattle.checkpoint_reader.specs.declared.part_fault.PartFault.{PartFault}
 use Rattle.checkpoint_reader.specs.declared.part_fault.PartFault.TheVariants.{BadTag, BadRef, BadKey, BadText}
 use Rattle.checkpoint_reader.specs.declared.spot.Spot.{Spot}
 use Rattle.checkpoint_reader.specs.PartReads.{Answer, Read, pure, fail, place, after, ◌>>=◌, more}
-use Rattle.checkpoint_reader.specs.PartReading.{referred_to, builtin_of, builtin_at, function_of, is_object_tag, bounded, taken, byte, four, sixteen, text, key_by, reference, builtin, value_by, value, held, pair_with, pair, list, dict, function, content, object_by, object, objects, names, values, part, start, with_size, part_read}
+use Rattle.checkpoint_reader.specs.PartReading.{referred_to, builtin_of, builtin_at, function_of, is_object_tag, bounded, taken, byte, four, sixteen, text, key_by, reference, builtin, value_by, value, held, pair_with, pair, list_or_tuple, dict, function, content, object_by, object, objects, names, values, part, start, with_size, part_read}
 
 -- ---- from one spot to another
 
@@ -239,10 +242,14 @@ module _ (bytes : List ℕ) where
   items_refer : (n : ℕ) → Refers (ItemsSo n) (more (λ before. value bytes) n [])
   items_refer n = more_refers OfValue (λ v i j l h. below_up (value_refs v) i j l h) (λ before. value bytes) (λ before. value_refers) n
 
-  list_refers : Refers OfObject (list bytes)
-  unfolding list
-  list_refers = then_any OfObject (four bytes) _ four_refers (λ n.
-      then_pure (ItemsSo n) OfObject (more (λ before. value bytes) n []) (λ items. the_object.List items) (items_refer n) (λ items k q. all_below value_refs k items q.0))
+  sequence_so : (kind : SequenceKind) (items : List Value) (k : ℕ) → AreBelow (flat_map value_refs items) k → OfObject (sequence kind items) k
+  sequence_so sequences.List items k q = q
+  sequence_so sequences.Tuple items k q = q
+
+  sequence_refers : (kind : SequenceKind) → Refers OfObject (list_or_tuple bytes kind)
+  unfolding list_or_tuple
+  sequence_refers kind = then_any OfObject (four bytes) _ four_refers (λ n.
+      then_pure (ItemsSo n) OfObject (more (λ before. value bytes) n []) (λ items. sequence kind items) (items_refer n) (λ items k q. sequence_so kind items k (all_below value_refs k items q.0)))
 
   abbrev EntriesSo : ℕ → Pairs → ℕ → Type 0
   EntriesSo count xs k = All (λ p. OfPair p k) xs × (length xs ≡ count)
@@ -265,7 +272,8 @@ module _ (bytes : List ℕ) where
 
   content_refers : (tag : ℕ) → Refers OfObject (content bytes tag)
   unfolding content
-  content_refers tag = refers_if OfObject (tag == 16) _ _ list_refers (refers_if OfObject (tag == 17) _ _ dict_refers function_refers)
+  content_refers tag = refers_if OfObject (tag == 16) _ _ (sequence_refers sequences.List) (refers_if OfObject (tag == 17) _ _ dict_refers
+      (refers_if OfObject (tag == 18) _ _ function_refers (sequence_refers sequences.Tuple)))
 
   object_by_refers : (n at tag : ℕ) → Refers OfObject (object_by bytes n at tag)
   unfolding object_by

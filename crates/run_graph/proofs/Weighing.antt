@@ -20,6 +20,7 @@ handle_matches : (ps : ℕ → ℕ → Type 0) (name : List ℕ) (uses : ℕ) (o
     → (other : List ℕ) × (others : ℕ) × (u ≡ Some (object.Handle other others))
 handle_matches ps name uses _ (Some (object.Handle other others)) e m = (other, others, refl)
 handle_matches ps name uses _ (Some (object.List items)) e m = absurd (let none : ⊥ = subst (λ o. Both (ObjectsMatch ps) o (Some (object.List items))) e m in none)
+handle_matches ps name uses _ (Some (object.Tuple items)) e m = absurd (let none : ⊥ = subst (λ o. Both (ObjectsMatch ps) o (Some (object.Tuple items))) e m in none)
 handle_matches ps name uses _ (Some (object.Dict pairs)) e m = absurd (let none : ⊥ = subst (λ o. Both (ObjectsMatch ps) o (Some (object.Dict pairs))) e m in none)
 handle_matches ps name uses _ (Some (object.Function def)) e m = absurd (let none : ⊥ = subst (λ o. Both (ObjectsMatch ps) o (Some (object.Function def))) e m in none)
 handle_matches ps name uses _ None e m = absurd (let none : ⊥ = subst (λ o. Both (ObjectsMatch ps) o None) e m in none)

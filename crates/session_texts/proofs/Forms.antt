@@ -8,9 +8,9 @@ use Rattle.py_tree.specs.declared.expressions.Expr.{Expr}
 use Rattle.py_tree.specs.declared.statements.Stmt.{Stmt}
 use Rattle.py_token.specs.declared.kinds.Kind.{Kind}
 use Rattle.py_token.specs.declared.kinds.Kind.TheVariants as t
-use Rattle.py_grammar.specs.Expressions.{Expression, plain, conditional, Ors, ors_one, ors_more, Ands, ands_one, ands_more, Negation, compared, negated, Compares, compares_one, compares_more, compares_none, compares_not_none, Relational, equal, not_equal, less, at_most, greater, at_least, within, not_within, Sums, sums_one, sums_more, Products, products_one, products_more, Signed, unsigned, signed, Primary, name, number, text, nothing, truth, falsity, group, display, dict, call, index, slice, Callee, function, method, Bound, unbounded, bounded, Args, no_args, args, args_comma, Elements, elements_one, elements_more, Entries, no_entries, entries, entries_comma, Pairs, pairs_one, pairs_more, spell_relational, spell_expression, spell_ors, spell_ands, spell_negation, spell_compares, spell_sums, spell_products, spell_signed, spell_primary, spell_callee, spell_bound, spell_args, spell_elements, spell_entries, spell_pairs}
-use Rattle.py_grammar.specs.Statements.{Target, to_name, to_item, Names, names_one, names_more, pass_, break_, continue_, Simple, word, return_, give, declare, delete, assign, augment, show, spell_target, spell_names, spell_simple, Params, no_params, params, params_comma, Statement, simple, compound, Head, choose, otherwise, while_true, for_each, define, Condition, if_true, else_if, Branches, branches, Block, inline, indented, Statements, statements_one, statements_more, spell_params, spell_statement, spell_head, spell_condition, spell_branches, spell_block, spell_statements}
-use Rattle.py_grammar.specs.Trees.{Source, tree_expression, tree_ors, terms_ors, tree_ands, terms_ands, tree_negation, tree_compares, first_compared, relations, tree_sums, first_summed, summed, tree_products, first_multiplied, multiplied, tree_signed, tree_primary, tree_call, tree_bound, tree_args, tree_elements, tree_entries, tree_pairs, tree_target, tree_simple, tree_statement, tree_compound, arms_before, arms, tree_block, tree_statements, tree_top}
+use Rattle.py_grammar.specs.Expressions.{Expression, plain, conditional, Ors, ors_one, ors_more, Ands, ands_one, ands_more, Negation, compared, negated, Compares, compares_one, compares_more, compares_none, compares_not_none, Relational, equal, not_equal, less, at_most, greater, at_least, within, not_within, Sums, sums_one, sums_more, Products, products_one, products_more, Signed, unsigned, signed, Primary, name, number, text, nothing, truth, falsity, empty, group, display, dict, call, index, slice, Exprs, single, tuple, tuple_comma, Callee, function, method, Bound, unbounded, bounded, Args, no_args, args, args_comma, Elements, elements_one, elements_more, Entries, no_entries, entries, entries_comma, Pairs, pairs_one, pairs_more, spell_relational, spell_expression, spell_ors, spell_ands, spell_negation, spell_compares, spell_sums, spell_products, spell_signed, spell_primary, spell_exprs, spell_callee, spell_bound, spell_args, spell_elements, spell_entries, spell_pairs}
+use Rattle.py_grammar.specs.Statements.{Target, to_name, to_item, Places, places_one, places_more, Targets, targets, targets_comma, Variables, variables, variables_comma, Names, names_one, names_more, pass_, break_, continue_, Simple, word, return_, give, declare, delete, assign, augment, show, spell_target, spell_places, spell_targets, spell_variables, spell_names, spell_simple, Params, no_params, params, params_comma, Statement, simple, compound, Head, choose, otherwise, while_true, for_each, define, Condition, if_true, else_if, Branches, branches, Block, inline, indented, Statements, statements_one, statements_more, spell_params, spell_statement, spell_head, spell_condition, spell_branches, spell_block, spell_statements}
+use Rattle.py_grammar.specs.Trees.{Source, tree_expression, tree_ors, terms_ors, tree_ands, terms_ands, tree_negation, tree_compares, first_compared, relations, tree_sums, first_summed, summed, tree_products, first_multiplied, multiplied, tree_signed, tree_primary, tree_exprs, tree_call, tree_bound, tree_args, tree_elements, tree_entries, tree_pairs, tree_target, tree_places, tree_targets, tree_simple, tree_statement, tree_compound, arms_before, arms, tree_block, tree_statements, tree_top}
 use Rattle.part_bytes.specs.Plain.{IsText}
 use Rattle.plain_states.specs.Constants.{if_constants, constants_at, constants_of}
 use Rattle.session_texts.proofs.Made as made
@@ -127,7 +127,8 @@ mutual
   primary nothing rest h = (made.of_literal literal.Nothing tt, h.1)
   primary truth rest h = (made.of_literal (literal.Bool true) tt, h.1)
   primary falsity rest h = (made.of_literal (literal.Bool false) tt, h.1)
-  primary (group a) rest h = let w = expression a _ h.1 in (w.0, w.1.1)
+  primary empty rest h = (made.of_tuple [] tt, h.1.1)
+  primary (group a) rest h = let w = exprs a _ h.1 in (w.0, w.1.1)
   primary (display a) rest h = let w = given a _ h.1 in (made.of_list _ w.0, w.1.1)
   primary (dict a) rest h = let w = entered a _ h.1 in (made.of_dict _ w.0, w.1.1)
   primary (call f a) rest h =
@@ -143,6 +144,14 @@ mutual
       let v = bound a _ u.1.1 in
       let w = bound b _ v.1.1 in
       (made.of_slice _ _ _ u.0 v.0 w.0, w.1.1)
+
+  exprs : (x : Exprs) (rest : List Kind) → ArePlainKinds (spell_exprs x rest) → Plain (tree_exprs x) × ArePlainKinds rest
+  exprs (single a) rest h = expression a rest h
+  exprs (tuple es a) rest h =
+      let u = elements es _ h in
+      let w = expression a rest u.1.1 in
+      (made.of_tuple _ (push Plain (tree_elements es) _ u.0 w.0), w.1)
+  exprs (tuple_comma es) rest h = let w = elements es _ h in (made.of_tuple _ w.0, w.1.1)
 
   callee : (x : Callee) (rest : List Kind) → ArePlainKinds (spell_callee x rest) → ((xs : List Expr) → Plains xs → Plain (tree_call x xs)) × ArePlainKinds rest
   callee (function p) rest h = let u = primary p _ h in (λ xs k. made.of_call _ xs u.0 k, u.1)
@@ -189,9 +198,24 @@ target (to_item p a) rest h =
     let w = expression a _ u.1.1 in
     (made.both (constants_of (tree_primary p)) (constants_of (tree_expression a)) u.0 w.0, w.1.1)
 
+placed : (x : Places) (rest : List Kind) → ArePlainKinds (spell_places x rest) → made.Ats (tree_places x) × ArePlainKinds rest
+placed (places_one to) rest h = let w = target to rest h in ((w.0, tt), w.1)
+placed (places_more ps to) rest h =
+    let u = placed ps _ h in
+    let w = target to rest u.1.1 in
+    (push made.At (tree_places ps) _ u.0 w.0, w.1)
+
+assigned : (x : Targets) (rest : List Kind) → ArePlainKinds (spell_targets x rest) → made.Ats (tree_targets x) × ArePlainKinds rest
+assigned (targets ps) rest h = placed ps rest h
+assigned (targets_comma ps) rest h = let w = placed ps _ h in (w.0, w.1.1)
+
 listed : (x : Names) (rest : List Kind) → ArePlainKinds (spell_names x rest) → ArePlainKinds rest
 listed (names_one n) rest h = h.1
 listed (names_more ns n) rest h = let u = listed ns _ h in u.1.1
+
+varied : (x : Variables) (rest : List Kind) → ArePlainKinds (spell_variables x rest) → ArePlainKinds rest
+varied (variables ns) rest h = listed ns rest h
+varied (variables_comma ns) rest h = let w = listed ns _ h in w.1
 
 taken : (x : Params) (rest : List Kind) → ArePlainKinds (spell_params x rest) → ArePlainKinds rest
 taken no_params rest h = h
@@ -203,18 +227,18 @@ stated (word pass_) rest h = (made.of_pass, h.1)
 stated (word break_) rest h = (made.of_break, h.1)
 stated (word continue_) rest h = (made.of_continue, h.1)
 stated return_ rest h = (made.of_return None tt, h.1)
-stated (give a) rest h = let w = expression a rest h.1 in (made.of_return (Some (tree_expression a)) w.0, w.1)
+stated (give a) rest h = let w = exprs a rest h.1 in (made.of_return (Some (tree_exprs a)) w.0, w.1)
 stated (declare ns) rest h = let w = listed ns rest h.1 in (made.of_global _, w)
 stated (delete to) rest h = let w = target to rest h.1 in (made.of_delete _ w.0, w.1)
-stated (assign to a) rest h =
-    let u = target to _ h in
-    let w = expression a rest u.1.1 in
-    (made.of_assign _ _ u.0 w.0, w.1)
+stated (assign ts a) rest h =
+    let u = assigned ts _ h in
+    let w = exprs a rest u.1.1 in
+    (made.of_assign _ _ _ u.0 w.0, w.1)
 stated (augment to by a) rest h =
     let u = target to _ h in
-    let w = expression a rest u.1.1 in
+    let w = exprs a rest u.1.1 in
     (made.of_augment _ _ _ u.0 w.0, w.1)
-stated (show a) rest h = let w = expression a rest h in (made.of_show _ w.0, w.1)
+stated (show a) rest h = let w = exprs a rest h in (made.of_show _ w.0, w.1)
 
 -- ---- statements
 
@@ -250,7 +274,7 @@ mutual
   head source (choose c) rest is h = let w = condition c rest h in (λ body k. chosen source c body w.0 w.1 k, w.2)
   head source (otherwise bs) rest is h = let w = branched bs _ h in (λ body k. made.of_if _ body w.0 k, w.1.1.1)
   head source (while_true a) rest is h = let w = expression a _ h.1 in (λ body k. made.of_while _ body w.0 k, w.1.1)
-  head source (for_each n a) rest is h = let w = expression a _ h.1.1.1 in (λ body k. made.of_for n _ body w.0 k, w.1.1)
+  head source (for_each vs a) rest is h = let w = exprs a _ (varied vs _ h.1).1 in (λ body k. made.of_for _ _ _ body w.0 k, w.1.1)
   head source (define n ps) rest is h =
       let w = taken ps _ h.1.1.1 in
       (λ body k. made.of_function _ (made.of_def n _ body source h.1.0 is k), w.1.1)

@@ -19,7 +19,7 @@ use Rattle.py_tree.specs.declared.statements.Stmt.TheOpen.{Stmt-F}
 use Rattle.py_tree.specs.declared.statements.Stmt.TheFolds.{map-Stmt, fold-roll-Stmt, fold-roll-Def, fold_out-Arm}
 use Rattle.py_tree.specs.declared.statements.Stmt.TheVariants as s
 use Rattle.part_bytes.specs.Plain.{IsText}
-use Rattle.plain_states.specs.Constants.{Constants, gathered, expression_step, relation_step, operand_step, pair_step, constants_of, constants_of_relation, constants_of_operand, constants_of_pair, if_constants, constants_at, statement_step, arm_step, def_step, constants_by, constants_by_arm, constants_by_def}
+use Rattle.plain_states.specs.Constants.{Constants, gathered, expression_step, relation_step, operand_step, pair_step, constants_of, constants_of_relation, constants_of_operand, constants_of_pair, if_constants, constants_at, constants_at_all, statement_step, arm_step, def_step, constants_by, constants_by_arm, constants_by_def}
 use Rattle.plain_states.specs.Plain.{IsPlainLiteral, ArePlain}
 
 abbrev pub Pass : Constants → Type 0
@@ -74,6 +74,9 @@ of_literal c h = subst Plain (e.rolls-Literal c) (made (Expr-F.Literal c) (h, tt
 
 pub of_list : (xs : List Expr) → Plains xs → Plain (e.ListOf xs)
 of_list xs h = subst Plain (e.rolls-ListOf xs) (made (Expr-F.ListOf xs) (all_gathered constants_of xs h))
+
+pub of_tuple : (xs : List Expr) → Plains xs → Plain (e.TupleOf xs)
+of_tuple xs h = subst Plain (e.rolls-TupleOf xs) (made (Expr-F.TupleOf xs) (all_gathered constants_of xs h))
 
 pub of_dict : (ps : List Pair) → Pairs ps → Plain (e.DictOf ps)
 of_dict ps h = subst Plain (e.rolls-DictOf ps) (made (Expr-F.DictOf ps) (all_gathered constants_of_pair ps h))
@@ -181,8 +184,14 @@ of_global ns = subst Stated (s.rolls-Global ns) (stated (Stmt-F.Global ns) tt)
 pub of_delete : (to : Target) → Pass (constants_at to) → Stated (s.Delete to)
 of_delete to h = subst Stated (s.rolls-Delete to) (stated (Stmt-F.Delete to) h)
 
-pub of_assign : (to : Target) (x : Expr) → Pass (constants_at to) → Plain x → Stated (s.Assign to x)
-of_assign to x h k = subst Stated (s.rolls-Assign to x) (stated (Stmt-F.Assign to x) (both (constants_at to) (constants_of x) h k))
+abbrev pub At : Target → Type 0
+At to = Pass (constants_at to)
+
+abbrev pub Ats : List Target → Type 0
+Ats = AllByRecursion At
+
+pub of_assign : (ts : List Target) (comma : Bool) (x : Expr) → Ats ts → Plain x → Stated (s.Assign ts comma x)
+of_assign ts comma x h k = subst Stated (s.rolls-Assign ts comma x) (stated (Stmt-F.Assign ts comma x) (both (constants_at_all ts) (constants_of x) (all_gathered constants_at ts h) k))
 
 pub of_augment : (to : Target) (o : Op) (x : Expr) → Pass (constants_at to) → Plain x → Stated (s.Augment to o x)
 of_augment to o x h k = subst Stated (s.rolls-Augment to o x) (stated (Stmt-F.Augment to o x) (both (constants_at to) (constants_of x) h k))
@@ -198,9 +207,9 @@ of_if arms other h k =
 pub of_while : (test : Expr) (body : List Stmt) → Plain test → Stateds body → Stated (s.While test body)
 of_while test body h k = subst Stated (s.rolls-While test body) (stated (Stmt-F.While test body) (both (constants_of test) _ h (all_gathered constants_by body k)))
 
-pub of_for : (n : List ℕ) (source : Expr) (body : List Stmt) → Plain source → Stateds body → Stated (s.For n source body)
-of_for n source body h k =
-    subst Stated (s.rolls-For n source body) (stated (Stmt-F.For n source body) (both (constants_of source) _ h (all_gathered constants_by body k)))
+pub of_for : (ns : List (List ℕ)) (comma : Bool) (source : Expr) (body : List Stmt) → Plain source → Stateds body → Stated (s.For ns comma source body)
+of_for ns comma source body h k =
+    subst Stated (s.rolls-For ns comma source body) (stated (Stmt-F.For ns comma source body) (both (constants_of source) _ h (all_gathered constants_by body k)))
 
 pub of_function : (def : Def) → Pass (constants_by_def def) → Stated (s.Function def)
 of_function def h = subst Stated (s.rolls-Function def) (stated (Stmt-F.Function def) h)

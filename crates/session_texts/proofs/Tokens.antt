@@ -20,7 +20,7 @@ use Rattle.py_token.proofs.Escapes.{Ascii, escape_is}
 use Rattle.py_tree.specs.declared.statements.Stmt.{Stmt}
 use Rattle.py_grammar.specs.Statements.{Cell, IsCell}
 use Rattle.py_grammar.specs.Trees.{tree_cell}
-use Rattle.py_build.specs.Source.{text_up_to, text_from, source_of, last_word}
+use Rattle.py_blocks.specs.Source.{text_up_to, text_from, source_of, last_word}
 use Rattle.py_reader.specs.Verdicts.{Verdict}
 use Rattle.py_reader.specs.Verdicts as cells
 use Rattle.py_reader.specs.Verdict.{verdict}

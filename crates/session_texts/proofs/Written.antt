@@ -55,6 +55,7 @@ use Rattle.session_texts.proofs.Counts.{few_names, few_bytes, few_reads, few_mis
 
 plain_object : (o : Object) → HoldsPlain o → items_in o < 2 ^ 32 → IsPlainObject o
 plain_object (object.List items) h l = (l, All-from_recursion IsPlain items h)
+plain_object (object.Tuple items) h l = (l, All-from_recursion IsPlain items h)
 plain_object (object.Dict pairs) h l = (l, All-from_recursion IsPlainPair pairs h)
 plain_object (object.Function def) h l = (of_def def h).1.0
 plain_object (object.Handle name uses) h l = tt

@@ -10,6 +10,10 @@ pub returns-in-List : goal.returns-in-List
 returns-in-List c = λ few.
     subst (λ (o : Object). AreAtMost (HasText o) c.len.result) (sym c.in-List.is) (subst (λ (n : ℕ). AreAtMost (HasText (object.List c.in-List.items)) n) (sym c.len.ensures) (most_values c.in-List.items))
 
+pub returns-in-Tuple : goal.returns-in-Tuple
+returns-in-Tuple c = λ few.
+    subst (λ (o : Object). AreAtMost (HasText o) c.len-in-Tuple.result) (sym c.in-Tuple.is) (subst (λ (n : ℕ). AreAtMost (HasText (object.Tuple c.in-Tuple.items)) n) (sym c.len-in-Tuple.ensures) (most_values c.in-Tuple.items))
+
 pub returns-in-Dict : goal.returns-in-Dict
 returns-in-Dict c = λ few.
     let pairs = c.in-Dict.dict in

@@ -55,8 +55,8 @@ returns-clause-statements c = λ test levels s bodies allowed. sounding.statemen
 pub returns-clause-cells : goal.returns-clause-cells
 returns-clause-cells c = λ test body bodies allowed. sounding.cells test bodies body allowed
 
-pub returns-clause-lists : goal.returns-clause-lists
-returns-clause-lists c = λ test items bodies. sounding.lists test bodies items
+pub returns-clause-sequences : goal.returns-clause-sequences
+returns-clause-sequences c = λ test kind items bodies. sounding.sequences test bodies kind items
 
 pub returns-clause-texts : goal.returns-clause-texts
 returns-clause-texts c = λ test text bodies. sounding.texts test bodies text

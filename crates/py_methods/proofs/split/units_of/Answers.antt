@@ -1,5 +1,5 @@
 use Rattle.std.proofs.Common.{◌≡◌, ◌+◌, arith}
-use Rattle.py_meaning.specs.Operators.{list_units}
+use Rattle.py_meaning.specs.Operators.{sequence_units}
 use Rattle.py_meaning.specs.Texts.{split_at}
 use Rattle.py_meaning.specs.Methods.{as_texts}
 use Rattle.py_methods.proofs.Pieces.{one_unit_more, last_units, still_text}
@@ -21,5 +21,5 @@ loop-piece-preserved c =
 pub returns : goal.returns
 returns c =
     let e = last_units c.args.separator.now c.loop-piece.rest.now c.in_default.ensures.cases in
-    let same : list_units (as_texts (split_at c.args.separator.now c.args.text.now)) ≡ (c.loop-piece.units + 1) + c.bytes-last.result = omega arith in
+    let same : sequence_units (as_texts (split_at c.args.separator.now c.args.text.now)) ≡ (c.loop-piece.units + 1) + c.bytes-last.result = omega arith in
     rw same c.within.ensures

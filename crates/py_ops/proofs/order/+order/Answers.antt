@@ -5,7 +5,7 @@ use Rattle.py_heap.specs.Objects.{items_at}
 use Rattle.py_machine.specs.Errors.{recursion_error}
 use Rattle.py_meaning.specs.Acts.{run}
 use Rattle.py_meaning.specs.Compared.{pair_equal, pair_ordered}
-use Rattle.py_ops.proofs.Compared.{seen, ordered_at, ordered_end}
+use Rattle.py_ops.proofs.Compared.{seen, ordered_at, tuples_ordered_at, ordered_end}
 use Rattle.py_ops.proofs.Deeper.{deeper}
 use Rattle.py_ops.proofs.order.+order.Goals as goal
 
@@ -32,3 +32,9 @@ refs_ordered-returns-in-Some-List-object_at-clause-runs t c = λ draws told.
     let e : slice_get c.args.machine.now.state.heap c.args.a ≡ Some (object.List c.in-Some-List.items) = seen c.in-Some-List.ensures c.in-Some-List.field-0-is in
     let f : slice_get c.args.machine.now.state.heap c.args.b ≡ Some (object.List c.in-Some-List-object_at.others) = seen c.in-Some-List-object_at.ensures c.in-Some-List-object_at.field-0-is in
     ordered_at (pair_equal c.args.left) (pair_ordered c.args.left) c.args.op c.args.a c.args.b draws c.args.machine.now _ _ _ e f (c.items_ordered.ensures.runs draws told)
+
+pub refs_ordered-returns-in-Some-Tuple-object_at-2-clause-runs : goal.refs_ordered-returns-in-Some-Tuple-object_at-2-clause-runs
+refs_ordered-returns-in-Some-Tuple-object_at-2-clause-runs t c = λ draws told.
+    let e : slice_get c.args.machine.now.state.heap c.args.a ≡ Some (object.Tuple c.in-Some-Tuple.items) = seen c.in-Some-Tuple.ensures c.in-Some-Tuple.field-0-is in
+    let f : slice_get c.args.machine.now.state.heap c.args.b ≡ Some (object.Tuple c.in-Some-Tuple-object_at-2.others) = seen c.in-Some-Tuple-object_at-2.ensures c.in-Some-Tuple-object_at-2.field-0-is in
+    tuples_ordered_at (pair_equal c.args.left) (pair_ordered c.args.left) c.args.op c.args.a c.args.b draws c.args.machine.now _ _ _ e f (c.items_ordered-in-Some-Tuple-object_at-2.ensures.runs draws told)

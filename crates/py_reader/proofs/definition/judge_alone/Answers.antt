@@ -1,21 +1,25 @@
-use Rattle.std.proofs.Common.{ap, sym, subst, ◌∙◌, Ok}
-use Rattle.py_reader.specs.Gives.{Refuses}
+use Rattle.std.proofs.Common.{true, length, Ok, ap, sym, subst, ◌∙◌}
+use Rattle.py_reader.specs.Gives.{Answers}
 use Rattle.py_reader.specs.DefinitionVerdict.{verdict_alone}
-use Rattle.py_reader.proofs.JudgedAlone.{too_long, refuses_tokens, is_function, gives_function, gives_refused, whole_scan, refused_scan}
+use Rattle.py_reader.proofs.Final.{handed_on, early_alone, are_function, gives_function, refused_alone}
+use Rattle.py_reader.proofs.Scanned.{whole_scan, refused_scan}
 use Rattle.py_reader.proofs.definition.judge_alone.Goals as goal
 
-pub returns-then-source-gt-MAX_CODE : goal.returns-then-source-gt-MAX_CODE
-returns-then-source-gt-MAX_CODE c = too_long _ c.if-source-gt-MAX_CODE.true
+pub returns-in_err-tokens : goal.returns-in_err-tokens
+returns-in_err-tokens c = subst (λ r. Answers r (verdict_alone c.args.source.now)) (handed_on c.from_residual.result _ c.from_residual.ensures.1) (early_alone c.args.source.now c.in_err-tokens.field-0.0 c.in_err-tokens.ensures)
 
-pub returns-in-Err : goal.returns-in-Err
-returns-in-Err c = subst (λ e. Refuses e (verdict_alone c.args.source.now)) (sym c.token_error.ensures) (refuses_tokens _ c.in-Err.error c.if-source-gt-MAX_CODE.false c.in-Err.ensures.exact)
+pub whole_alone-requires-clause-function : goal.whole_alone-requires-clause-function
+whole_alone-requires-clause-function c = are_function c.args.source.now c.as_slice-all.result.now _ (c.in_ok-tokens.ensures ∙ ap Ok (sym c.as_slice-all.ensures))
+    (whole_scan true c.args.source.now c.as_slice-all.result.now (length c.as_slice-all.result.now) _ _ c.in_ok-reader.ensures c.in-Whole.is)
 
-pub whole_alone-requires : goal.whole_alone-requires
-whole_alone-requires c = is_function _ c.as_slice-all.result.now _ _ (c.in-Ok.ensures.exact ∙ ap Ok (sym c.as_slice-all.ensures)) (whole_scan _ _ _ _ _ c.in_ok-reader.ensures c.in-Whole.is)
+pub whole_alone-requires-clause-read : goal.whole_alone-requires-clause-read
+whole_alone-requires-clause-read c = whole_scan true c.args.source.now c.as_slice-all.result.now (length c.as_slice-all.result.now) _ _ c.in_ok-reader.ensures c.in-Whole.is
 
 pub returns-in-Whole : goal.returns-in-Whole
-returns-in-Whole c = gives_function _ c.as_slice-all.result.now _ _ c.if-source-gt-MAX_CODE.false
-    (is_function _ c.as_slice-all.result.now _ _ (c.in-Ok.ensures.exact ∙ ap Ok (sym c.as_slice-all.ensures)) (whole_scan _ _ _ _ _ c.in_ok-reader.ensures c.in-Whole.is)) c.whole_alone.ensures
+returns-in-Whole c = gives_function c.args.source.now c.as_slice-all.result.now _ (c.in_ok-tokens.ensures ∙ ap Ok (sym c.as_slice-all.ensures))
+    (are_function c.args.source.now c.as_slice-all.result.now _ (c.in_ok-tokens.ensures ∙ ap Ok (sym c.as_slice-all.ensures))
+    (whole_scan true c.args.source.now c.as_slice-all.result.now (length c.as_slice-all.result.now) _ _ c.in_ok-reader.ensures c.in-Whole.is)) c.whole_alone.ensures
 
 pub returns : goal.returns
-returns c = gives_refused _ c.as_slice-all.result.now _ _ _ c.if-source-gt-MAX_CODE.false (c.in-Ok.ensures.exact ∙ ap Ok (sym c.as_slice-all.ensures)) (refused_scan _ _ _ _ _ c.in_ok-reader.ensures c.in-Refused.is).1 c.in_ok-fault-in-Refused.ensures
+returns c = refused_alone c.args.source.now c.as_slice-all.result.now _ _ (c.in_ok-tokens.ensures ∙ ap Ok (sym c.as_slice-all.ensures))
+    (refused_scan true c.args.source.now c.as_slice-all.result.now _ _ _ c.in_ok-reader.ensures c.in-Refused.is) c.in_ok-fault-in-Refused.ensures

@@ -11,8 +11,8 @@ decreases-show_more l = 11 * l.left + 1
 abbrev pub decreases-show_items : goal.decreases-show_items
 decreases-show_items l = 11 * l.left + 2
 
-abbrev pub decreases-show_list : goal.decreases-show_list
-decreases-show_list l = 11 * l.left + 3
+abbrev pub decreases-show_sequence : goal.decreases-show_sequence
+decreases-show_sequence l = 11 * l.left + 3
 
 abbrev pub decreases-show_pair : goal.decreases-show_pair
 decreases-show_pair l = 11 * l.left + 1
@@ -37,7 +37,7 @@ decreases-show_one l = 11 * l.left + 7
 
 abbrev pub invariant-show_more-loop-item : goal.invariant-show_more-loop-item
 invariant-show_more-loop-item l = record {
-  shows : spec.more_items l.state (spec.shown l.state l.left) l.fn.path l.items l.initial.out l.initial.steps ≡ spec.more_items l.state (spec.shown l.state l.left) l.path (drop l.item-index l.items) l.out l.steps;
+  shows : spec.more_items l.state (spec.shown l.state l.left) l.end l.fn.path l.items l.initial.out l.initial.steps ≡ spec.more_items l.state (spec.shown l.state l.left) l.end l.path (drop l.item-index l.items) l.out l.steps;
   path : l.path ≡ l.fn.path;
 }
 

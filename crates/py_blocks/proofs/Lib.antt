@@ -1,0 +1,13 @@
+pub mod Beyond
+pub mod Cells
+pub mod Closing
+pub mod Completing
+pub mod Deep
+pub mod Following
+pub mod Heard
+pub mod Moves
+pub mod Parts
+pub mod Sooner
+pub mod Texts
+pub mod TooDeep
+pub mod Trees

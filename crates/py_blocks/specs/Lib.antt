@@ -1,0 +1,11 @@
+pub mod Blocks
+pub mod Completes
+pub mod Follows
+pub mod Forced
+pub mod Heard
+pub mod Held
+pub mod Kept
+pub mod Outside
+pub mod Source
+pub mod Steps
+pub mod Telling

@@ -1,0 +1,86 @@
+//! The head of a function.
+ghost use Rattle.py_frames.specs.Gives.{Gives};
+ghost use Rattle.py_blocks.specs.Steps.{on_def, on_def_name, on_params, on_param, on_params_end};
+
+use crate::heads::open;
+use crate::names::is_new;
+use crate::simple::{allow, named};
+use crate::state::{Begun, Head, State};
+use plain_data::{Items, Text, TextMap};
+use py_frames::{Places, Stop};
+use py_token::{Kind, Symbol};
+use std::alloc::Global;
+
+/// After `def`.
+pub fn on_def(alloc: Global, begun: Begun, token: &Kind) -> Result<State, Stop>
+    ensures { Gives result (on_def begun token.now) }
+{
+    match token {
+        Kind::Name(name) => Ok(State::AfterDefName(begun, name.copy(alloc)?)),
+        _ => Err(Stop::Refused),
+    }
+}
+
+/// After the name of a function.
+pub fn on_def_name(alloc: Global, begun: Begun, name: Text, token: &Kind) -> Result<State, Stop>
+    ensures { Gives result (on_def_name begun name token.now) }
+{
+    match token {
+        Kind::Symbol(Symbol::OpenParenthesis) => {
+            Ok(State::InParams(begun, name, Items::new(alloc)))
+        }
+        _ => Err(Stop::Refused),
+    }
+}
+
+/// When a parameter may come.
+pub fn on_params(
+    alloc: Global,
+    begun: Begun,
+    name: Text,
+    params: Items<Text>,
+    names: &TextMap<bool>,
+    token: &Kind,
+) -> Result<State, Stop>
+    ensures { Gives result (on_params begun name params names.now token.now) }
+{
+    match token {
+        Kind::Name(param) => {
+            let stands = is_new(names, param);
+            let params = named(alloc, params, param)?;
+            allow(stands, State::HasParams(begun, name, params))
+        }
+        Kind::Symbol(Symbol::CloseParenthesis) => Ok(State::AfterParams(begun, name, params)),
+        _ => Err(Stop::Refused),
+    }
+}
+
+/// After a parameter.
+pub fn on_param(begun: Begun, name: Text, params: Items<Text>, token: &Kind) -> Result<State, Stop>
+    ensures { Gives result (on_param begun name params token.now) }
+{
+    match token {
+        Kind::Symbol(Symbol::Comma) => Ok(State::InParams(begun, name, params)),
+        Kind::Symbol(Symbol::CloseParenthesis) => Ok(State::AfterParams(begun, name, params)),
+        _ => Err(Stop::Refused),
+    }
+}
+
+/// After the parameters.
+pub fn on_params_end(
+    alloc: Global,
+    begun: Begun,
+    name: Text,
+    params: Items<Text>,
+    token: &Kind,
+) -> Result<State, Stop>
+    ensures { Gives result (on_params_end begun name params token.now) }
+{
+    match token {
+        Kind::Symbol(Symbol::Colon) => {
+            let under = Places::none(alloc);
+            Ok(open(begun, under, Head::Function { name, params }))
+        }
+        _ => Err(Stop::Refused),
+    }
+}

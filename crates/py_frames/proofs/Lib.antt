@@ -1,0 +1,17 @@
+pub mod Begins
+pub mod Closed
+pub mod Completing
+pub mod Ended
+pub mod AtEnd
+pub mod Forced
+pub mod Rows
+pub mod Seen
+pub mod Sides
+pub mod Stepped
+pub mod Targets
+pub mod Trees
+pub mod Outermost
+pub mod Wholes
+pub mod Around
+pub mod Reached
+pub mod Nested

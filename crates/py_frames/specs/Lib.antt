@@ -1,0 +1,10 @@
+pub mod Constructs
+pub mod Ends
+pub mod Forced
+pub mod Gives
+pub mod Held
+pub mod Kept
+pub mod Steps
+pub mod Targets
+pub mod Under
+pub mod Values

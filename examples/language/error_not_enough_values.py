@@ -1,0 +1,2 @@
+for a, b in [(1, 2), [3]]:
+    print(a, b)
