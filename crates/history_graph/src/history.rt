@@ -71,7 +71,7 @@ impl Model for History {
 impl History {
     /// That of no cells. Takes no memory.
     pub fn new(alloc: Global) -> History
-        ensures { result ≡ record { graph = record { cells = []; versions = [] }; parts = record { list = [] } } }
+        ensures nothing { result ≡ record { graph = record { cells = []; versions = [] }; parts = record { list = [] } } }
         ensures usable { IsUsableHistory empty result }
     {
         History {

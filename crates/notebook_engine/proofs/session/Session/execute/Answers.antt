@@ -2,7 +2,7 @@ use Rattle.std.proofs.Common.{◌≡◌, Bool, sym, subst}
 use Rattle.session_core.specs.declared.engine.RunFault.TheVariants as fault
 use Rattle.notebook_meaning.specs.Cells.{recorded}
 use Rattle.notebook_engine.specs.Holding.{PassesWith}
-use Rattle.notebook_engine.proofs.notebook.Notebook.execute.Goals as goal
+use Rattle.notebook_engine.proofs.session.Session.execute.Goals as goal
 
 pub returns-then-count_in-clause-passes : goal.returns-then-count_in-clause-passes
 returns-then-count_in-clause-passes g c = λ which draws same.
