@@ -23,7 +23,11 @@ pub struct Notebook {
 impl Model for Notebook {
     ghost use Rattle.notebook_engine.specs.declared.session.Session.{Session};
 
+    ghost use Rattle.notebook_engine.specs.contracts.session.Session as session;
+
     ghost Value = { Session };
+
+    ghost coded = { session.the_row.coded };
 
     ghost use Rattle.restore_run.specs.Usable.{IsUsableSession};
 

@@ -24,9 +24,15 @@ pub struct Kernel {
 }
 
 impl Model for Kernel {
+    ghost use Rattle.std.specs.Prelude.{ℕ, refl};
+    ghost use Rattle.std.specs.Coded.{code_by, coded×, coded_ℕ};
+    ghost use Rattle.py_heap.specs.declared.state.State.{State as StateOf};
+    ghost use Rattle.py_heap.specs.contracts.state.State as session;
     ghost use Rattle.py_kernel.specs.Kernels.{KernelView};
 
     ghost Value = { KernelView };
+
+    ghost coded = { code_by (StateOf × ℕ) (coded× session.the_row.coded coded_ℕ) (λ k. (k.state, k.host)) (λ p. record { state = p.0; host = p.1 }) (λ _. refl) };
 
     ghost view = { λ k. record { state = k.state; host = k.host } };
 }
