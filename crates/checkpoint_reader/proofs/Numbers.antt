@@ -1,6 +1,6 @@
 -- The numbers of what the plan runs again or copies ascend, and what is copied holds at the end.
 use Rattle.std.proofs.Common.{◌≡◌, ℕ, zero, suc, ◌+◌, ◌-◌, ◌<◌, Bool, true, false, List, [], ◌∷◌, ◌++◌, length, Option, Some, None, refl, sym, ap, ◌∙◌, subst, inl, inr, arith}
-use Rattle.std.specs.Prelude.{slice_get, not, nat_eq, Ok}
+use Rattle.std.specs.Prelude.{slice_get, not, nat_eq, Ok, All}
 use Rattle.std.specs.List.{AllZip}
 use Rattle.std.proofs.lemmas.Bool.{or_parts, not-false, eqb-true}
 use Rattle.std.proofs.lemmas.List.{length-append}
