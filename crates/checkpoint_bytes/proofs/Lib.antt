@@ -1,4 +1,5 @@
 pub mod Small
 pub mod Items
 pub mod Written
+pub mod Tables
 pub mod Copied

@@ -1,12 +1,13 @@
 -- What is known of what was read: the numbers of some of it ascend, meters are within the limit, and each version that the plan
--- copies has a part that was read for it.
-use Rattle.std.specs.Prelude.{◌≡◌, ℕ, ◌-◌, ◌<◌, ◌≤◌, false, List, All, Contains, length, Some, None, Ok, slice_get, ◌^◌}
+-- copies has a part as it says.
+use Rattle.std.specs.Prelude.{◌≡◌, ℕ, ◌-◌, ◌<◌, ◌≤◌, false, List, All, Contains, length, Some, None, slice_get, ◌^◌}
 use Rattle.std.specs.List.{AllZip}
+use Rattle.py_heap.specs.References.{AreLive, value_refs, object_refs}
+use Rattle.py_heap.specs.Reaching.{held_refs}
 use Rattle.graph_model.specs.declared.graph.CellRecord.{CellRecord}
 use Rattle.graph_model.specs.declared.graph.Version.{Version}
 use Rattle.graph_model.specs.Faults.{Ascends}
 use Rattle.part_bytes.specs.declared.part.PartValue.{PartValue}
-use Rattle.checkpoint_reader.specs.PartReading.{part_read}
 use Rattle.checkpoint_reader.specs.declared.checkpoint.Checkpoint.{Checkpoint}
 use Rattle.checkpoint_reader.specs.declared.fields.Cells.{Cells}
 use Rattle.checkpoint_reader.specs.declared.fields.Versions.{Versions}
@@ -32,14 +33,18 @@ pub record AreCells (n : ℕ) (cells : Cells) : Type 0 where
 abbrev pub IsKeptActive : List Version → ℕ → Type 0
 IsKeptActive records v = (x : Version) × (slice_get records (v - 1) ≡ Some x) × (x.replaced ≡ 0)
 
--- the part was read from some bytes for this version, and is as the version says
-pub record IsCopyOf (x : Version) (part : PartValue) : Type 0 where
-  pub bytes : List ℕ
-  pub size : ℕ
-  pub was_read : part_read bytes ≡ Ok (part, size)
-  pub agrees : is_unlike x part size ≡ false
+-- there are as many values as names, and each reference is the number of one of the part's own objects
+pub record IsOfItself (part : PartValue) : Type 0 where
+  pub as_many : length part.values ≡ length part.names
+  pub values : All (λ held. AreLive part.objects (held_refs value_refs held)) part.values
+  pub objects : All (λ object. AreLive part.objects (object_refs object)) part.objects
 
--- it was read for version v of these
+-- the part is closed, and as the version says: so its text in version 1 is as long as the version's size
+pub record IsCopyOf (x : Version) (part : PartValue) : Type 0 where
+  pub closed : IsOfItself part
+  pub agrees : is_unlike x part ≡ false
+
+-- it is a copy of version v of these
 abbrev pub IsCopyAt : List Version → ℕ → PartValue → Type 0
 IsCopyAt records v part = (x : Version) × (slice_get records (v - 1) ≡ Some x) × IsCopyOf x part
 

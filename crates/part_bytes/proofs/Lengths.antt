@@ -148,8 +148,10 @@ length-part part =
     let r : List ℕ = flat_map held_bytes part.values in
     let t : List ℕ = four (length part.objects) in
     let u : List ℕ = flat_map object_bytes part.objects in
+    let whole : length (bytes_of part) ≡ length ((((p ++ q) ++ r) ++ t) ++ u) = refl in
     omega (
       arith,
+      whole,
       length-append (((p ++ q) ++ r) ++ t) u,
       length-append ((p ++ q) ++ r) t,
       length-append (p ++ q) r,

@@ -123,5 +123,6 @@ pub fn add_part_texts<'a>(
 {
     let found = state.reach(alloc, names)?;
     add_all_held(texts, state, names)?;
-    add_objects(texts, state, found.as_slice())
+    add_objects(texts, state, found.as_slice())?;
+    Ok(())
 }
