@@ -4,7 +4,8 @@ use Rattle.std.specs.Prelude.{nat_le, List}
 use Rattle.std.proofs.lemmas.Bool.{cases_Bool, leb-true}
 use Rattle.graph_model.specs.declared.graph.CellRecord.{CellRecord}
 use Rattle.checkpoint_reader.specs.Reads.{Answer, Read, place, after, ◌>>=◌}
-use Rattle.checkpoint_reader.specs.Fields.{bounded, code, four, at_most, truth, numbers, names, cell}
+use Rattle.checkpoint_reader.specs.declared.forms.Texts.{Texts}
+use Rattle.checkpoint_reader.specs.Fields.{bounded, code_as, four, at_most, truth, numbers, names, cell}
 use Rattle.checkpoint_reader.specs.Numbered.{BeganWithin}
 
 -- what was read is such
@@ -43,12 +44,12 @@ at_most_gives bytes most = then_gives (λ n. n ≤ most) place (λ at. four byte
     (λ at. then_gives (λ n. n ≤ most) (four bytes) (λ n. bounded most at n) (λ n. record { has = λ to. bounded_has most at n to }))
 
 module _ (bytes : List ℕ) where
-  abbrev Began : CellRecord × Bool → Type 0
+  abbrev Began : CellRecord × Bool × ℕ → Type 0
   Began c = BeganWithin c.0
 
-  pub cell_began : Gives Began (cell bytes)
+  pub cell_began : (texts : Texts) (known : ℕ) → Gives Began (cell bytes texts known)
   unfolding cell
-  cell_began = then_gives Began (code bytes) _ (λ text.
+  cell_began texts known = then_gives Began (code_as bytes texts known) _ (λ text.
       then_knowing Began (λ n. n ≤ 16777216) (at_most bytes 16777216) _ (at_most_gives bytes 16777216) (λ meter within.
       then_gives Began (at_most bytes 1000000) _ (λ steps.
       then_gives Began (truth bytes) _ (λ drew.

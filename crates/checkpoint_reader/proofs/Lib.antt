@@ -4,6 +4,7 @@ pub mod Numbers
 pub mod Growing
 pub mod Plans
 pub mod Sizes
+pub mod Referring
 pub mod PartTurns
 pub mod PartNames
 pub mod WholeParts

@@ -1,6 +1,6 @@
 -- The numbers of what the plan runs again or copies ascend, and what is copied holds at the end.
 use Rattle.std.proofs.Common.{◌≡◌, ℕ, zero, suc, ◌+◌, ◌-◌, ◌<◌, Bool, true, false, List, [], ◌∷◌, ◌++◌, length, Option, Some, None, refl, sym, ap, ◌∙◌, subst, inl, inr, arith}
-use Rattle.std.specs.Prelude.{slice_get, not, nat_eq, Ok}
+use Rattle.std.specs.Prelude.{slice_get, not, nat_eq}
 use Rattle.std.specs.List.{AllZip}
 use Rattle.std.proofs.lemmas.Bool.{or_parts, not-false, eqb-true}
 use Rattle.std.proofs.lemmas.List.{length-append}
@@ -9,11 +9,10 @@ use Rattle.graph_model.specs.declared.graph.CellRecord.{CellRecord}
 use Rattle.graph_model.specs.declared.graph.Version.{Version}
 use Rattle.graph_model.proofs.Ascending.{ascends-push}
 use Rattle.part_bytes.specs.declared.part.PartValue.{PartValue}
-use Rattle.checkpoint_reader.specs.PartReading.{part_read}
 use Rattle.checkpoint_reader.specs.declared.fields.Cells.{Cells}
 use Rattle.checkpoint_reader.specs.declared.fields.Versions.{Versions}
 use Rattle.checkpoint_reader.specs.Fields.{marked, with_cell, with_version, with_copy, first_found, is_unlike}
-use Rattle.checkpoint_reader.specs.Numbered.{AreNumbers, BeganWithin, AreCells, AreVersions, IsKeptActive, IsCopyAt}
+use Rattle.checkpoint_reader.specs.Numbered.{AreNumbers, BeganWithin, AreCells, AreVersions, IsKeptActive, IsOfItself, IsCopyAt}
 
 numbers_stay : (n : ℕ) (xs : List ℕ) → AreNumbers n xs → AreNumbers (n + 1) xs
 numbers_stay n xs a = record { ascend = a.ascend; within = λ m c. let p = a.within m c in (p.0, omega (arith, p.1)) }
@@ -34,7 +33,7 @@ numbers_marked n xs false a = numbers_stay n xs a
 one_longer : {X : Type 0} (n : ℕ) (xs : List X) (x : X) → length xs ≡ n → length (xs ++ x ∷ []) ≡ n + 1
 one_longer n xs x e = length-append xs (x ∷ []) ∙ ap (λ k. k + 1) e
 
-pub cells_grow : (n : ℕ) (before : Cells) (cell : CellRecord × Bool) → AreCells n before → BeganWithin cell.0 → AreCells (n + 1) (with_cell before cell)
+pub cells_grow : (n : ℕ) (before : Cells) (cell : CellRecord × Bool × ℕ) → AreCells n before → BeganWithin cell.0 → AreCells (n + 1) (with_cell before cell)
 cells_grow n before cell a within = record {
   size = one_longer n before.records cell.0 a.size;
   meters = All-append BeganWithin before.records (cell.0 ∷ []) a.meters (All-cons BeganWithin cell.0 [] within (All-nil BeganWithin));
@@ -86,28 +85,28 @@ none_found (Some m) n b e = absurd (let n = e in cc)
 none_found None n true e = absurd (let n = e in cc)
 none_found None n false e = (refl, refl)
 
-like_is_active : (x : Version) (part : PartValue) (size : ℕ) → is_unlike x part size ≡ false → x.replaced ≡ 0
-like_is_active x part size e = eqb-true x.replaced 0 (not-false (nat_eq x.replaced 0) (or_parts (not (nat_eq x.replaced 0)) _ e).0)
+like_is_active : (x : Version) (part : PartValue) → is_unlike x part ≡ false → x.replaced ≡ 0
+like_is_active x part e = eqb-true x.replaced 0 (not-false (nat_eq x.replaced 0) (or_parts (not (nat_eq x.replaced 0)) _ e).0)
 
 copy_active : (n : ℕ) (records : List Version) (x : Version) (v : ℕ) → length records ≡ n → n + 1 ≡ v → x.replaced ≡ 0 → IsKeptActive (records ++ x ∷ []) v
 copy_active n records x v size e r = let at : length records ≡ v - 1 = omega (arith, size, e) in
     (x, ap (λ (i : ℕ). slice_get (records ++ x ∷ []) i) (sym at) ∙ stands_last records x, r)
 
-last_copy : (records : List Version) (x : Version) (copy : PartValue × ℕ) (front : List ℕ) → part_read front ≡ Ok copy → is_unlike x copy.0 copy.1 ≡ false → IsCopyAt (records ++ x ∷ []) (length records + 1) copy.0
-last_copy records x copy front was like =
+last_copy : (records : List Version) (x : Version) (part : PartValue) → IsOfItself part → is_unlike x part ≡ false → IsCopyAt (records ++ x ∷ []) (length records + 1) part
+last_copy records x part closed like =
     let at : length records + 1 - 1 ≡ length records = omega arith in
-    (x, ap (slice_get (records ++ x ∷ [])) at ∙ stands_last records x, record { bytes = front; size = copy.1; was_read = was; agrees = like })
+    (x, ap (slice_get (records ++ x ∷ [])) at ∙ stands_last records x, record { closed = closed; agrees = like })
 
-pub copies_grow : (n : ℕ) (before : Versions) (x : Version) (copy : PartValue × ℕ) (front : List ℕ) → part_read front ≡ Ok copy → AreVersions n before → AreVersions (n + 1) (with_copy before x copy)
-copies_grow n before x copy front was a = record {
+pub copies_grow : (n : ℕ) (before : Versions) (x : Version) (copy : PartValue × ℕ) → IsOfItself copy.0 → AreVersions n before → AreVersions (n + 1) (with_copy before x copy)
+copies_grow n before x copy closed a = record {
   size = one_longer n before.records x a.size;
   copied = subst (λ k. AreNumbers (n + 1) (before.copied ++ (k + 1) ∷ [])) (sym a.size) (numbers_put n before.copied a.copied);
-  active = λ u v c. let none = none_found before.unlike (length before.records + 1) (is_unlike x copy.0 copy.1) u in
+  active = λ u v c. let none = none_found before.unlike (length before.records + 1) (is_unlike x copy.0) u in
       elim (Contains-push_cases before.copied (length before.records + 1) v c) [
         | inl old ↦ active_stays before.records x v (a.active none.0 v old)
-        | inr e ↦ copy_active n before.records x v a.size (ap (λ k. k + 1) (sym a.size) ∙ e) (like_is_active x copy.0 copy.1 none.1)
+        | inr e ↦ copy_active n before.records x v a.size (ap (λ k. k + 1) (sym a.size) ∙ e) (like_is_active x copy.0 none.1)
       ];
-  copies = λ u. let none = none_found before.unlike (length before.records + 1) (is_unlike x copy.0 copy.1) u in
+  copies = λ u. let none = none_found before.unlike (length before.records + 1) (is_unlike x copy.0) u in
       zip_put (IsCopyAt (before.records ++ x ∷ [])) before.copied before.parts (length before.records + 1) copy.0 (copies_stay before.records x before.copied before.parts (a.copies none.0))
-      (last_copy before.records x copy front was none.1);
+      (last_copy before.records x copy.0 closed none.1);
 }
