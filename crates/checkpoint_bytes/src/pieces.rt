@@ -1,6 +1,6 @@
 //! A checkpoint written to a sink, cell by cell and version by version.
 
-ghost use Rattle.std.specs.Prelude.{ℕ, ◌≡◌, ◌≤◌, ◌+◌, ◌++◌, ◌<◌, [], true, false, All, length, slice_index_or, IfOk, OnOk, OnErr, Err};
+ghost use Rattle.std.specs.Prelude.{ℕ, ◌≡◌, ◌≤◌, ◌+◌, ◌++◌, ◌<◌, ◌^◌, [], true, false, All, length, slice_index_or, IfOk, OnOk, OnErr, Err};
 ghost use Rattle.std.specs.List.{flat_map};
 ghost use Rattle.graph_model.specs.declared.graph.Version.{Version};
 ghost use Rattle.py_heap.specs.References.{IsClosed};
@@ -96,6 +96,7 @@ fn put_table<K: Sink>(
 ) -> Result<(), PieceFault>
     ensures ok { OnOk result (WritesSoFar (K.written sink.old) (K.written sink.new) (held.old ++ spec.table_bytes texts.now) held.new) }
     ensures err { OnErr result (AddsFront (K.written sink.old) (K.written sink.new) (held.old ++ spec.table_bytes texts.now)) }
+    ensures few { OnOk result (length texts.now < 2 ^ 32) }
     ensures fault { result ≡ Err PieceFault.Sink → HasRisen (K.faults sink.old) (K.faults sink.new) }
     ensures faults_stay { K.faults sink.old ≤ K.faults sink.new }
 {

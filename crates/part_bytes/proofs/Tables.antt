@@ -1,12 +1,13 @@
 -- Tables of texts, as they grow.
 use Rattle.std.proofs.Common.{◌≡◌, ℕ, zero, suc, ◌+◌, ◌<◌, ◌≤◌, not, ◌||◌, Bool, true, false, cond, List, [], ◌∷◌, ◌++◌, length, get_or, take, map, refl, sym, ap, ◌∙◌, subst, inl, inr, arith}
-use Rattle.std.specs.Prelude.{if◌then◌else◌, slice_get, option_to_list, Option, Some, None}
+use Rattle.std.specs.Prelude.{if◌then◌else◌, nat_lt, slice_get, option_to_list, Option, Some, None}
 use Rattle.std.specs.Option.{option_map}
 use Rattle.std.specs.Str.{bytes_eq}
-use Rattle.std.specs.List.{flat_map, fold, list_any, position_or_len}
+use Rattle.std.specs.List.{flat_map, fold, list_any, position, position_or_len}
 use Rattle.std.specs.FinMap as finite
-use Rattle.std.proofs.lemmas.Bool.{cases_Bool, false≢true}
-use Rattle.std.proofs.lemmas.List.{append-nil, append_assoc, map-append, flat_map_more, take_more, take_all}
+use Rattle.std.proofs.lemmas.Bool.{cases_Bool, ltb-false}
+use Rattle.std.proofs.lemmas.List.{append-nil, map-append, length-map, flat_map_more, take_more, take_all}
+use Rattle.std.proofs.lemmas.List.Sums.{prefix_len-le-length}
 use Rattle.std.proofs.lemmas.Grind.{fold-append, flat_map-append}
 use Rattle.py_value.specs.declared.key.Key.{Key}
 use Rattle.py_value.specs.declared.value.Value.{Value}
@@ -47,6 +48,33 @@ module _ {A B : Type 0} (f : A → B) (p : B → Bool) where
   pub any-map : (xs : List A) → list_any p (map f xs) ≡ list_any (λ x. p (f x)) xs
   any-map [] = refl
   any-map (x ∷ xs) = ap (λ (b : Bool). p (f x) || b) (any-map xs)
+
+-- the position, and how many there are if there is none
+module _ {A : Type 0} (p : A → Bool) (xs : List A) where
+  position_is : (at : ℕ) → position p xs ≡ Some at → position_or_len p xs ≡ at
+  position_is at e = elim (cases_Bool (nat_lt (position_or_len p xs) (length xs))) [
+    | inl t ↦ let k : Some (position_or_len p xs) ≡ Some at = rw t at e in cc
+    | inr f ↦ let k : None ≡ Some at = rw f at e in cc
+  ]
+
+  no_position : position p xs ≡ None → position_or_len p xs ≡ length xs
+  no_position e = elim (cases_Bool (nat_lt (position_or_len p xs) (length xs))) [
+    | inl t ↦ let k : Some (position_or_len p xs) ≡ None = rw t at e in cc
+    | inr f ↦ omega (arith, prefix_len-le-length (λ (x : A). not (p x)) xs, ltb-false (position_or_len p xs) (length xs) f)
+  ]
+
+-- ---- keys that are texts
+
+module _ {A : Type 0} (f : A → List ℕ) (keys : List A) (text : List ℕ) where
+  pub placed : (at : ℕ) → position (λ x. bytes_eq text (f x)) keys ≡ Some at → number_of (map f keys) text ≡ at
+  placed at e = position-map f (bytes_eq text) keys ∙ position_is (λ x. bytes_eq text (f x)) keys at e
+
+  pub unplaced : position (λ x. bytes_eq text (f x)) keys ≡ None → number_of (map f keys) text ≡ length (map f keys)
+  unplaced e = position-map f (bytes_eq text) keys ∙ (no_position (λ x. bytes_eq text (f x)) keys e ∙ sym (length-map keys f))
+
+-- no number is past all
+pub number_within : (table : List (List ℕ)) (text : List ℕ) → number_of table text ≤ length table
+number_within table text = prefix_len-le-length (λ x. not (bytes_eq text x)) table
 
 -- ---- one text more
 
