@@ -53,7 +53,7 @@ versions_from texts bytes n before now next (Err fault) a e = absurd (let is = e
 
 pub versions_turn : (texts : Texts) (bytes : List ℕ) (n : ℕ) (before now : Versions) (at next : ℕ) → AreVersions n before → next_version bytes texts before at ≡ Ok (now, next) → AreVersions (n + 1) now
 unfolding next_version
-versions_turn bytes n before now at next a e = versions_from bytes n before now next (version bytes at) a e
+versions_turn texts bytes n before now at next a e = versions_from texts bytes n before now next (version bytes at) a e
 
 -- n turns were made
 pub all_cells : (n i : ℕ) (cells : Cells) → n ≤ i → i ≤ n → AreCells i cells → AreCells n cells

@@ -230,7 +230,7 @@ module _ (bytes : List ℕ) where
     key_refers at tag = refers_if Any (tag == 0) _ _ (pure_refers Any the_key.Nothing (λ n. tt)) (refers_if Any (tag == 1) _ _ (pure_refers Any (the_key.Bool false) (λ n. tt))
         (refers_if Any (tag == 2) _ _ (pure_refers Any (the_key.Bool true) (λ n. tt))
         (refers_if Any (tag == 3) _ _ (then_any Any (sixteen bytes) _ sixteen_refers (λ n. pure_refers Any (the_key.Number n) (λ k. tt)))
-        (refers_if Any (tag == 4) _ _ (then_any Any (text bytes) _ text_refers (λ t. pure_refers Any (the_key.Text t) (λ k. tt))) (fail_refers Any (BadTag at))))))
+        (refers_if Any (tag == 4) _ _ (then_any Any (text texts bytes) _ (text_refers texts) (λ t. pure_refers Any (the_key.Text t) (λ k. tt))) (fail_refers Any (BadTag at))))))
 
     value_by_refers : (at tag : ℕ) → Refers OfValue (value_by texts bytes at tag)
     unfolding value_by
@@ -288,7 +288,7 @@ module _ (bytes : List ℕ) where
 
     function_refers : Refers OfObject (function texts bytes)
     unfolding function
-    function_refers = then_any OfObject place _ place_refers (λ at. then_any OfObject (text bytes) _ text_refers (λ source. function_of_refers at (verdict_alone source)))
+    function_refers = then_any OfObject place _ place_refers (λ at. then_any OfObject (text texts bytes) _ (text_refers texts) (λ source. function_of_refers at (verdict_alone source)))
 
     content_refers : (tag : ℕ) → Refers OfObject (content texts bytes tag)
     unfolding content
