@@ -84,6 +84,10 @@ pub there_before : (texts : Texts) (m n : ℕ) → m ≤ n → AreThere texts n 
 there_before InPlace m n l h = tt
 there_before (Numbered table) m n l h = omega (arith, l, h)
 
+pub none_there : (texts : Texts) → AreThere texts 0
+none_there InPlace = tt
+none_there (Numbered table) = omega arith
+
 -- ---- both
 
 -- how many objects were referred to, and how many texts
