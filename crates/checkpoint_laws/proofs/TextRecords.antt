@@ -70,6 +70,14 @@ module _ (spell : List ℕ → List ℕ) where
   abbrev pub counted_versions : Versions → List ℕ
   counted_versions vs = four_bytes (length vs.records) ++ versions_text vs
 
+-- so many texts are referred to after these cells, and none that isn't there
+abbrev pub CellsSo : Texts → Cells → Type 0
+CellsSo texts cs = (counted 0 (numbers_of texts (codes_of cs.records)) ≡ Some cs.known) × AreThere texts cs.known
+
+-- and after these versions, if so many were before them
+abbrev pub VersionsSo : Texts → ℕ → Versions → Type 0
+VersionsSo texts from vs = (counted from (numbers_of texts (flat_map texts_of vs.parts)) ≡ Some vs.known) × (AreThere texts from → AreThere texts vs.known)
+
 -- n cells; none of those that run again is above n, and so many texts are referred to
 abbrev AreCells : Texts → ℕ → Cells → Type 0
 AreCells texts n cs = (length cs.records ≡ n) × AreUpTo n cs.rerun × (counted 0 (numbers_of texts (codes_of cs.records)) ≡ Some cs.known) × AreThere texts cs.known
@@ -260,18 +268,15 @@ module _ (texts : Texts) (ok : IsTable texts) (bytes : List ℕ) (small : All (�
             (λ xs k. ap (cells_text spell) (sym same) ∙ (put.1 ∙ ap (λ (zs : List ℕ). cells_text spell before ++ zs) (sym k.0))) ate,
       )
 
-  abbrev pub CellsSo : Cells → Type 0
-  CellsSo cs = (counted 0 (numbers_of texts (codes_of cs.records)) ≡ Some cs.known) × AreThere texts cs.known
-
   no_cells_so : AreCells texts 0 no_cells
   no_cells_so = (refl, tt, ap (λ (ns : List ℕ). counted 0 ns) (no_numbers texts), none_there texts)
 
-  pub eats_cells : Eats bytes (cells bytes texts) (λ cs xs. (xs ≡ counted_cells spell cs) × CellsSo cs)
+  pub eats_cells : Eats bytes (cells bytes texts) (λ cs xs. (xs ≡ counted_cells spell cs) × CellsSo texts cs)
   unfolding cells
-  eats_cells = eats_then bytes (four bytes) (λ n. turns (next_cell bytes texts) n no_cells) four_bytes (λ cs xs. (xs ≡ counted_cells spell cs) × CellsSo cs) (eats_four bytes small) (λ n at next all e.
+  eats_cells = eats_then bytes (four bytes) (λ n. turns (next_cell bytes texts) n no_cells) four_bytes (λ cs xs. (xs ≡ counted_cells spell cs) × CellsSo texts cs) (eats_four bytes small) (λ n at next all e.
       let m = eats_turns bytes (next_cell bytes texts) (cells_text spell) (AreCells texts) next_cell_eaten n 0 no_cells all at next no_cells_so e in
       let size : n ≡ length all.records = let k = m.0.0 in omega (arith, k) in
-      ate_as bytes (λ ys. cells_text spell all ≡ ys) (λ ys. (four_bytes n ++ ys ≡ counted_cells spell all) × CellsSo all) at next
+      ate_as bytes (λ ys. cells_text spell all ≡ ys) (λ ys. (four_bytes n ++ ys ≡ counted_cells spell all) × CellsSo texts all) at next
       (λ ys k. (ap (λ (j : ℕ). four_bytes j ++ ys) size ∙ ap (λ (zs : List ℕ). four_bytes (length all.records) ++ zs) (sym k), (m.0.2, m.0.3))) m.1)
 
   -- ---- all versions
@@ -315,16 +320,13 @@ module _ (texts : Texts) (ok : IsTable texts) (bytes : List ℕ) (small : All (�
               (ate_as bytes (Extends before now r.first.1 r.first.0) (λ ys. whole (first.xs ++ ys)) r.mid next (λ ys k. k ∙ ap (λ (zs : List ℕ). versions_text spell before ++ (zs ++ ys)) (sym first.is)) rest.1),
         )
 
-    abbrev pub VersionsSo : Versions → Type 0
-    VersionsSo vs = (counted from (numbers_of texts (flat_map texts_of vs.parts)) ≡ Some vs.known) × (AreThere texts from → AreThere texts vs.known)
-
     no_versions_so : AreVersions texts from 0 (no_versions from)
     no_versions_so = (refl, tt, refl, ap (λ (ns : List ℕ). counted from ns) (no_numbers texts), λ h. h)
 
-    pub eats_versions : Eats bytes (versions bytes texts from) (λ vs xs. (xs ≡ counted_versions spell vs) × VersionsSo vs)
+    pub eats_versions : Eats bytes (versions bytes texts from) (λ vs xs. (xs ≡ counted_versions spell vs) × VersionsSo texts from vs)
     unfolding versions
-    eats_versions = eats_then bytes (four bytes) (λ n. turns (next_version bytes texts) n (no_versions from)) four_bytes (λ vs xs. (xs ≡ counted_versions spell vs) × VersionsSo vs) (eats_four bytes small) (λ n at next all e.
+    eats_versions = eats_then bytes (four bytes) (λ n. turns (next_version bytes texts) n (no_versions from)) four_bytes (λ vs xs. (xs ≡ counted_versions spell vs) × VersionsSo texts from vs) (eats_four bytes small) (λ n at next all e.
         let m = eats_turns bytes (next_version bytes texts) (versions_text spell) (AreVersions texts from) next_version_eaten n 0 (no_versions from) all at next no_versions_so e in
         let size : n ≡ length all.records = let k = m.0.0 in omega (arith, k) in
-        ate_as bytes (λ ys. versions_text spell all ≡ ys) (λ ys. (four_bytes n ++ ys ≡ counted_versions spell all) × VersionsSo all) at next
+        ate_as bytes (λ ys. versions_text spell all ≡ ys) (λ ys. (four_bytes n ++ ys ≡ counted_versions spell all) × VersionsSo texts from all) at next
         (λ ys k. (ap (λ (j : ℕ). four_bytes j ++ ys) size ∙ ap (λ (zs : List ℕ). four_bytes (length all.records) ++ zs) (sym k), (m.0.3, m.0.4))) m.1)
