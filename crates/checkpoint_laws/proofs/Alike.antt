@@ -49,7 +49,7 @@ module _ (s t : State) (closed : IsClosed s) (other : IsClosed t) (same : SameSt
     -- ---- the whole text
 
     module _ (graph : Graph) where
-      table_alike : table_of s graph plan ≡ table_of t graph plan
+      pub table_alike : table_of s graph plan ≡ table_of t graph plan
       table_alike = ap (λ (ts : List (List ℕ)). with_texts [] (codes_of graph.cells ++ ts)) (copied_alike graph.versions)
 
       abbrev whole1 : ℕ → ℕ → List ℕ → List ℕ

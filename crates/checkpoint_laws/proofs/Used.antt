@@ -20,7 +20,7 @@ use Rattle.part_bytes.specs.Parts.{part_of}
 use Rattle.part_bytes.specs.Uses.{value_texts, held_texts, pair_texts, object_texts, texts_of}
 use Rattle.checkpoint_bytes.specs.Texts.{lists, each_from, codes_of, copied_texts, uses}
 use Rattle.checkpoint_laws.specs.SpelledParts.{IsValue, IsHeld, ArePairs, IsObject, AreObjects, HasPartText}
-use Rattle.checkpoint_laws.specs.Spelled.{IsCode, IsCellRecord, HasText}
+use Rattle.checkpoint_laws.specs.Spelled.{IsCode, IsCellRecord, HasText1}
 use Rattle.checkpoint_laws.proofs.Copied.{AllCopied, each_copied}
 
 abbrev pub AreTexts : List (List ℕ) → Type 0
@@ -87,6 +87,6 @@ copied_so s p (x ∷ xs) n h = elim (cases_Bool (lists p.copied n)) [
   | inr f ↦ texts_join (copied_texts s p n x) (each_from (copied_texts s p) (n + 1) xs) (rw f tt) (copied_so s p xs (n + 1) h.1)
 ]
 
-pub uses_are_texts : (s : State) (g : Graph) (p : Plan) → HasText s g p → AreTexts (uses s g p)
+pub uses_are_texts : (s : State) (g : Graph) (p : Plan) → HasText1 s g p → AreTexts (uses s g p)
 uses_are_texts s g p h =
     texts_join (codes_of g.cells) (each_from (copied_texts s p) 1 g.versions) (codes_so g.cells h.cells) (copied_so s p g.versions 1 (each_copied g p (λ y. HasPartText (part_of s y.names)) h.parts))

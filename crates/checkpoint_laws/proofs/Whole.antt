@@ -20,7 +20,7 @@ use Rattle.checkpoint_reader.specs.declared.fields.Fields.{Fields}
 use Rattle.checkpoint_reader.specs.Reads.{Answer, Read, after, turns}
 use Rattle.checkpoint_reader.specs.Fields.{letters, begins, magic, format, four, at_most, table, cells, versions, next_cell, next_version, no_cells, no_versions, all_used, ended, fields}
 use Rattle.checkpoint_laws.specs.SpelledParts.{counted}
-use Rattle.checkpoint_laws.specs.Spelled.{HasText, EachCopied, IsLike}
+use Rattle.checkpoint_laws.specs.Spelled.{HasText1, EachCopied, IsLike}
 use Rattle.checkpoint_laws.proofs.Counts.{spell_of, numbers_of, numbers_join, counted_parts, counted_grows, AreThere, there_before}
 use Rattle.checkpoint_laws.proofs.Listed.{IsTable}
 use Rattle.checkpoint_laws.proofs.Offs.{Stands, stands_first, stands_next}
@@ -75,7 +75,7 @@ module _ (bytes : List ℕ) where
   -- ---- in one of the versions
 
   module _ (version : ℕ) (texts : Texts) (ok : IsTable texts) (F T : List ℕ) (size : ℕ) (is_format : Off bytes (format bytes) F version) (is_table : (at : ℕ) → Stands bytes at T → TableRead bytes version texts size T at)
-      (s : State) (g : Graph) (p : Plan) (h : HasText s g p) (like : EachCopied g p (IsLike s)) (used : counted 0 (numbers_of texts (uses s g p)) ≡ Some size) (room : AreThere texts size) where
+      (s : State) (g : Graph) (p : Plan) (h : HasText1 s g p) (like : EachCopied g p (IsLike s)) (used : counted 0 (numbers_of texts (uses s g p)) ≡ Some size) (room : AreThere texts size) where
     abbrev C : List ℕ
     C = four_bytes s.count
 

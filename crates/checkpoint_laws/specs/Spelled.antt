@@ -10,6 +10,7 @@ use Rattle.graph_model.specs.Graphs.{VersionAt}
 use Rattle.py_heap.specs.declared.state.State.{State}
 use Rattle.part_bytes.specs.declared.part.PartValue.{PartValue}
 use Rattle.part_bytes.specs.Parts.{part_of}
+use Rattle.checkpoint_bytes.specs.Texts.{table_of}
 use Rattle.checkpoint_laws.specs.SpelledParts.{HasPartText}
 use Rattle.checkpoint_reader.specs.declared.checkpoint.Checkpoint.{Checkpoint}
 use Rattle.checkpoint_reader.specs.Fields.{is_unlike}
@@ -46,7 +47,8 @@ pub record IsVersion (x : Version) : Type 0 where
 abbrev pub EachCopied : Graph → Plan → (Version → Type 0) → Type 0
 EachCopied g p P = (v : ℕ) (x : Version) → Contains p.copied v → VersionAt g v x → P x
 
-pub record HasText (s : State) (g : Graph) (p : Plan) : Type 0 where
+-- in version 1
+pub record HasText1 (s : State) (g : Graph) (p : Plan) : Type 0 where
   pub count : s.count < 2 ^ 32
   pub meter : s.meter ≤ 16777216
   pub few_cells : length g.cells < 2 ^ 32
@@ -54,6 +56,11 @@ pub record HasText (s : State) (g : Graph) (p : Plan) : Type 0 where
   pub few_versions : length g.versions < 2 ^ 32
   pub versions : AllByRecursion IsVersion g.versions
   pub parts : EachCopied g p (λ x. HasPartText (part_of s x.names))
+
+-- in version 2, if there are fewer than 2^32 texts
+pub record HasText (s : State) (g : Graph) (p : Plan) : Type 0 where
+  pub one : HasText1 s g p
+  pub texts : length (table_of s g p) < 2 ^ 32
 
 -- ---- the checkpoint that it is read as
 

@@ -1,6 +1,5 @@
 pub mod Finishing
 pub mod Passing
-pub mod Referring
 pub mod Undrawn
 pub mod Walking
 pub mod OneParts
