@@ -56,12 +56,15 @@ module _ (s : State) (g : Graph) (p : Plan) (h : HasText1 s g p) (names : NamesO
     pub mid : ℕ
     pub last : ℕ
     pub is : fields bytes 0
-        ≡ Ok (record {
-          count = s.count;
-          meter = s.meter;
-          cells = record { records = g.cells; rerun = p.rerun; known = mid };
-          versions = versions_of g.versions p.copied (map (part_at s g) p.copied) last;
-        }, length bytes)
+        ≡ Ok (
+          record {
+            count = s.count;
+            meter = s.meter;
+            cells = record { records = g.cells; rerun = p.rerun; known = mid };
+            versions = versions_of g.versions p.copied (map (part_at s g) p.copied) last;
+          },
+          length bytes,
+        )
 
   exactly : (bytes : List ℕ) (mid last : ℕ) → fields bytes 0 ≡ Ok (record { count = s.count; meter = s.meter; cells = cells_read p g mid; versions = versions_read s p g last }, length bytes) → Exactly bytes
   exactly bytes mid last e =

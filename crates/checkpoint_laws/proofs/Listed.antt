@@ -1,6 +1,6 @@
 -- Tables of texts: each text is at its number, and the table is what the texts to which is referred are, in the order of first use.
 use Rattle.std.proofs.Common.{◌≡◌, ℕ, zero, suc, ◌+◌, ◌<◌, ◌≤◌, ◌^◌, ◌==◌, ◌||◌, Bool, true, false, List, [], ◌∷◌, ◌++◌, length, get_or, take, map, Option, Some, None, refl, sym, ap, ◌∙◌, subst, inl, inr, arith}
-use Rattle.std.specs.Prelude.{nat_lt, slice_get}
+use Rattle.std.specs.Prelude.{Contains, nat_lt, slice_get}
 use Rattle.std.specs.Str.{bytes_eq}
 use Rattle.std.specs.List.{AllByRecursion, list_any, position_or_len}
 use Rattle.std.proofs.lemmas.Bool.{cases_Bool, false≢true, or_parts, eqb-true, eq-eqb, ne_eqb, ltb-true, ltb-false, lt-ltb, le-ltb}
@@ -8,6 +8,7 @@ use Rattle.std.proofs.lemmas.List.{append-nil, append_assoc, length-append, take
 use Rattle.std.proofs.lemmas.List.Folds.{list_any-append}
 use Rattle.std.proofs.lemmas.Option.{get_or_from_slice_get}
 use Rattle.std.proofs.lemmas.Slice.Eq.{bytes_eq-Decides}
+use Rattle.run_graph.proofs.Lists.{cons_cases}
 use Rattle.part_bytes.specs.Plain.{IsText}
 use Rattle.part_bytes.specs.Tables.{has_text, number_of, with_text, with_texts}
 use Rattle.checkpoint_reader.specs.PartReading.{known_after}
@@ -111,8 +112,21 @@ placed_from before (u ∷ ts) (suc n) t h e =
     let sum : length (before ++ u ∷ []) + n ≡ length before + suc n = omega (arith, size) in
     ap (λ (xs : List (List ℕ)). number_of xs t) (sym (append_assoc before (u ∷ []) ts)) ∙ (rest ∙ sum)
 
+pub placed_new : (ts : List (List ℕ)) (n : ℕ) (t : List ℕ) → AreNew [] ts → slice_get ts n ≡ Some t → number_of ts t ≡ n
+placed_new ts n t new e = let at : number_of ts t ≡ 0 + n = placed_from [] ts n t new e in omega (arith, at)
+
+pub there_below : (ts : List (List ℕ)) (t : List ℕ) → Contains ts t → number_of ts t < length ts
+there_below [] t c = absurd (let l = c.1 in omega (arith, l))
+there_below (u ∷ ts) t c = elim (cases_Bool (bytes_eq t u)) [
+  | inl e ↦ rw e (omega arith)
+  | inr f ↦ elim (cons_cases u ts t c) [
+    | inl e ↦ absurd (false≢true (sym f ∙ (bytes_eq-Decides t u).1 (sym e)))
+    | inr more ↦ let l = there_below ts t more in rw f (omega (arith, l))
+  ]
+]
+
 pub placed : (table : List (List ℕ)) (n : ℕ) (t : List ℕ) → AreListed table → slice_get table n ≡ Some t → number_of table t ≡ n
-placed table n t ok e = let at : number_of table t ≡ 0 + n = placed_from [] table n t ok.new e in omega (arith, at)
+placed table n t ok e = placed_new table n t ok.new e
 
 pub text_at : (ts : List (List ℕ)) (n : ℕ) (t : List ℕ) → AllByRecursion IsText ts → slice_get ts n ≡ Some t → IsText t
 text_at [] n t h e = absurd (let no : None ≡ Some t = e in cc)
@@ -126,6 +140,13 @@ grows [] front = ([], sym (append-nil front))
 grows (t ∷ ts) front = elim (cases_Bool (has_text front t)) [
   | inl y ↦ rw y (grows ts front)
   | inr n ↦ let g = grows ts (front ++ t ∷ []) in rw n (t ∷ g.0, g.1 ∙ append_assoc front (t ∷ []) g.0)
+]
+
+pub new_all : (uses table : List (List ℕ)) → AreNew [] table → AreNew [] (with_texts table uses)
+new_all [] table h = h
+new_all (t ∷ ts) table h = elim (cases_Bool (has_text table t)) [
+  | inl y ↦ rw y (new_all ts table h)
+  | inr n ↦ rw n (new_all ts (table ++ t ∷ []) (new_put [] table t h n))
 ]
 
 listed_with : (uses table : List (List ℕ)) → AllByRecursion IsText table × AreNew [] table → AllByRecursion IsText uses → AllByRecursion IsText (with_texts table uses) × AreNew [] (with_texts table uses)

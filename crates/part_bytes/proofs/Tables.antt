@@ -153,7 +153,7 @@ module _ (number : ℕ → ℕ) where
         ∙ ap (λ (ts : List (List ℕ)). object_texts_at s at ++ ts) (objects_by found))
 
 module _ (s : State) (names : List (List ℕ)) where
-  by_addresses : part_texts s names ≡ flat_map (held_texts_at s) names ++ flat_map (object_texts_at s) (order s names)
+  pub by_addresses : part_texts s names ≡ flat_map (held_texts_at s) names ++ flat_map (object_texts_at s) (order s names)
   by_addresses =
       let number : ℕ → ℕ = number_in (order s names) in
       ap (λ (ts : List (List ℕ)). ts ++ flat_map object_texts (flat_map (objects_of s number) (order s names))) (held_by number s names)
