@@ -160,6 +160,15 @@ length-part part =
       length-four (length part.objects),
     )
 
+-- the same by lists that are those of the part
+pub length-part_of : (part : PartValue) (ns : List (List ℕ)) (vs : List (Option Value)) (os : List Object) → ns ≡ part.names → vs ≡ part.values → os ≡ part.objects
+    → length (bytes_of part) ≡ 8 + length (flat_map name_bytes ns) + length (flat_map held_bytes vs) + length (flat_map object_bytes os)
+length-part_of part ns vs os e f g =
+    length-part part
+    ∙ (ap (λ (xs : List (List ℕ)). 8 + length (flat_map name_bytes xs) + length (flat_map held_bytes part.values) + length (flat_map object_bytes part.objects)) (sym e)
+    ∙ (ap (λ (xs : List (Option Value)). 8 + length (flat_map name_bytes ns) + length (flat_map held_bytes xs) + length (flat_map object_bytes part.objects)) (sym f)
+    ∙ ap (λ (xs : List Object). 8 + length (flat_map name_bytes ns) + length (flat_map held_bytes vs) + length (flat_map object_bytes xs)) (sym g)))
+
 pub length-part_text : (s : State) (names : List (List ℕ)) → length (part_text s names)
     ≡ 8 + length (flat_map name_bytes names) + length (flat_map (held_at s) names) + length (flat_map (object_at s) (order s names))
 length-part_text s names =

@@ -65,7 +65,9 @@ pub fn write_text_number(
     ensures bytes { OnOk result (out.new ≡ out.old ++ spec.by_number texts.now text.now) }
     ensures plain { OnOk result (IsText text.now) }
 {
-    count_of(text.len())?;
+    if text.len() > u32::MAX as usize {
+        return Err(AllocError);
+    }
     write_four(out, texts.place(text))
 }
 
