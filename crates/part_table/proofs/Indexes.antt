@@ -41,7 +41,7 @@ module _ (names : List Name) (i : ℕ) (l : i < length names) where
   abbrev here : Name
   here = get_or names i []
 
-  abbrev more : take (i + 1) names ≡ take i names ++ here ∷ []
+  more : take (i + 1) names ≡ take i names ++ here ∷ []
   more = take_more names i [] l
 
   cases_more : (x : Name) → Contains (take (i + 1) names) x → Contains (take i names) x ⊎ (x ≡ here)
@@ -69,7 +69,7 @@ module _ (names : List Name) (i : ℕ) (l : i < length names) where
   -- and it was known
   pub still_known : (number : Option ℕ) (old mid : Numbers) → AreGiven (take i names) number old mid → ((x : Name) → Contains names x → IsSome (finite.get old x)) → IsSome (finite.get mid here)
   still_known number old mid g known = elim (g here) [
-    | inl a ↦ subst (λ (o : Option (Option ℕ)). IsSome o) (sym a.1) tt
+    | inl a ↦ subst (λ (o : Option (Option ℕ)). IsSome o) (sym a.1) refl
     | inr b ↦ subst (λ (o : Option (Option ℕ)). IsSome o) (sym b.1) (known here (i, l, get_or_default names i here [] l))
   ]
 
@@ -91,7 +91,7 @@ module _ (names : List Name) (i : ℕ) (l : i < length names) where
   known_more mid now k known some x h = elim (cases_more x h) [
     | inl c ↦ elim (k x) [
       | inl a ↦ subst (λ (o : Option (Option ℕ)). IsSome o) (sym a) (known x c)
-      | inr b ↦ subst (λ (o : Option (Option ℕ)). IsSome o) (sym b.1) tt
+      | inr b ↦ subst (λ (o : Option (Option ℕ)). IsSome o) (sym b.1) refl
     ]
     | inr e ↦ subst (λ z. IsSome (finite.get now z)) (sym e) some
   ]
@@ -115,7 +115,7 @@ keeps_on old mid now a b x = elim (b x) [
 pub keeps_known : (old now : Numbers) → KeepsNumbers old now → (x : Name) → IsSome (finite.get old x) → IsSome (finite.get now x)
 keeps_known old now k x some = elim (k x) [
   | inl a ↦ subst (λ (o : Option (Option ℕ)). IsSome o) (sym a) some
-  | inr b ↦ subst (λ (o : Option (Option ℕ)). IsSome o) (sym b.1) tt
+  | inr b ↦ subst (λ (o : Option (Option ℕ)). IsSome o) (sym b.1) refl
 ]
 
 -- and has the number that it had, if it has one

@@ -1,8 +1,8 @@
 -- Lists: what they have, and what is so of each two of them.
-use Rattle.std.proofs.Common.{◌≡◌, ◌≢◌, ℕ, zero, suc, ◌+◌, ◌-◌, ◌<◌, ◌≤◌, Bool, true, false, List, [], ◌∷◌, ◌++◌, map, length, get_or, take, drop, Option, Some, None, refl, sym, ap, ◌∙◌, ◌⊎◌, inl, inr, subst, arith}
-use Rattle.std.specs.Prelude.{Contains, insert, remove}
+use Rattle.std.proofs.Common.{◌≡◌, ◌≢◌, ℕ, zero, suc, ◌+◌, ◌-◌, ◌<◌, ◌≤◌, Bool, true, false, cond, List, [], ◌∷◌, ◌++◌, map, length, get_or, take, drop, Option, Some, None, refl, sym, ap, ◌∙◌, ◌⊎◌, inl, inr, subst, arith}
+use Rattle.std.specs.Prelude.{Contains, filter, insert, remove}
 use Rattle.std.specs.List.{AllPairs, sum_by}
-use Rattle.std.proofs.lemmas.Bool.{cases_eq, cases_lt}
+use Rattle.std.proofs.lemmas.Bool.{cases_eq, cases_lt, false≢true}
 use Rattle.std.proofs.lemmas.List.{get_or_default, get_or_push, get_or_append_left, length_push, take-append-drop}
 use Rattle.std.proofs.lemmas.List.Elements.{Contains-append_cases, Contains-append_left, Contains-append_right, Contains-get_or}
 use Rattle.std.proofs.lemmas.List.Edits.{length-insert, get_or-insert_below, get_or-insert_at, get_or-insert_above, length-remove, get_or-remove_below, get_or-remove_above}
@@ -197,3 +197,32 @@ in_front xs y x h = Contains-append_left xs (y ∷ []) x h
 
 pub last_in : {X : Type 0} (xs : List X) (y : X) → Contains (xs ++ y ∷ []) y
 last_in xs y = Contains-append_right xs (y ∷ []) y (first_in y [])
+
+-- ---- those that pass a test
+
+module _ {X : Type 0} (p : X → Bool) where
+  in_by : (b : Bool) (x : X) (xs : List X) (y : X) → p x ≡ b → Contains (cond b (x ∷ filter p xs) (filter p xs)) y → ((x ≡ y) × (p y ≡ true)) ⊎ Contains (filter p xs) y
+  in_by true x xs y e h = elim (cons_cases x (filter p xs) y h) [ inl f ↦ inl (f, subst (λ z. p z ≡ true) f e) | inr k ↦ inr k ]
+  in_by false x xs y e h = inr h
+
+  pub of_filter : (xs : List X) (y : X) → Contains (filter p xs) y → Contains xs y × (p y ≡ true)
+  of_filter [] y h = absurd (none_in y h)
+  of_filter (x ∷ xs) y h = elim (in_by (p x) x xs y refl h) [
+    | inl e ↦ (subst (λ z. Contains (x ∷ xs) z) e.0 (first_in x xs), e.1)
+    | inr k ↦ let a = of_filter xs y k in (later_in x xs y a.0, a.1)
+  ]
+
+  kept_by : (b : Bool) (x : X) (xs : List X) (y : X) → Contains (filter p xs) y → Contains (cond b (x ∷ filter p xs) (filter p xs)) y
+  kept_by true x xs y h = later_in x (filter p xs) y h
+  kept_by false x xs y h = h
+
+  first_by : (b : Bool) (x : X) (xs : List X) → b ≡ true → Contains (cond b (x ∷ filter p xs) (filter p xs)) x
+  first_by true x xs e = first_in x (filter p xs)
+  first_by false x xs e = absurd (false≢true e)
+
+  pub in_filter : (xs : List X) (y : X) → Contains xs y → p y ≡ true → Contains (filter p xs) y
+  in_filter [] y h e = absurd (none_in y h)
+  in_filter (x ∷ xs) y h e = elim (cons_cases x xs y h) [
+    | inl f ↦ subst (λ z. Contains (filter p (x ∷ xs)) z) f (first_by (p x) x xs (subst (λ z. p z ≡ true) (sym f) e))
+    | inr k ↦ kept_by (p x) x xs y (in_filter xs y k e)
+  ]

@@ -1,5 +1,5 @@
 -- A change of a table: parts that go, and parts that come.
-use Rattle.std.specs.Prelude.{◌≡◌, ◌≢◌, ◌⊎◌, ◌↔◌, ℕ, ◌==◌, ◌+◌, ◌<◌, ◌≤◌, Bool, not, List, Contains, All, Some, IsSome, filter, length, slice_get, vec_len, vec_capacity}
+use Rattle.std.specs.Prelude.{◌≡◌, ◌≢◌, ◌⊎◌, ◌↔◌, ℕ, nat_eq, ◌+◌, ◌<◌, ◌≤◌, Bool, not, List, Contains, All, Some, IsSome, filter, length, slice_get, vec_len, vec_capacity}
 use Rattle.std.specs.List.{AllPairs, list_any}
 use Rattle.std.specs.FinMap as finite
 use Rattle.object_lists.specs.Placed.{part_at}
@@ -45,7 +45,7 @@ pub record IsCommitted (c : Changing) (parts : List Part) : Type 0 where
 -- ---- in the table
 
 abbrev pub is_among : List ℕ → ℕ → Bool
-is_among ns n = list_any (λ m. m == n) ns
+is_among ns n = list_any (nat_eq n) ns
 
 -- those numbers that aren't among the others
 abbrev pub without : List ℕ → List ℕ → List ℕ
