@@ -14,8 +14,8 @@ use Rattle.py_laws.proofs.Reached.{has_number, reached_live}
 use Rattle.graph_model.specs.declared.graph.Version.{Version}
 use Rattle.graph_model.specs.declared.graph.Graph.{Graph}
 use Rattle.graph_model.specs.Faults.{TextBelow, Ascends, least_name}
-use Rattle.linked_parts.specs.declared.parts.Part.{Part}
-use Rattle.linked_parts.specs.declared.parts.Parts.{Parts}
+use Rattle.part_table.specs.declared.part.Part.{Part}
+use Rattle.linked_parts.specs.PartList.{PartList}
 use Rattle.linked_parts.specs.Parts.{IsPart, IsPartOf, ArePartsOf}
 use Rattle.linked_parts.proofs.Lists.{none_in, first_in, cons_cases}
 use Rattle.part_bytes.specs.Parts.{order}
@@ -111,7 +111,7 @@ module _ (s : State) (closed : IsClosed s) where
 abbrev pub least : Version → Name
 least x = least_name x.names
 
-module _ (r : Run) (c : ℕ) (g k : Graph) (next : IsNext r c g k) (before : Parts) (parts : ArePartsOf (r.state c) before) (closed : IsClosed (r.state (suc c))) where
+module _ (r : Run) (c : ℕ) (g k : Graph) (next : IsNext r c g k) (before : PartList) (parts : ArePartsOf (r.state c) before) (closed : IsClosed (r.state (suc c))) where
   abbrev S : State
   S = r.state (suc c)
 

@@ -15,8 +15,8 @@ use Rattle.py_laws.proofs.Reached.{reached_live}
 use Rattle.graph_model.specs.declared.graph.CellRecord.{CellRecord}
 use Rattle.graph_model.specs.declared.graph.Graph.{Graph}
 use Rattle.graph_model.specs.Faults.{TextBelow}
-use Rattle.linked_parts.specs.declared.parts.Part.{Part}
-use Rattle.linked_parts.specs.declared.parts.Parts.{Parts}
+use Rattle.part_table.specs.declared.part.Part.{Part}
+use Rattle.linked_parts.specs.PartList.{PartList}
 use Rattle.linked_parts.specs.Parts.{IsPartOf, ArePartsOf}
 use Rattle.linked_parts.proofs.Lists.{below_on, never_below_itself}
 use Rattle.linked_parts.proofs.Names.{reaches_value}
@@ -58,7 +58,7 @@ most_pairs pairs n l =
 
 -- ---- the texts of a state, by its parts
 
-module _ (s : State) (parts : Parts) (are : ArePartsOf s parts) where
+module _ (s : State) (parts : PartList) (are : ArePartsOf s parts) where
   part_in : (p : Part) → Contains parts.list p → IsPartOf s p
   part_in p c = All-contains (IsPartOf s) parts.list p are.parts c
 

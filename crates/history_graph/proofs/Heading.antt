@@ -12,8 +12,8 @@ use Rattle.py_heap.specs.declared.state.State.{State}
 use Rattle.py_machine.specs.declared.marks.Marks.{Marks}
 use Rattle.py_machine.specs.Marked.{Name}
 use Rattle.graph_model.specs.Faults.{Ascends, least_name}
-use Rattle.linked_parts.specs.declared.parts.Part.{Part}
-use Rattle.linked_parts.specs.declared.parts.Parts.{Parts}
+use Rattle.part_table.specs.declared.part.Part.{Part}
+use Rattle.linked_parts.specs.PartList.{PartList}
 use Rattle.linked_parts.specs.Parts.{HasValue, HasNone, IsPartOf, LeastBelow, ArePartsOf}
 use Rattle.linked_parts.proofs.Lists.{least_there}
 use Rattle.linked_parts.proofs.Names.{linked_values}
@@ -37,14 +37,14 @@ part_gone i e = cc
 
 -- ---- the parts that the cell wrote
 
-pub heads_none : (before now : Parts) (marks : Marks) → ArePartHeads before now marks 0 finite.empty
+pub heads_none : (before now : PartList) (marks : Marks) → ArePartHeads before now marks 0 finite.empty
 heads_none before now marks = record {
   parts = λ name n e. absurd (nothing_in name (left.Part n) e);
   gone = λ name e. nothing_in name left.Gone e;
   all = λ n p l e. absurd (let none : n < 0 = l in omega arith);
 }
 
-module _ (before now : Parts) (marks : Marks) (i : ℕ) (heads : Heads) (p : Part) (at : slice_get now.list i ≡ Some p) where
+module _ (before now : PartList) (marks : Marks) (i : ℕ) (heads : Heads) (p : Part) (at : slice_get now.list i ≡ Some p) where
   one_at : (q : Part) (n : ℕ) → n ≡ i → slice_get now.list n ≡ Some q → p ≡ q
   one_at q n e g = same_Some p q (sym at ∙ subst (λ m. slice_get now.list m ≡ Some q) e g)
 
@@ -85,7 +85,7 @@ module _ (before now : Parts) (marks : Marks) (i : ℕ) (heads : Heads) (p : Par
     ];
   }
 
-pub heads_all : (before now : Parts) (marks : Marks) (i : ℕ) (heads : Heads) → length now.list ≤ i → ArePartHeads before now marks i heads
+pub heads_all : (before now : PartList) (marks : Marks) (i : ℕ) (heads : Heads) → length now.list ≤ i → ArePartHeads before now marks i heads
     → ArePartHeads before now marks (length now.list) heads
 heads_all before now marks i heads l h = record {
   parts = λ name n e. let w = h.parts name n e in (w.0, slice_get_within now.list n w.0 w.2, w.2, w.3, w.4);
@@ -93,10 +93,10 @@ heads_all before now marks i heads l h = record {
   all = λ n p k g. h.all n p (omega (arith, k, l)) g;
 }
 
-pub within_none : (now : Parts) → AreWithin now finite.empty
+pub within_none : (now : PartList) → AreWithin now finite.empty
 within_none now name n e = absurd (nothing_in name (left.Part n) e)
 
-pub within_push : (now : Parts) (heads : Heads) (name : Name) (i : ℕ) → i < length now.list → AreWithin now heads → AreWithin now (finite.insert heads name (left.Part i))
+pub within_push : (now : PartList) (heads : Heads) (name : Name) (i : ℕ) → i < length now.list → AreWithin now heads → AreWithin now (finite.insert heads name (left.Part i))
 within_push now heads name i l h other n e = elim (name_cases name other) [
   | inl same ↦ let f = part_is i n (sym (got_here heads name other (left.Part i) same) ∙ e) in omega (arith, f, l)
   | inr different ↦ h other n (sym (got_there heads name other (left.Part i) different) ∙ e)
@@ -137,7 +137,7 @@ least_value s p is =
     let c = least_there p.names is.names.some.0 is.names.some.1 in
     (linked_values s (least_name p.names) (least_name p.names) ((is.names.linked (least_name p.names) (least_name p.names) c).0 c)).0
 
-module _ (before now : Parts) (marks : Marks) (s : State) (heads all : Heads) (are : ArePartsOf s now) (h : ArePartHeads before now marks (length now.list) heads)
+module _ (before now : PartList) (marks : Marks) (s : State) (heads all : Heads) (are : ArePartsOf s now) (h : ArePartHeads before now marks (length now.list) heads)
     (adds : AddsGone s (finite.keys marks.bound) heads all) where
   pub are_heads : AreHeads before now marks s all
   are_heads = record {

@@ -11,8 +11,8 @@ use Rattle.py_heap.specs.declared.state.State.{State}
 use Rattle.py_machine.specs.declared.marks.Marks.{Marks}
 use Rattle.py_machine.specs.Marked.{Name, IsIn}
 use Rattle.graph_model.specs.Faults.{TextBelow, Ascends, least_name}
-use Rattle.linked_parts.specs.declared.parts.Part.{Part}
-use Rattle.linked_parts.specs.declared.parts.Parts.{Parts}
+use Rattle.part_table.specs.declared.part.Part.{Part}
+use Rattle.linked_parts.specs.PartList.{PartList}
 use Rattle.linked_parts.specs.Parts.{LeastBelow, ArePartsOf}
 use Rattle.linked_parts.proofs.Lists.{cons_cases, none_in, below_on, never_below_itself}
 use Rattle.run_graph.proofs.Growing.{in_of_get, get_of_in}
@@ -20,13 +20,13 @@ use Rattle.history_graph.specs.Sets.{HasOneOf}
 use Rattle.history_graph.specs.Written.{WasPart, IsSorted, Numbered, IsByLeast}
 use Rattle.history_graph.proofs.Keys.{got_here, got_there}
 
-pub least_none : (parts : Parts) → IsByLeast parts 0 finite.empty
+pub least_none : (parts : PartList) → IsByLeast parts 0 finite.empty
 least_none parts = record {
   found = λ name n e. absurd (none-some n (sym (finite.get-empty (slice_cmp nat_cmp) name) ∙ e));
   has = λ n q l e. absurd (let none : n < 0 = l in omega arith);
 }
 
-module _ (parts : Parts) (i : ℕ) (index : Numbered) (h : IsByLeast parts i index) (q : Part) (at : slice_get parts.list i ≡ Some q) (name : Name) (e : name ≡ least_name q.names) where
+module _ (parts : PartList) (i : ℕ) (index : Numbered) (h : IsByLeast parts i index) (q : Part) (at : slice_get parts.list i ≡ Some q) (name : Name) (e : name ≡ least_name q.names) where
   now_found : (other : Name) (n : ℕ) → finite.get (finite.insert index name i) other ≡ Some n → (p : Part) × (slice_get parts.list n ≡ Some p) × (least_name p.names ≡ other)
   now_found other n g = elim (name_cases name other) [
     | inl same ↦
@@ -88,7 +88,7 @@ ordered (z ∷ zs) a (suc m) (suc n) p q l g k = ordered zs (rest z zs a) m n p 
 
 -- ---- which names were a part
 
-module _ (s : State) (parts : Parts) (are : ArePartsOf s parts) where
+module _ (s : State) (parts : PartList) (are : ArePartsOf s parts) where
   module _ (index : Numbered) (h : IsByLeast parts (length parts.list) index) (names : List Name) (least : Name) (more : List Name) (e : names ≡ least ∷ more) where
     is_least : (q : Part) → q.names ≡ names → least_name q.names ≡ least
     is_least q f = ap least_name (f ∙ e)
@@ -110,7 +110,7 @@ module _ (s : State) (parts : Parts) (are : ArePartsOf s parts) where
 
 -- ---- written or kept
 
-pub sorted_by : (before : Parts) (marks : Marks) (p : Part) (b : Bool) → IsTrue b ↔ WasPart before p.names → ¬ HasOneOf marks.bound p.names
+pub sorted_by : (before : PartList) (marks : Marks) (p : Part) (b : Bool) → IsTrue b ↔ WasPart before p.names → ¬ HasOneOf marks.bound p.names
     → ¬ ((at : ℕ) × Contains p.objects at × IsIn marks.changed at) → IsSorted before marks p (not b)
 sorted_by before marks p true w n m = record {
   names_stay = λ x c i. n (x, c, i.is);

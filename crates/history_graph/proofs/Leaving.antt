@@ -13,8 +13,8 @@ use Rattle.py_machine.specs.Marked.{Name}
 use Rattle.py_laws.proofs.Partners.{none_in, first_in, later_in}
 use Rattle.graph_model.specs.declared.graph.Version.{Version}
 use Rattle.graph_model.specs.Faults.{TextBelow, Ascends, least_name}
-use Rattle.linked_parts.specs.declared.parts.Part.{Part}
-use Rattle.linked_parts.specs.declared.parts.Parts.{Parts}
+use Rattle.part_table.specs.declared.part.Part.{Part}
+use Rattle.linked_parts.specs.PartList.{PartList}
 use Rattle.linked_parts.proofs.Lists.{cons_cases}
 use Rattle.history_graph.specs.declared.heads.Left.{Left}
 use Rattle.history_graph.specs.declared.heads.Left.TheVariants as left
@@ -54,7 +54,7 @@ module _ {A B : Type 0} (R : A → B → Type 0) where
   pub zip_more : (xs : List A) (i : ℕ) (x : A) (ys : List B) (y : B) → i < length xs → x ≡ get_or xs i x → AllZip R (take i xs) ys → R x y → AllZip R (take (i + 1) xs) (ys ++ y ∷ [])
   zip_more xs i x ys y l e z h = subst (λ zs. AllZip R zs (ys ++ y ∷ [])) (sym (take_more xs i x l)) (zip_push (take i xs) ys (get_or xs i x) y z (subst (λ w. R w y) e h))
 
-module _ (s : State) (now : Parts) (w : ℕ) (heads : Heads) (names : List Name) (i : ℕ) (name : Name) (l : i < length names) (at : name ≡ get_or names i name)
+module _ (s : State) (now : PartList) (w : ℕ) (heads : Heads) (names : List Name) (i : ℕ) (name : Name) (l : i < length names) (at : name ≡ get_or names i name)
     (news : List Version) (h : AreOfLeft s now w heads (take i names) news) where
   pub left_more : (one : Left) (x : Version) → finite.get heads name ≡ Some one → IsOfLeft s now w name (Some one) x → AreOfLeft s now w heads (take (i + 1) names) (news ++ x ∷ [])
   left_more one x e is =
@@ -67,7 +67,7 @@ no_head heads names name e c none = false≢true (sym (ap is_some none) ∙ of_k
 
 -- ---- what each version is
 
-least_by : (s : State) (before now : Parts) (marks : Marks) (w : ℕ) (heads : Heads) → AreHeads before now marks s heads → (name : Name) (x : Version) (o : Option Left)
+least_by : (s : State) (before now : PartList) (marks : Marks) (w : ℕ) (heads : Heads) → AreHeads before now marks s heads → (name : Name) (x : Version) (o : Option Left)
     → finite.get heads name ≡ o → IsOfLeft s now w name o x → least_name x.names ≡ name
 least_by s before now marks w heads h name x (Some (left.Part n)) e is =
     let a = h.parts name n e in
@@ -76,7 +76,7 @@ least_by s before now marks w heads h name x (Some (left.Part n)) e is =
 least_by s before now marks w heads h name x (Some left.Gone) e is = ap least_name is.names
 least_by s before now marks w heads h name x None e is = absurd is
 
-pub least_is : (s : State) (before now : Parts) (marks : Marks) (w : ℕ) (heads : Heads) → AreHeads before now marks s heads → (name : Name) (x : Version)
+pub least_is : (s : State) (before now : PartList) (marks : Marks) (w : ℕ) (heads : Heads) → AreHeads before now marks s heads → (name : Name) (x : Version)
     → IsOfLeft s now w name (finite.get heads name) x → least_name x.names ≡ name
 least_is s before now marks w heads h name x is = least_by s before now marks w heads h name x (finite.get heads name) refl is
 
@@ -95,12 +95,12 @@ zip_ascends R h (x ∷ v ∷ xs) (y ∷ u ∷ ys) z a = (
 
 -- ---- the versions hold
 
-holds_by : (s : State) (now : Parts) (w : ℕ) (name : Name) (o : Option Left) (x : Version) → IsOfLeft s now w name o x → x.replaced ≡ 0
+holds_by : (s : State) (now : PartList) (w : ℕ) (name : Name) (o : Option Left) (x : Version) → IsOfLeft s now w name o x → x.replaced ≡ 0
 holds_by s now w name (Some (left.Part n)) x is = is.2.replaced
 holds_by s now w name (Some left.Gone) x is = is.replaced
 holds_by s now w name None x is = absurd is
 
-pub news_hold : (s : State) (now : Parts) (w : ℕ) (heads : Heads) (names : List Name) (news : List Version) → AreOfLeft s now w heads names news → All (λ (x : Version). x.replaced ≡ 0) news
+pub news_hold : (s : State) (now : PartList) (w : ℕ) (heads : Heads) (names : List Name) (news : List Version) → AreOfLeft s now w heads names news → All (λ (x : Version). x.replaced ≡ 0) news
 news_hold s now w heads names news made k d l =
     let x : Version = get_or news k d in
     let b = zip_back (λ name y. IsOfLeft s now w name (finite.get heads name) y) names news made x (Contains-get_or news k d l) in

@@ -10,8 +10,8 @@ use Rattle.py_machine.specs.declared.marks.Marks.{Marks}
 use Rattle.py_machine.specs.Marked.{Name, IsIn}
 use Rattle.graph_model.specs.declared.graph.Version.{Version}
 use Rattle.graph_model.specs.Faults.{least_name}
-use Rattle.linked_parts.specs.declared.parts.Part.{Part}
-use Rattle.linked_parts.specs.declared.parts.Parts.{Parts}
+use Rattle.part_table.specs.declared.part.Part.{Part}
+use Rattle.linked_parts.specs.PartList.{PartList}
 use Rattle.linked_parts.specs.Parts.{HasNone}
 use Rattle.part_bytes.specs.Texts.{part_text}
 use Rattle.history_graph.specs.declared.heads.Left.{Left}
@@ -27,7 +27,7 @@ abbrev pub IsGone : State → Marks → Name → Type 0
 IsGone s marks x = IsIn marks.bound x × HasNone s x
 
 -- of the first parts those that the cell wrote
-pub record ArePartHeads (before now : Parts) (marks : Marks) (count : ℕ) (heads : Heads) : Type 0 where
+pub record ArePartHeads (before now : PartList) (marks : Marks) (count : ℕ) (heads : Heads) : Type 0 where
   pub parts : (name : Name) (n : ℕ) → finite.get heads name ≡ Some (left.Part n) → (p : Part) × (n < count) × (slice_get now.list n ≡ Some p) × (least_name p.names ≡ name) × Writes before marks p
   pub gone : (name : Name) → ¬ (finite.get heads name ≡ Some left.Gone)
   pub all : (n : ℕ) (p : Part) → n < count → slice_get now.list n ≡ Some p → Keeps before marks p ⊎ (finite.get heads (least_name p.names) ≡ Some (left.Part n))
@@ -39,14 +39,14 @@ AddsGone s names old now = (x : Name) →
     ⊎ ((¬ (Contains names x × HasNone s x)) × (finite.get now x ≡ finite.get old x))
 
 -- the parts that the cell wrote and the names that it deleted, and nothing else
-pub record AreHeads (before now : Parts) (marks : Marks) (s : State) (heads : Heads) : Type 0 where
+pub record AreHeads (before now : PartList) (marks : Marks) (s : State) (heads : Heads) : Type 0 where
   pub parts : (name : Name) (n : ℕ) → finite.get heads name ≡ Some (left.Part n) → (p : Part) × (slice_get now.list n ≡ Some p) × (least_name p.names ≡ name) × Writes before marks p
   pub gone : (name : Name) → finite.get heads name ≡ Some left.Gone → IsGone s marks name
   pub all_parts : (n : ℕ) (p : Part) → slice_get now.list n ≡ Some p → Keeps before marks p ⊎ (finite.get heads (least_name p.names) ≡ Some (left.Part n))
   pub all_gone : (name : Name) → IsGone s marks name → finite.get heads name ≡ Some left.Gone
 
 -- each number is that of a part
-abbrev pub AreWithin : Parts → Heads → Type 0
+abbrev pub AreWithin : PartList → Heads → Type 0
 AreWithin now heads = (name : Name) (n : ℕ) → finite.get heads name ≡ Some (left.Part n) → n < length now.list
 
 -- the length of the text of a part, or 0 if it holds a handle
@@ -73,11 +73,11 @@ pub record IsOfGone (w : ℕ) (name : Name) (x : Version) : Type 0 where
   pub size : x.size ≡ 0
 
 -- the version of what it left
-abbrev pub IsOfLeft : State → Parts → ℕ → Name → Option Left → Version → Type 0
+abbrev pub IsOfLeft : State → PartList → ℕ → Name → Option Left → Version → Type 0
 IsOfLeft s now w name (Some (left.Part n)) x = (p : Part) × (slice_get now.list n ≡ Some p) × IsOfPart s w p x
 IsOfLeft s now w name (Some left.Gone) x = IsOfGone w name x
 IsOfLeft s now w name None x = ⊥
 
 -- a version for each of the names
-abbrev pub AreOfLeft : State → Parts → ℕ → Heads → List Name → List Version → Type 0
+abbrev pub AreOfLeft : State → PartList → ℕ → Heads → List Name → List Version → Type 0
 AreOfLeft s now w heads names news = AllZip (λ name x. IsOfLeft s now w name (finite.get heads name) x) names news

@@ -3,7 +3,7 @@ ghost use Rattle.std.specs.FinMap as finite;
 ghost use Rattle.py_value.specs.declared.key.Key.TheVariants as key;
 ghost use Rattle.py_value.specs.declared.value.Value.TheVariants as value;
 ghost use Rattle.py_heap.specs.References.{IsClosed};
-ghost use Rattle.linked_parts.specs.declared.parts.Part.{Part};
+ghost use Rattle.part_table.specs.declared.part.Part.{Part};
 ghost use Rattle.linked_parts.specs.Parts.{ArePartsOf};
 ghost use Rattle.history_graph.specs.Texts.{IsOfPair, HasText, IsNamed, HasTextAt, HasTextIn, IsTextIn, IsCodeOf, IsNumberOfTexts, HasManyTexts, OneHas, IsWithAll, AreAtMost};
 

@@ -1,5 +1,5 @@
 ghost use Rattle.std.specs.Prelude.{ℕ, ◌≡◌, ◌<◌, ◌↔◌, length, slice_get, IsTrue, Contains, IfOk};
-ghost use Rattle.linked_parts.specs.declared.parts.Part.{Part};
+ghost use Rattle.part_table.specs.declared.part.Part.{Part};
 ghost use Rattle.py_heap.specs.declared.state.State.{State};
 ghost use Rattle.py_machine.specs.Marked.{IsIn};
 ghost use Rattle.graph_model.specs.Faults.{least_name};

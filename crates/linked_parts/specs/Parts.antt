@@ -11,7 +11,7 @@ use Rattle.py_heap.specs.Reaching.{Reach}
 use Rattle.py_machine.specs.Marked.{Name}
 use Rattle.graph_model.specs.Faults.{TextBelow, Ascends, least_name}
 use Rattle.part_table.specs.declared.part.Part.{Part}
-use Rattle.linked_parts.specs.declared.parts.Parts.{Parts}
+use Rattle.linked_parts.specs.PartList.{PartList}
 
 -- the name has a value
 abbrev pub HasValue : State → Name → Type 0
@@ -74,7 +74,7 @@ abbrev pub LeastBelow : Part → Part → Type 0
 LeastBelow p q = TextBelow (least_name p.names) (least_name q.names)
 
 -- parts of the state and no others, ascending by their least names, and each name with a value is in one
-pub record ArePartsOf (s : State) (found : Parts) : Type 0 where
+pub record ArePartsOf (s : State) (found : PartList) : Type 0 where
   pub parts : All (IsPartOf s) found.list
   pub ascends : Ascends LeastBelow found.list
   pub whole : (x : Name) → HasValue s x → (p : Part) × Contains found.list p × Contains p.names x
@@ -85,5 +85,5 @@ pub record ArePartsIn (s : State) (parts : List Part) : Type 0 where
   pub whole : (x : Name) → HasValue s x → (p : Part) × Contains parts p × Contains p.names x
 
 -- the part with this number has the name
-abbrev pub HasNameAt : Parts → ℕ → Name → Type 0
+abbrev pub HasNameAt : PartList → ℕ → Name → Type 0
 HasNameAt parts n x = (p : Part) × (slice_get parts.list n ≡ Some p) × Contains p.names x

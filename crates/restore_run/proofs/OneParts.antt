@@ -6,8 +6,8 @@ use Rattle.py_heap.specs.declared.state.State.{State}
 use Rattle.py_heap.specs.Objects.{IsHandleAt}
 use Rattle.py_machine.specs.Runs.{Name}
 use Rattle.graph_model.specs.Faults.{TextBelow, least_name}
-use Rattle.linked_parts.specs.declared.parts.Part.{Part}
-use Rattle.linked_parts.specs.declared.parts.Parts.{Parts}
+use Rattle.part_table.specs.declared.part.Part.{Part}
+use Rattle.linked_parts.specs.PartList.{PartList}
 use Rattle.linked_parts.specs.Parts.{IsPartOf, ArePartsOf, LeastBelow}
 use Rattle.linked_parts.proofs.Lists.{below_on, never_below_itself}
 use Rattle.run_graph.proofs.Kept.{in_part_value, same_part}
@@ -29,17 +29,17 @@ module _ (s : State) where
       ∙ (ap (λ ats. record x { names = y.names; objects = ats }) objects
       ∙ ap (λ b. record x { names = y.names; objects = y.objects; handle = b }) handle)
 
-  there : (p q : Parts) → ArePartsOf s p → ArePartsOf s q → (x : Part) → Contains p.list x → Contains q.list x
+  there : (p q : PartList) → ArePartsOf s p → ArePartsOf s q → (x : Part) → Contains p.list x → Contains q.list x
   there p q a b x c =
       let is = part_of p a x c in
       let name = is.names.some.0 in
       let w = b.whole name (in_part_value s x.names is.names name is.names.some.1) in
       subst (Contains q.list) (sym (one_part x w.0 name is (part_of q b w.0 w.1) is.names.some.1 w.2)) w.1
     where
-      part_of : (p : Parts) → ArePartsOf s p → (x : Part) → Contains p.list x → IsPartOf s x
+      part_of : (p : PartList) → ArePartsOf s p → (x : Part) → Contains p.list x → IsPartOf s x
       part_of p a x c = All-contains (IsPartOf s) p.list x a.parts c
 
-  pub one_list : (p q : Parts) → ArePartsOf s p → ArePartsOf s q → p ≡ q
+  pub one_list : (p q : PartList) → ArePartsOf s p → ArePartsOf s q → p ≡ q
   one_list p q a b =
       ap (λ l. record p { list = l })
       (same_list LeastBelow (λ x y z h k. below_on (least_name x.names) (least_name y.names) (least_name z.names) h k) (λ x h. never_below_itself (least_name x.names) h)

@@ -1,7 +1,7 @@
 use Rattle.std.proofs.Common.{◌≡◌, ℕ, List, length, sym, ap, ◌∙◌, subst}
 use Rattle.std.specs.Prelude.{Contains}
 use Rattle.graph_model.specs.declared.graph.CellRecord.{CellRecord}
-use Rattle.linked_parts.specs.declared.parts.Part.{Part}
+use Rattle.part_table.specs.declared.part.Part.{Part}
 use Rattle.history_graph.specs.Sets.{Names}
 use Rattle.history_graph.specs.Texts.{HasTextIn, OneHas, IsNumberOfTexts, IsWithAll}
 use Rattle.history_graph.proofs.Counted.{parts_live, counted}

@@ -1,6 +1,6 @@
 use Rattle.std.proofs.Common.{List, subst, arith}
 use Rattle.std.specs.Prelude.{Contains}
-use Rattle.linked_parts.specs.declared.parts.Part.{Part}
+use Rattle.part_table.specs.declared.part.Part.{Part}
 use Rattle.history_graph.specs.Texts.{HasTextIn, OneHas, AreAtMost}
 use Rattle.history_graph.proofs.Counted.{parts_live, most_texts}
 use Rattle.history_graph.proofs.texts.room_for_texts.Goals as goal

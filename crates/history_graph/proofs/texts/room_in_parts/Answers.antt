@@ -1,6 +1,6 @@
 use Rattle.std.proofs.Common.{ℕ, ◌<◌, ◌≤◌, List, length, sym, subst, arith, take_all}
 use Rattle.std.specs.Prelude.{Contains}
-use Rattle.linked_parts.specs.declared.parts.Part.{Part}
+use Rattle.part_table.specs.declared.part.Part.{Part}
 use Rattle.history_graph.specs.Texts.{HasTextAt, HasTextIn, OneHas, AreAtMost}
 use Rattle.history_graph.proofs.Amounts.{room_more}
 use Rattle.history_graph.proofs.texts.room_in_parts.Goals as goal

@@ -1,7 +1,7 @@
 use Rattle.std.proofs.Common.{◌≡◌, ◌+◌, ◌<◌, Some, length, sym, ap, ◌∙◌, subst, arith}
 use Rattle.std.specs.Prelude.{slice_get}
 use Rattle.graph_model.specs.Faults.{least_name}
-use Rattle.linked_parts.specs.declared.parts.Part.{Part}
+use Rattle.part_table.specs.declared.part.Part.{Part}
 use Rattle.history_graph.specs.Written.{Numbered, IsByLeast}
 use Rattle.history_graph.proofs.Adding.{got_at}
 use Rattle.history_graph.proofs.Least.{least_none, least_more}
