@@ -21,8 +21,8 @@ pub(crate) struct Touched {
     pub(crate) places: Items<usize>,
 }
 
-/// The numbers, each once, ascending.
-fn unique(numbers: Items<usize>) -> Items<usize>
+/// The numbers in their order, each once.
+fn in_order(numbers: Items<usize>) -> Items<usize>
     ensures ascends { AllPairs (λ j k. j < k) result }
     ensures members { (k : ℕ) → Contains result k ↔ Contains numbers k }
 {
@@ -78,7 +78,7 @@ fn places_of(
     let mut places = Items::new(alloc);
     add_places(parts, looked, &mut places)?;
     add_places(parts, bound, &mut places)?;
-    Ok(unique(places))
+    Ok(in_order(places))
 }
 
 /// Puts those names of the parts at these places into the set that have a value. After an error some of them may be there.

@@ -13,7 +13,7 @@ use Rattle.graph_model.specs.Faults.{TextBelow, least_name}
 use Rattle.part_table.specs.declared.part.Part.{Part}
 use Rattle.part_table.specs.declared.table.Head.{Head}
 use Rattle.part_table.specs.declared.table.Table.{Table}
-use Rattle.part_table.specs.Tables.{Name, Numbers, objects_from, no_head, head_at, names_at, least_at, room_at, part_of, IsTable, IsInOrder, IsIndex, IsWhole}
+use Rattle.part_table.specs.Tables.{Name, Numbers, objects_from, no_head, head_at, names_at, least_at, room_at, part_of, IsTable, IsInOrder, IsIndex, IsSpare, IsWhole}
 use Rattle.part_table.specs.Places.{IsPlace}
 use Rattle.part_table.specs.Moves.{IsFilled, AreGiven, FitsIn}
 use Rattle.part_table.proofs.Lists.{has_number, inserted_cases, inserted_new, inserted_old, inserted_pairs, sum_on, pairs_on}
@@ -54,10 +54,13 @@ module _ (t : Table) (whole : IsWhole t) (number : ℕ) (p : Part) (fits : FitsI
   head_same n out = get_or-set_other t.heads number n head no_head out
 
   pub members : (n : ℕ) → Contains more n ↔ ((n ≡ number) ⊎ Contains order n)
-  members n = (inserted_cases order place number n, λ h. elim h [
-    | inl e ↦ subst (Contains more) (sym e) (inserted_new order place number)
-    | inr k ↦ inserted_old order place number n k
-  ])
+  members n = (
+    inserted_cases order place number n,
+    λ h. elim h [
+      | inl e ↦ subst (Contains more) (sym e) (inserted_new order place number)
+      | inr k ↦ inserted_old order place number n k
+    ],
+  )
 
   -- ---- the order
 
@@ -143,6 +146,16 @@ module _ (t : Table) (whole : IsWhole t) (number : ℕ) (p : Part) (fits : FitsI
       ];
     }
 
+    new_spare : IsSpare lists.count more t.spare.items
+    new_spare = record {
+      within = λ n h. let l = whole.spare.within n h in omega (arith, l, f.count);
+      fresh = λ n h k. elim ((members n).0 k) [
+        | inl e ↦ fits.taken (subst (Contains t.spare.items) e h)
+        | inr old ↦ whole.spare.fresh n h old
+      ];
+      each = whole.spare.each;
+    }
+
     -- ---- its names have its number
 
     module _ (index : Numbers) (g : AreGiven p.names (Some number) t.index index) where
@@ -180,13 +193,13 @@ module _ (t : Table) (whole : IsWhole t) (number : ℕ) (p : Part) (fits : FitsI
           let all = whole.room in
           omega (arith, step, here, same, all)
 
-      pub new_whole : (now : Table) → now.lists ≡ lists → now.heads ≡ heads → now.order.items ≡ more → now.index ≡ index → now.room ≡ t.room + p.room → IsWhole now
-      new_whole now a b c e r = whole_by now lists heads more index a b c e new_table new_order
+      pub new_whole : (now : Table) → now.lists ≡ lists → now.heads ≡ heads → now.order.items ≡ more → now.spare.items ≡ t.spare.items → now.index ≡ index → now.room ≡ t.room + p.room → IsWhole now
+      new_whole now a b c h e r = whole_by now lists heads more t.spare.items index a b c h e new_table new_order
           (λ n h. elim ((members n).0 h) [
             | inl same ↦ subst (λ (z : Head). Contains z.names (least_name z.names)) (sym (ap (head_at heads) same ∙ head_here)) fits.named
             | inr old ↦ subst (λ (z : Head). Contains z.names (least_name z.names)) (sym (head_same n (not_old n old))) (whole.named n old)
           ])
-          new_index
+          new_index new_spare
           (λ n. elim (cases_eq n number) [
             | inl same ↦ subst (λ z. z < 2 ^ 64) (sym (ap (room_at heads) same ∙ ap (λ (z : Head). z.room) head_here)) room_small
             | inr out ↦ subst (λ z. z < 2 ^ 64) (sym (ap (λ (z : Head). z.room) (head_same n out))) (whole.small n)

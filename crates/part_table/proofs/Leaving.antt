@@ -1,19 +1,20 @@
 -- A part is taken out of a table.
-use Rattle.std.proofs.Common.{◌≡◌, ◌≢◌, ℕ, ◌+◌, ◌-◌, ◌<◌, ◌≤◌, ◌^◌, List, length, get_or, set, slice_index, Option, Some, None, refl, sym, ap, ◌∙◌, ◌⊎◌, inl, inr, subst, lit<, arith}
+use Rattle.std.proofs.Common.{◌≡◌, ◌≢◌, ℕ, ◌+◌, ◌-◌, ◌<◌, ◌≤◌, ◌^◌, List, [], ◌∷◌, ◌++◌, length, get_or, set, slice_index, Option, Some, None, refl, sym, ap, ◌∙◌, ◌⊎◌, inl, inr, subst, lit<, arith}
 use Rattle.std.specs.Prelude.{Contains, IsSome, remove, ◌↔◌}
 use Rattle.std.specs.List.{AllPairs, sum_by}
 use Rattle.std.specs.FinMap as finite
 use Rattle.std.proofs.lemmas.Bool.{cases_eq, cases_lt}
 use Rattle.std.proofs.lemmas.Option.{none-some, same_Some}
 use Rattle.std.proofs.lemmas.List.{get_or_default, length-set, get_or-set_same, get_or-set_other}
-use Rattle.std.proofs.lemmas.List.Quantifiers.{all_pairs_remove}
+use Rattle.std.proofs.lemmas.List.Elements.{Contains-get_or, Contains-push_cases}
+use Rattle.std.proofs.lemmas.List.Quantifiers.{all_pairs_push, all_pairs_remove}
 use Rattle.std.proofs.lemmas.List.Sums.{get_or-le-sum_by, sum_by-remove}
 use Rattle.object_lists.specs.Placed.{Placed, part_at, IsCleared}
 use Rattle.graph_model.specs.Faults.{TextBelow, least_name}
 use Rattle.part_table.specs.declared.part.Part.{Part}
 use Rattle.part_table.specs.declared.table.Head.{Head}
 use Rattle.part_table.specs.declared.table.Table.{Table}
-use Rattle.part_table.specs.Tables.{Name, Numbers, objects_from, no_head, head_at, names_at, least_at, room_at, part_of, IsTable, IsInOrder, IsIndex, IsWhole}
+use Rattle.part_table.specs.Tables.{Name, Numbers, objects_from, no_head, head_at, names_at, least_at, room_at, part_of, IsTable, IsInOrder, IsIndex, IsSpare, IsWhole}
 use Rattle.part_table.specs.Moves.{AreGiven}
 use Rattle.part_table.proofs.Lists.{in_removed, still_in, sum_on, pairs_on}
 use Rattle.part_table.proofs.Objects.{objects_alike}
@@ -102,6 +103,20 @@ module _ (t : Table) (whole : IsWhole t) (number place : ℕ) (place_in : place 
         subst (λ z. TextBelow z (least_at heads n)) (sym a) (subst (λ z. TextBelow (least_at t.heads m) z) (sym b) below))
         (all_pairs_remove (λ m n. TextBelow (least_at t.heads m) (least_at t.heads n)) order place place_in whole.ordered)
 
+    left_spare : IsSpare lists.count rest (t.spare.items ++ number ∷ [])
+    left_spare = record {
+      within = λ n h. elim (Contains-push_cases t.spare.items number n h) [
+        | inl k ↦ let l = whole.spare.within n k in omega (arith, l, c.count)
+        | inr e ↦ let l = whole.table.within number here_in in omega (arith, l, e, c.count)
+      ];
+      fresh = λ n h k. elim (Contains-push_cases t.spare.items number n h) [
+        | inl free ↦ whole.spare.fresh n free ((others n).0 k).0
+        | inr e ↦ ((others n).0 k).1 (sym e)
+      ];
+      each = all_pairs_push (λ m n. m ≢ n) t.spare.items number whole.spare.each
+          (λ k d l e. whole.spare.fresh number (subst (Contains t.spare.items) e (Contains-get_or t.spare.items k d l)) here_in);
+    }
+
     module _ (index : Numbers) (g : AreGiven (names_at t.heads number) None t.index index) where
       left_index : IsIndex heads rest index
       left_index = record {
@@ -142,12 +157,12 @@ module _ (t : Table) (whole : IsWhole t) (number place : ℕ) (place_in : place 
           let all = whole.room in
           omega (arith, l, there, all)
 
-      pub left_whole : (now : Table) → now.lists ≡ lists → now.heads ≡ heads → now.order.items ≡ rest → now.index ≡ index → now.room ≡ t.room - room_at t.heads number → IsWhole now
-      left_whole now a b c e f = whole_by now lists heads rest index a b c e left_table left_order
+      pub left_whole : (now : Table) → now.lists ≡ lists → now.heads ≡ heads → now.order.items ≡ rest → now.spare.items ≡ t.spare.items ++ number ∷ [] → now.index ≡ index → now.room ≡ t.room - room_at t.heads number → IsWhole now
+      left_whole now a b c h e f = whole_by now lists heads rest (t.spare.items ++ number ∷ []) index a b c h e left_table left_order
           (λ m h.
           let w = (others m).0 h in
           subst (λ (z : Head). Contains z.names (least_name z.names)) (sym (head_same m w.1)) (whole.named m w.0))
-          left_index
+          left_index left_spare
           (λ m. elim (cases_eq m number) [
             | inl same ↦ subst (λ z. z < 2 ^ 64) (sym (ap (λ k. room_at heads k) same ∙ ap (λ (z : Head). z.room) head_gone)) (lit< tt)
             | inr out ↦ subst (λ z. z < 2 ^ 64) (sym (ap (λ (z : Head). z.room) (head_same m out))) (whole.small m)

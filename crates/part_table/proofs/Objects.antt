@@ -138,4 +138,3 @@ module _ (number : ℕ) (objects : List ℕ) (index : ℕ) (index_in : index < l
             let out : z ≢ here = λ e. h (subst (λ (ns : List ℕ). Contains ns z) (sym more) (subst (Contains (take index objects ++ here ∷ [])) (sym e) (Contains-append_right (take index objects) (here ∷ []) here (first_in here [])))) in
             other z out ∙ f.rest z (λ k. h (subst (λ (ns : List ℕ). Contains ns z) (sym more) (Contains-append_left (take index objects) (here ∷ []) z k)));
       }
-

@@ -35,11 +35,11 @@ below_cases x y = below_by x y (slice_cmp nat_cmp x y) refl
 
 pub none_below_empty : (x : Name) → ¬ TextBelow x []
 none_below_empty [] e = cc
-none_below_empty (a ∷ as) e = cc
+none_below_empty (a ∷ more) e = cc
 
 pub empty_below : (y : Name) → 0 < length y → TextBelow [] y
 empty_below [] l = absurd (omega (arith, l))
-empty_below (a ∷ as) l = refl
+empty_below (a ∷ more) l = refl
 
 -- ---- a search for a place
 

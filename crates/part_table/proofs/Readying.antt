@@ -16,7 +16,7 @@ use Rattle.part_table.specs.declared.part.Part.{Part}
 use Rattle.part_table.specs.declared.table.Head.{Head}
 use Rattle.part_table.specs.declared.table.Table.{Table}
 use Rattle.part_table.specs.Tables.{Name, head_at, names_at, least_at, part_of, parts_in, parts_of, LeastBelow, IsInOrder, IsIndex, IsWhole}
-use Rattle.part_table.specs.Moves.{IsWithout, FitsIn, IsWith, AreNext, IsWider}
+use Rattle.part_table.specs.Moves.{IsWithout, FitsIn, IsWith, IsWider}
 use Rattle.part_table.specs.Changes.{Changing, AreApart, IsOrderly, IsElsewhere, MayCome, IsCommitted, is_among, without, changing, IsReady}
 use Rattle.part_table.proofs.Lists.{none_in, has_number, map_in, of_map, of_filter, in_filter, front_pairs, last_pairs, front_in, in_front, last_in}
 use Rattle.part_table.proofs.Objects.{objects_members}
@@ -58,7 +58,7 @@ in_without gone order n h out = in_filter (λ m. not (is_among gone m)) order n 
 
 -- ---- one part after the other goes
 
-module _ (t now : Table) (gone numbers : List ℕ) (number : ℕ) (news : List Part) (r : IsReady t (gone ++ number ∷ []) numbers news) (whole : IsWhole now) (w : IsWithout number t now) where
+module _ (t now : Table) (gone : List ℕ) (number : ℕ) (news : List Part) (r : IsReady t (gone ++ number ∷ []) news) (whole : IsWhole now) (w : IsWithout number t now) where
   still_gone : (n : ℕ) → Contains (gone ++ number ∷ []) n → n ≢ number → Contains gone n
   still_gone n h out = front_in gone number n h out
 
@@ -78,15 +78,13 @@ module _ (t now : Table) (gone numbers : List ℕ) (number : ℕ) (news : List P
         (same, λ f. out (same ∙ ap (λ (k : ℕ). Some k) f))
   ]
 
-  pub ready_out : IsReady now gone numbers news
+  pub ready_out : IsReady now gone news
   ready_out = record {
     whole = whole;
     live = λ n h. (w.members n).1 (r.live n (in_front gone number n h), last_pairs (λ m n. m ≢ n) gone number r.once n h);
     once = front_pairs (λ m n. m ≢ n) gone number r.once;
-    size = r.size;
-    within = λ n h. let l = r.within n h in omega (arith, l, w.count);
-    fresh = λ n h k. r.fresh n h ((w.members n).0 k).0;
-    each = r.each;
+    enough = let a = r.enough in let b = w.spare in omega (arith, a, b);
+    space = let a = r.space in let b = w.spare in let c = w.space in let s = length_push gone number in omega (arith, a, b, c, s);
     capacity = let a = r.capacity in let b = w.length in let c = w.capacity in omega (arith, a, b, c);
     orderly = r.orderly;
     apart = r.apart;
@@ -128,7 +126,33 @@ stay_all t p = (
 
 -- ---- one part after the other comes
 
-module _ (t : Table) (numbers : List ℕ) (number : ℕ) (news : List Part) (p : Part) (r : IsReady t [] (numbers ++ number ∷ []) (news ++ p ∷ [])) where
+-- it has a number that was spare
+module _ (t s : Table) (number : ℕ) (news : List Part) (p : Part) (r : IsReady t [] (news ++ p ∷ [])) (is : t.spare.items ≡ s.spare.items ++ number ∷ [])
+    (size : vec_len s.spare + 1 ≡ vec_len t.spare) (space : vec_capacity s.spare ≡ vec_capacity t.spare) where
+  abbrev mid : Table
+  mid = record t { spare = s.spare }
+
+  was_spare : (n : ℕ) → Contains (s.spare.items ++ number ∷ []) n → Contains t.spare.items n
+  was_spare n h = subst (λ ns. Contains ns n) (sym is) h
+
+  each_once : AllPairs (λ m n. m ≢ n) (s.spare.items ++ number ∷ [])
+  each_once = subst (AllPairs (λ m n. m ≢ n)) is r.whole.spare.each
+
+  pub mid_whole : IsWhole mid
+  mid_whole = record {
+    table = r.whole.table;
+    ordered = r.whole.ordered;
+    named = r.whole.named;
+    index = r.whole.index;
+    spare = record {
+      within = λ n h. r.whole.spare.within n (was_spare n (in_front s.spare.items number n h));
+      fresh = λ n h. r.whole.spare.fresh n (was_spare n (in_front s.spare.items number n h));
+      each = front_pairs (λ m n. m ≢ n) s.spare.items number each_once;
+    };
+    small = r.whole.small;
+    room = r.whole.room;
+  }
+
   known_none : (o : Option (Option ℕ)) → IsSome o → ((n : ℕ) → o ≡ Some (Some n) → ⊥) → o ≡ Some None
   known_none None some out = absurd (false≢true some)
   known_none (Some None) some out = refl
@@ -141,41 +165,37 @@ module _ (t : Table) (numbers : List ℕ) (number : ℕ) (news : List Part) (p :
   here : Contains (news ++ p ∷ []) p
   here = last_in news p
 
-  pub ready_fits : FitsIn t number p
+  pub ready_fits : FitsIn mid number p
   ready_fits =
       let orderly : IsOrderly p = All-contains IsOrderly (news ++ p ∷ []) p r.orderly here in
       record {
-        number = r.within number (last_in numbers number);
-        fresh = r.fresh number (last_in numbers number);
+        number = r.whole.spare.within number (was_spare number (last_in s.spare.items number));
+        fresh = r.whole.spare.fresh number (was_spare number (last_in s.spare.items number));
+        taken = λ h. last_pairs (λ m n. m ≢ n) s.spare.items number each_once number h refl;
         named = orderly.named;
         ascends = orderly.ascends;
         known = λ x h. known_none (finite.get t.index x) (r.known p x here h) (λ n e. none_in n (r.names p x n here h e));
         within = λ at h. r.reached p at here h;
         free = λ at h. placed_none (part_at t.lists at) (λ n e. none_in n (r.objects p at n here h e));
-        capacity = let a = r.capacity in let s = length_push news p in omega (arith, a, s);
+        capacity = let a = r.capacity in let b = length_push news p in omega (arith, a, b);
       }
 
-  module _ (now : Table) (whole : IsWhole now) (w : IsWith number p t now) where
+  module _ (now : Table) (whole : IsWhole now) (w : IsWith number p mid now) where
     others : (q : Part) → Contains news q → AreApart q p
     others q h = last_pairs AreApart news p r.apart q h
 
-    pub ready_in : IsReady now [] numbers news
+    pub ready_in : IsReady now [] news
     ready_in = record {
       whole = whole;
       live = λ n h. absurd (none_in n h);
       once = λ i j d l k. absurd (let none : j < 0 = k in omega (arith, none));
-      size = let a = r.size in let b = length_push numbers number in let c = length_push news p in omega (arith, a, b, c);
-      within = λ n h. let l = r.within n (in_front numbers number n h) in omega (arith, l, w.count);
-      fresh = λ n h k. elim ((w.members n).0 k) [
-        | inl e ↦ last_pairs (λ m n. m ≢ n) numbers number r.each n h e
-        | inr old ↦ r.fresh n (in_front numbers number n h) old
-      ];
-      each = front_pairs (λ m n. m ≢ n) numbers number r.each;
-      capacity = let a = r.capacity in let s = length_push news p in let b = w.length in let c = w.capacity in omega (arith, a, s, b, c);
+      enough = let a = r.enough in let b = length_push news p in let c = ap (λ v. vec_len v) w.spare in omega (arith, a, b, c, size);
+      space = let a = r.space in let b = ap (λ v. vec_len v) w.spare in let c = ap (λ v. vec_capacity v) w.spare in omega (arith, a, b, c, size, space);
+      capacity = let a = r.capacity in let d = length_push news p in let b = w.length in let c = w.capacity in omega (arith, a, d, b, c);
       orderly = λ k d l.
-          let s = length_push news p in
+          let longer = length_push news p in
           let same = get_or_append_left news (p ∷ []) d k l in
-          subst IsOrderly same (r.orderly k d (omega (arith, l, s)));
+          subst IsOrderly same (r.orderly k d (omega (arith, l, longer)));
       apart = front_pairs AreApart news p r.apart;
       known = λ q x h k. subst (λ o. IsSome o) (sym (w.others x ((others q h).names x k))) (r.known q x (in_front news p q h) k);
       names = λ q x n h k e. absurd (none_in n (r.names q x n (in_front news p q h) k (sym (w.others x ((others q h).names x k)) ∙ e)));
@@ -271,16 +291,10 @@ module _ (t now : Table) (whole : IsWhole t) (places : List ℕ) (news : List Pa
       let k = place_of_number n h in
       (k.0, part_there k.0 k.1 ∙ ap (λ (z : ℕ). Some (part_of t.lists t.heads z)) k.2, λ c. out (subst (Contains numbers_at) k.2 (there_number k.0 c)))
 
-  module _ (w : IsWider t now) (numbers : List ℕ) (next : AreNext t.lists.count (length news) numbers) (count : now.lists.count ≡ t.lists.count + length news)
+  module _ (w : IsWider t now) (enough : length news ≤ vec_len now.spare) (space : vec_len now.spare + length numbers_at ≤ vec_capacity now.spare)
       (room : objects ≤ length now.lists.parts) (capacity : vec_len now.order + length news ≤ vec_capacity now.order)
       (known : (p : Part) (x : Name) → Contains news p → Contains p.names x → IsSome (finite.get now.index x)) where
-    number_is : (n : ℕ) → Contains numbers n → (k : ℕ) × (k < length news) × (n ≡ t.lists.count + k)
-    number_is n h =
-        let h_in : h.0 < length numbers = h.1 in
-        let k_in : h.0 < length news = (let s = next.size in omega (arith, h_in, s)) in
-        (h.0, k_in, sym h.2 ∙ (sym (get_or_default numbers h.0 0 n h_in) ∙ next.each h.0 k_in))
-
-    pub ready_first : IsReady now numbers_at numbers news
+    pub ready_first : IsReady now numbers_at news
     ready_first = record {
       whole = wider_whole t now whole w;
       live = λ n h.
@@ -295,23 +309,8 @@ module _ (t now : Table) (whole : IsWhole t) (places : List ℕ) (news : List Pa
           let same = one_place (get_or places i 0) (get_or places j 0) (place_in (get_or places i 0) (Contains-get_or places i 0 i_in)) (place_in (get_or places j 0) (Contains-get_or places j 0 j_in)) (sym a ∙ (e ∙ b)) in
           let less : get_or places i 0 < get_or places j 0 = m.places i j 0 l j_in in
           omega (arith, same, less);
-      size = next.size;
-      within = λ n h. let v = number_is n h in let l = v.1 in let e = v.2 in omega (arith, l, e, count);
-      fresh = λ n h k.
-          let v = number_is n h in
-          let e = v.2 in
-          let l = whole.table.within n (subst (λ ns. Contains ns n) w.order k) in
-          omega (arith, e, l);
-      each = λ i j d l k e.
-          let s = next.size in
-          let i_in : i < length news = omega (arith, l, k, s) in
-          let j_in : j < length news = omega (arith, k, s) in
-          let a = get_or_default numbers i 0 d (omega (arith, i_in, s)) in
-          let b = get_or_default numbers j 0 d (omega (arith, j_in, s)) in
-          let x = next.each i i_in in
-          let y = next.each j j_in in
-          let same : slice_index numbers i ≡ slice_index numbers j = a ∙ (e ∙ sym b) in
-          omega (arith, same, x, y, l);
+      enough = enough;
+      space = space;
       capacity = capacity;
       orderly = m.orderly;
       apart = m.apart;

@@ -54,15 +54,13 @@ without gone order = filter (λ n. not (is_among gone n)) order
 abbrev pub changing : Table → List ℕ → List Part → Changing
 changing t gone news = record { before = parts_of t; stay = parts_in t.lists t.heads (without gone t.order.items); news = news }
 
--- the parts with these numbers can go, and then these parts can come with those numbers: all memory is there
-pub record IsReady (t : Table) (gone numbers : List ℕ) (news : List Part) : Type 0 where
+-- the parts with these numbers can go, and then these parts can come with spare numbers: all memory is there
+pub record IsReady (t : Table) (gone : List ℕ) (news : List Part) : Type 0 where
   pub whole : IsWhole t
   pub live : (n : ℕ) → Contains gone n → Contains t.order.items n
   pub once : AllPairs (λ m n. m ≢ n) gone
-  pub size : length numbers ≡ length news
-  pub within : (n : ℕ) → Contains numbers n → n < t.lists.count
-  pub fresh : (n : ℕ) → Contains numbers n → ¬ Contains t.order.items n
-  pub each : AllPairs (λ m n. m ≢ n) numbers
+  pub enough : length news ≤ vec_len t.spare
+  pub space : vec_len t.spare + length gone ≤ vec_capacity t.spare
   pub capacity : vec_len t.order + length news ≤ vec_capacity t.order
   pub orderly : All IsOrderly news
   pub apart : AllPairs AreApart news

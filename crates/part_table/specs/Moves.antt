@@ -1,12 +1,12 @@
 -- A table with one part less, with one part more, and with room for more.
-use Rattle.std.specs.Prelude.{◌≡◌, ◌≢◌, ◌⊎◌, ◌↔◌, ℕ, ◌+◌, ◌<◌, ◌≤◌, List, Contains, Option, Some, None, IsSome, length, slice_index, vec_len, vec_capacity}
+use Rattle.std.specs.Prelude.{◌≡◌, ◌≢◌, ◌⊎◌, ◌↔◌, ℕ, ◌+◌, ◌<◌, ◌≤◌, List, Contains, Option, Some, None, IsSome, length, vec_len, vec_capacity}
 use Rattle.std.specs.List.{AllPairs}
 use Rattle.std.specs.FinMap as finite
 use Rattle.object_lists.specs.Placed.{Placed, part_at}
 use Rattle.graph_model.specs.Faults.{least_name}
 use Rattle.part_table.specs.declared.part.Part.{Part}
 use Rattle.part_table.specs.declared.table.Table.{Table}
-use Rattle.part_table.specs.Tables.{Name, Numbers, head_at, part_of}
+use Rattle.part_table.specs.Tables.{Name, Numbers, head_at, part_of, IsSpare}
 
 -- these objects are in that list, and the others are where they were
 pub record IsFilled (number : ℕ) (objects : List ℕ) (old now : Placed) : Type 0 where
@@ -36,11 +36,14 @@ pub record IsWithout (number : ℕ) (old now : Table) : Type 0 where
   pub known : (x : Name) → IsSome (finite.get old.index x) → IsSome (finite.get now.index x)
   pub length : vec_len now.order + 1 ≡ vec_len old.order
   pub capacity : vec_capacity old.order ≤ vec_capacity now.order
+  pub spare : vec_len now.spare ≡ vec_len old.spare + 1
+  pub space : vec_capacity old.spare ≤ vec_capacity now.spare
 
 -- the number is that of no part, there is room for its part, and no part has one of its names or objects
 pub record FitsIn (t : Table) (number : ℕ) (p : Part) : Type 0 where
   pub number : number < t.lists.count
   pub fresh : ¬ Contains t.order.items number
+  pub taken : ¬ Contains t.spare.items number
   pub named : Contains p.names (least_name p.names)
   pub ascends : AllPairs (λ m n. m < n) p.objects
   pub known : (x : Name) → Contains p.names x → finite.get t.index x ≡ Some None
@@ -59,13 +62,9 @@ pub record IsWith (number : ℕ) (p : Part) (old now : Table) : Type 0 where
   pub others : (x : Name) → ¬ Contains p.names x → finite.get now.index x ≡ finite.get old.index x
   pub length : vec_len now.order ≡ vec_len old.order + 1
   pub capacity : vec_capacity old.order ≤ vec_capacity now.order
+  pub spare : now.spare ≡ old.spare
 
--- as many numbers as the count, from one on, each the next after the one before
-pub record AreNext (first count : ℕ) (numbers : List ℕ) : Type 0 where
-  pub size : length numbers ≡ count
-  pub each : (k : ℕ) → k < count → slice_index numbers k ≡ first + k
-
--- there are more objects, in no list, more numbers, of no part, and more names, without a number
+-- there are more objects, in no list, more numbers, of no part, and more names, without a number; spare numbers are so still
 pub record IsWider (old now : Table) : Type 0 where
   pub count : old.lists.count ≤ now.lists.count
   pub heads : length now.heads ≡ now.lists.count
@@ -75,4 +74,6 @@ pub record IsWider (old now : Table) : Type 0 where
   pub small : (n : ℕ) → (head_at now.heads n).room ≤ (head_at old.heads n).room
   pub order : now.order.items ≡ old.order.items
   pub index : KeepsNumbers old.index now.index
+  pub spare : ((n : ℕ) → Contains old.order.items n → n < old.lists.count) → IsSpare old.lists.count old.order.items old.spare.items
+      → IsSpare now.lists.count now.order.items now.spare.items
   pub room : now.room ≡ old.room

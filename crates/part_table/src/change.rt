@@ -1,4 +1,4 @@
-ghost use Rattle.std.specs.Prelude.{ℕ, ◌≡◌, ◌+◌, ◌<◌, ◌≤◌, ◌↔◌, min, length, slice_get, slice_index, IsTrue, Contains, IfOk, IfErr};
+ghost use Rattle.std.specs.Prelude.{ℕ, ◌≡◌, ◌+◌, ◌-◌, ◌^◌, ◌<◌, ◌≤◌, ◌↔◌, ◌⊎◌, [], min, map, length, slice_index, IsTrue, Contains, IfOk, IfErr};
 ghost use Rattle.part_table.specs.declared.part.Part.{Part};
 ghost use Rattle.part_table.specs.Tables.{parts_of, room_in, IsWhole};
 ghost use Rattle.part_table.specs.Moves.{IsWithout};
@@ -18,9 +18,8 @@ pub struct Change {
     table: Table,
     /// The numbers of the parts that go.
     gone: Items<u32>,
-    /// The parts that come, and their numbers.
+    /// The parts that come.
     news: Items<Part>,
-    numbers: Items<u32>,
 }
 
 impl Model for Change {
@@ -32,7 +31,7 @@ impl Model for Change {
 
     ghost view = { λ it. changing it.table it.gone it.news };
 
-    ghost invariant = { λ it. IsReady it.table it.gone it.numbers it.news };
+    ghost invariant = { λ it. IsReady it.table it.gone it.news };
 }
 
 /// The numbers at these places.
@@ -65,55 +64,37 @@ impl PartTable {
     {
         let PartTable { mut table } = self;
         match plan(alloc, &mut table, places, news.as_slice(), objects) {
-            Ok(Plan { gone, numbers }) => Ok(Change {
-                table,
-                gone,
-                news,
-                numbers,
-            }),
+            Ok(gone) => Ok(Change { table, gone, news }),
             Err(AllocError) => Err(PartTable { table }),
         }
     }
 }
 
-/// The numbers of the parts that go, and of those that come.
-#[derive(Drop)]
-struct Plan {
-    gone: Items<u32>,
-    numbers: Items<u32>,
-}
-
-/// Makes room, and answers the numbers of the parts at these places and numbers for the parts that come.
+/// Makes room, and answers the numbers of the parts at these places.
 fn plan(
     alloc: Global,
     table: &mut Table,
     places: &[usize],
     news: &[Part],
     objects: usize,
-) -> Result<Plan, AllocError>
+) -> Result<Items<u32>, AllocError>
     requires whole { IsWhole table.old }
     requires come { MayCome (parts_of table.old) places.now news.now objects }
-    ensures ready { IfOk result (λ plan. IsReady table.new plan.gone plan.numbers news.now) }
-    ensures gone { IfOk result (λ plan. plan.gone ≡ map (λ k. slice_index table.old.order.items k) places.now) }
+    ensures ready { IfOk result (λ gone. IsReady table.new gone news.now) }
+    ensures gone { IfOk result (λ gone. gone ≡ map (λ k. slice_index table.old.order.items k) places.now) }
     ensures order { table.new.order.items ≡ table.old.order.items }
     ensures whole { IsWhole table.new }
     ensures same { parts_of table.new ≡ parts_of table.old }
 {
     let gone = numbers_at(alloc, table.order.as_slice(), places)?;
-    let numbers = table.make_room(alloc, news, objects)?;
-    Ok(Plan { gone, numbers })
+    table.make_room(alloc, gone.len(), news, objects)?;
+    Ok(gone)
 }
 
 /// Takes out the parts with these numbers. Takes no memory.
-fn take_all(
-    alloc: Global,
-    table: &mut Table,
-    mut gone: Items<u32>,
-    numbers: &Items<u32>,
-    news: &Items<Part>,
-)
-    requires { IsReady table.old gone numbers.now news.now }
-    ensures ready { IsReady table.new [] numbers.now news.now }
+fn take_all(alloc: Global, table: &mut Table, mut gone: Items<u32>, news: &Items<Part>)
+    requires { IsReady table.old gone news.now }
+    ensures ready { IsReady table.new [] news.now }
     ensures stay { (p : Part) → Contains (parts_of table.new) p ↔ Contains (changing table.old gone news.now).stay p }
 {
     while let Some(number) = gone.pop() {
@@ -121,14 +102,14 @@ fn take_all(
     }
 }
 
-/// Puts these parts in under these numbers. Takes no memory.
-fn put_all(table: &mut Table, mut numbers: Items<u32>, mut news: Items<Part>)
-    requires { IsReady table.old [] numbers news }
+/// Puts these parts in under spare numbers. Takes no memory.
+fn put_all(table: &mut Table, mut news: Items<Part>)
+    requires { IsReady table.old [] news }
     ensures whole { IsWhole table.new }
     ensures members { (p : Part) → Contains (parts_of table.new) p ↔ (Contains (parts_of table.old) p ⊎ Contains news p) }
 {
     while let Some(part) = news.pop() {
-        if let Some(number) = numbers.pop() {
+        if let Some(number) = table.spare.pop() {
             table.put_in(number, part);
         }
     }
@@ -176,10 +157,9 @@ impl Change {
             mut table,
             gone,
             news,
-            numbers,
         } = self;
-        take_all(alloc, &mut table, gone, &numbers, &news);
-        put_all(&mut table, numbers, news);
+        take_all(alloc, &mut table, gone, &news);
+        put_all(&mut table, news);
         PartTable { table }
     }
 
@@ -187,7 +167,11 @@ impl Change {
     pub fn cancel(self) -> PartTable
         ensures { result ≡ self.before }
     {
-        let Change { table, .. } = self;
+        let Change {
+            table,
+            gone: _,
+            news: _,
+        } = self;
         PartTable { table }
     }
 }

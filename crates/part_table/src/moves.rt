@@ -1,4 +1,4 @@
-ghost use Rattle.std.specs.Prelude.{ℕ, ◌≡◌, ◌+◌, ◌<◌, ◌≤◌, List, length, insert, vec_len, vec_capacity, Contains, IsSome, None};
+ghost use Rattle.std.specs.Prelude.{ℕ, ◌≡◌, ◌+◌, ◌<◌, ◌≤◌, ◌++◌, ◌∷◌, [], List, length, insert, vec_len, vec_capacity, Contains, IsSome, None};
 ghost use Rattle.std.specs.List.{AllPairs};
 ghost use Rattle.std.specs.FinMap as finite;
 ghost use Rattle.object_lists.specs.Placed.{part_at};
@@ -47,11 +47,12 @@ fn give(index: &mut TextMap<Option<u32>>, names: &[Text], number: Option<u32>)
 }
 
 impl Table {
-    /// Takes a part away: its objects out of their list, and its names. Takes no memory, and looks at no other part but as it
-    /// searches for this one's place.
+    /// Takes a part away: its objects out of their list, and its names. Its number is spare then. Takes no memory, and looks at no
+    /// other part but as it searches for this one's place.
     pub(crate) fn take_out(&mut self, alloc: Global, number: u32)
         requires whole { IsWhole self.old }
         requires there { Contains self.old.order.items number }
+        requires space { vec_len self.old.spare < vec_capacity self.old.spare }
         ensures whole { IsWhole self.new }
         ensures without { IsWithout number self.old self.new }
     {
@@ -62,9 +63,10 @@ impl Table {
         self.lists.clear(number);
         give(&mut self.index, names.as_slice(), None);
         self.room -= room as u128;
+        push_within(&mut self.spare, number);
     }
 
-    /// Puts a part in under a number. Takes no memory.
+    /// Puts a part in under a number that isn't spare any more. Takes no memory.
     pub(crate) fn put_in(&mut self, number: u32, part: Part)
         requires whole { IsWhole self.old }
         requires fits { FitsIn self.old number part }
@@ -88,6 +90,18 @@ impl Table {
         self.heads.set(number as usize, head);
         self.room += room as u128;
         insert_within(&mut self.order, place, number);
+    }
+}
+
+/// Puts a number at the end of a list that has room for it.
+pub(crate) fn push_within(numbers: &mut Vec<u32>, number: u32)
+    requires { vec_len numbers.old < vec_capacity numbers.old }
+    ensures items { numbers.new.items ≡ numbers.old.items ++ number ∷ [] }
+    ensures len { vec_len numbers.new ≡ vec_len numbers.old + 1 }
+    ensures capacity { vec_capacity numbers.old ≤ vec_capacity numbers.new }
+{
+    if numbers.push(number).is_err() {
+        unreachable!()
     }
 }
 

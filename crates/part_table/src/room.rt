@@ -1,10 +1,9 @@
-ghost use Rattle.std.specs.Prelude.{ℕ, ◌≡◌, ◌+◌, ◌<◌, ◌≤◌, ◌++◌, ◌∷◌, [], All, List, length, map, vec_len, vec_capacity, Contains, IsSome, IfOk, OnOk, OnErr};
+ghost use Rattle.std.specs.Prelude.{ℕ, ◌≡◌, ◌+◌, ◌≤◌, List, length, vec_len, vec_capacity, Contains, IsSome, OnOk};
 ghost use Rattle.std.specs.FinMap as finite;
 ghost use Rattle.part_table.specs.declared.part.Part.{Part};
-ghost use Rattle.part_table.specs.Tables.{no_head, IsWhole};
-ghost use Rattle.part_table.specs.Moves.{KeepsNumbers, AreNext, IsWider};
+ghost use Rattle.part_table.specs.Moves.{KeepsNumbers, IsWider};
 
-use crate::moves::blank;
+use crate::moves::{blank, push_within};
 use crate::part::Part;
 use crate::table::Table;
 use plain_data::{Items, Text, TextMap};
@@ -39,16 +38,20 @@ fn know_all(
 }
 
 impl Table {
-    /// A number of no part. After an error nothing is changed.
-    fn add_number(&mut self, alloc: Global) -> Result<u32, AllocError>
+    /// One spare number more. After an error the parts are as they were.
+    fn add_number(&mut self, alloc: Global) -> Result<(), AllocError>
         requires { length self.old.heads ≡ self.old.lists.count }
-        ensures number { IfOk result (λ number. number ≡ self.old.lists.count) }
-        ensures ok { OnOk result (self.new ≡ record self.old { lists = record self.old.lists { count = self.old.lists.count + 1 }; heads = self.old.heads ++ no_head ∷ [] }) }
-        ensures err { OnErr result (self.new ≡ self.old) }
+        ensures ok { OnOk result (vec_len self.new.spare ≡ vec_len self.old.spare + 1) }
+        ensures wider { IsWider self.old self.new }
+        ensures order { self.new.order ≡ self.old.order }
     {
+        self.spare.reserve(1)?;
         self.heads.push(blank(alloc))?;
         match self.lists.add_list() {
-            Ok(number) => Ok(number),
+            Ok(number) => {
+                push_within(&mut self.spare, number);
+                Ok(())
+            }
             Err(error) => {
                 self.heads.pop();
                 Err(error)
@@ -56,33 +59,31 @@ impl Table {
         }
     }
 
-    /// So many numbers of no part.
-    fn add_numbers(&mut self, alloc: Global, count: usize) -> Result<Items<u32>, AllocError>
+    /// So many spare numbers at the least. After an error the parts are as they were.
+    fn add_numbers(&mut self, alloc: Global, count: usize) -> Result<(), AllocError>
         requires { length self.old.heads ≡ self.old.lists.count }
-        ensures numbers { IfOk result (λ numbers. AreNext self.old.lists.count count numbers) }
-        ensures within { OnOk result (self.new.lists.count ≡ self.old.lists.count + count) }
+        ensures ok { OnOk result (count ≤ vec_len self.new.spare) }
         ensures wider { IsWider self.old self.new }
         ensures order { self.new.order ≡ self.old.order }
     {
-        let mut numbers = Items::new(alloc);
-        for _ in 0..count {
-            let number = self.add_number(alloc)?;
-            numbers.push(number)?;
+        while self.spare.len() < count {
+            self.add_number(alloc)?;
         }
-        Ok(numbers)
+        Ok(())
     }
 
-    /// Takes all memory for these parts to come, with objects below that address, and answers their numbers. After an error the parts
-    /// are as they were.
+    /// Takes all memory for these parts to come, with objects below that address, and for so many parts to go before. After an error
+    /// the parts are as they were.
     pub(crate) fn make_room(
         &mut self,
         alloc: Global,
+        gone: usize,
         parts: &[Part],
         objects: usize,
-    ) -> Result<Items<u32>, AllocError>
+    ) -> Result<(), AllocError>
         requires { length self.old.heads ≡ self.old.lists.count }
-        ensures numbers { IfOk result (λ numbers. AreNext self.old.lists.count (length parts.now) numbers) }
-        ensures within { OnOk result (self.new.lists.count ≡ self.old.lists.count + length parts.now) }
+        ensures enough { OnOk result (length parts.now ≤ vec_len self.new.spare) }
+        ensures space { OnOk result (vec_len self.new.spare + gone ≤ vec_capacity self.new.spare) }
         ensures objects { OnOk result (objects ≤ length self.new.lists.parts) }
         ensures capacity { OnOk result (vec_len self.new.order + length parts.now ≤ vec_capacity self.new.order) }
         ensures known { OnOk result ((p : Part) (x : List ℕ) → Contains parts.now p → Contains p.names x → IsSome (finite.get self.new.index x)) }
@@ -91,6 +92,7 @@ impl Table {
         know_all(alloc, &mut self.index, parts)?;
         self.lists.grow_to(objects)?;
         self.order.reserve(parts.len())?;
-        self.add_numbers(alloc, parts.len())
+        self.add_numbers(alloc, parts.len())?;
+        self.spare.reserve(gone)
     }
 }
