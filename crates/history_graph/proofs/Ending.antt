@@ -16,7 +16,7 @@ use Rattle.graph_model.specs.declared.graph.Graph.{Graph}
 use Rattle.graph_model.specs.Faults.{TextBelow, least_name}
 use Rattle.part_table.specs.declared.part.Part.{Part}
 use Rattle.linked_parts.specs.PartList.{PartList}
-use Rattle.linked_parts.specs.Parts.{HasValue, HasNone, IsPart, IsPartOf, ArePartsOf}
+use Rattle.linked_parts.specs.Parts.{HasValue, HasNone, IsPart, IsPartOf, ArePartsIn, ArePartsOf}
 use Rattle.linked_parts.proofs.Lists.{below_on, never_below_itself}
 use Rattle.linked_parts.proofs.Names.{linked_values, reaches_value}
 use Rattle.run_graph.specs.Parts.{HasHandle}
@@ -40,7 +40,7 @@ use Rattle.history_graph.proofs.Leaving.{zip_back, zip_forth, zip_ascends, least
 -- what the call found and made
 pub record Ended (h : History) (s : State) (code : List ℕ) (meter steps : ℕ) (marks : Marks) (k : Graph) : Type 0 where
   pub now : PartList
-  pub are : ArePartsOf s now
+  pub are : ArePartsIn s now.list
   pub heads : Heads
   pub left : (t : State) → ArePartsOf t h.parts → AreHeads h.parts now marks s heads
   pub cell : CellRecord

@@ -19,6 +19,7 @@ use Rattle.linked_parts.proofs.Lists.{cons_cases}
 use Rattle.history_graph.specs.declared.heads.Left.{Left}
 use Rattle.history_graph.specs.declared.heads.Left.TheVariants as left
 use Rattle.history_graph.specs.Left.{Heads, AreHeads, IsOfLeft, AreOfLeft}
+use Rattle.history_graph.proofs.Heading.{get_front}
 use Rattle.history_graph.proofs.Keys.{of_keys}
 
 -- ---- lists with a partner for each
@@ -60,6 +61,21 @@ module _ (s : State) (now : PartList) (w : ℕ) (heads : Heads) (names : List Na
   left_more one x e is =
       let R : Name → Version → Type 0 = λ n y. IsOfLeft s now w n (finite.get heads n) y in
       zip_more R names i name news x l at h (subst (λ o. IsOfLeft s now w name o x) (sym e) is)
+
+-- ---- with more parts after those that come
+
+left_on : (s : State) (news stay : List Part) (w : ℕ) (name : Name) (o : Option Left) (x : Version) → IsOfLeft s (record { list = news }) w name o x
+    → IsOfLeft s (record { list = news ++ stay }) w name o x
+left_on s news stay w name (Some (left.Part n)) x is = (is.0, get_front news stay n is.0 is.1, is.2)
+left_on s news stay w name (Some left.Gone) x is = is
+left_on s news stay w name None x is = is
+
+pub all_left_on : (s : State) (news stay : List Part) (w : ℕ) (heads : Heads) (names : List Name) (versions : List Version) → AreOfLeft s (record { list = news }) w heads names versions
+    → AreOfLeft s (record { list = news ++ stay }) w heads names versions
+all_left_on s news stay w heads [] [] z = z
+all_left_on s news stay w heads [] (y ∷ ys) z = absurd z
+all_left_on s news stay w heads (x ∷ xs) [] z = absurd z
+all_left_on s news stay w heads (x ∷ xs) (y ∷ ys) z = (left_on s news stay w x (finite.get heads x) y z.0, all_left_on s news stay w heads xs ys z.1)
 
 -- a name under which something was left has it
 pub no_head : (heads : Heads) (names : List Name) (name : Name) → names ≡ finite.keys heads → Contains names name → finite.get heads name ≡ None → ⊥

@@ -1,5 +1,5 @@
 -- What a cell left: parts that it wrote, and names that it deleted.
-use Rattle.std.specs.Prelude.{◌≡◌, ℕ, ◌<◌, ◌⊎◌, true, false, cond, List, [], ◌∷◌, Contains, length, Option, Some, None, slice_get, ◌^◌}
+use Rattle.std.specs.Prelude.{◌≡◌, ℕ, ◌<◌, ◌⊎◌, true, false, cond, List, [], ◌∷◌, ◌++◌, Contains, length, Option, Some, None, slice_get, ◌^◌}
 use Rattle.std.specs.List.{AllZip}
 use Rattle.std.specs.FinMap as finite
 use Rattle.std.specs.FinMap.{FinMap}
@@ -12,11 +12,19 @@ use Rattle.graph_model.specs.declared.graph.Version.{Version}
 use Rattle.graph_model.specs.Faults.{least_name}
 use Rattle.part_table.specs.declared.part.Part.{Part}
 use Rattle.linked_parts.specs.PartList.{PartList}
+use Rattle.linked_parts.specs.Changing.{Changing}
 use Rattle.linked_parts.specs.Parts.{HasNone}
 use Rattle.part_bytes.specs.Texts.{part_text}
 use Rattle.history_graph.specs.declared.heads.Left.{Left}
 use Rattle.history_graph.specs.declared.heads.Left.TheVariants as left
 use Rattle.history_graph.specs.Written.{Writes, Keeps}
+
+-- the parts that come with a change, and those with the parts that stay
+abbrev pub news_of : Changing → PartList
+news_of change = record { list = change.news }
+
+abbrev pub parts_then : Changing → PartList
+parts_then change = record { list = change.news ++ change.stay }
 
 -- what a cell left, by the least names
 abbrev pub Heads : Type 0

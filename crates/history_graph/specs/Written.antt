@@ -1,12 +1,7 @@
 -- Which parts a cell wrote, by its marks and the parts before it.
-use Rattle.std.specs.Prelude.{◌≡◌, ℕ, ◌<◌, ◌⊎◌, Bool, true, false, List, Contains, Some, is_some, slice_get}
-use Rattle.std.specs.FinMap as finite
-use Rattle.std.specs.FinMap.{FinMap}
-use Rattle.std.specs.Ordering.{nat_cmp}
-use Rattle.std.specs.Cmp.Lexicographic.{slice_cmp}
+use Rattle.std.specs.Prelude.{◌≡◌, ℕ, ◌⊎◌, Bool, true, false, List, Contains}
 use Rattle.py_machine.specs.declared.marks.Marks.{Marks}
 use Rattle.py_machine.specs.Marked.{Name, IsIn}
-use Rattle.graph_model.specs.Faults.{least_name}
 use Rattle.part_table.specs.declared.part.Part.{Part}
 use Rattle.linked_parts.specs.PartList.{PartList}
 
@@ -31,11 +26,3 @@ pub record Keeps (before : PartList) (marks : Marks) (p : Part) : Type 0 where
 abbrev pub IsSorted : PartList → Marks → Part → Bool → Type 0
 IsSorted before marks p true = Writes before marks p
 IsSorted before marks p false = Keeps before marks p
-
-abbrev pub Numbered : Type 0
-Numbered = FinMap (slice_cmp nat_cmp) ℕ
-
--- the first parts, as many as the count, by their least names
-pub record IsByLeast (parts : PartList) (count : ℕ) (index : Numbered) : Type 0 where
-  pub found : (name : Name) (n : ℕ) → finite.get index name ≡ Some n → (q : Part) × (slice_get parts.list n ≡ Some q) × (least_name q.names ≡ name)
-  pub has : (n : ℕ) (q : Part) → n < count → slice_get parts.list n ≡ Some q → is_some (finite.get index (least_name q.names)) ≡ true
