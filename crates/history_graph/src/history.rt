@@ -9,7 +9,7 @@ ghost use Rattle.history_graph.specs.Tallies.{OnTally, IsOver, IsFirstOver};
 ghost use Rattle.history_graph.specs.Ends.{Makes, LedTo};
 
 use crate::active::ActiveGraph;
-use crate::ending::end_with;
+use crate::cell_end::end_with;
 use crate::fault::HistoryFault;
 use graph_model::Graph;
 use linked_parts::Parts;

@@ -7,7 +7,7 @@
 #![tactic(auto)]
 
 mod active;
-mod ending;
+mod cell_end;
 mod fault;
 mod growth;
 mod heads;
