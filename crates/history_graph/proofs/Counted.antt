@@ -30,7 +30,7 @@ use Rattle.history_graph.specs.Sets.{Names}
 use Rattle.history_graph.specs.Texts.{IsOfPair, HasText, IsNamed, HasTextAt, HasTextIn, IsTextIn, IsCodeOf, IsNumberOfTexts, HasManyTexts, OneHas, IsWithAll, AreAtMost}
 use Rattle.history_graph.proofs.Amounts.{at_most_so_many, most_of, most_both, most_one, most_items}
 use Rattle.history_graph.proofs.Items.{with_both}
-use Rattle.history_graph.proofs.Keys.{keys_ascend, in_keys, of_keys}
+use Rattle.linked_parts.proofs.Keys.{keys_ascend, in_keys, of_keys}
 
 -- ---- a text for each item of a list, and two for each pair of a dict
 

@@ -34,7 +34,7 @@ use Rattle.history_graph.specs.Left.{Heads, AreHeads, part_size, IsOfPart, IsOfG
 use Rattle.history_graph.specs.Grown.{IsGrown}
 use Rattle.history_graph.specs.Ends.{IsCellOf, StandsAfter}
 use Rattle.history_graph.proofs.Bridge.{to_part, of_part, handle_held, part_renamed, handle_renamed}
-use Rattle.history_graph.proofs.Keys.{keys_ascend, in_keys}
+use Rattle.linked_parts.proofs.Keys.{keys_ascend, in_keys}
 use Rattle.history_graph.proofs.Leaving.{zip_back, zip_forth, zip_ascends, least_is}
 
 -- what the call found and made

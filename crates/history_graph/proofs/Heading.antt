@@ -22,7 +22,7 @@ use Rattle.history_graph.specs.declared.heads.Left.{Left}
 use Rattle.history_graph.specs.declared.heads.Left.TheVariants as left
 use Rattle.history_graph.specs.Written.{Writes, Keeps}
 use Rattle.history_graph.specs.Left.{Heads, ArePartHeads, AddsGone, AreHeads, AreWithin}
-use Rattle.history_graph.proofs.Keys.{got_here, got_there, in_keys, of_keys}
+use Rattle.linked_parts.proofs.Keys.{got_here, got_there, in_keys, of_keys}
 use Rattle.history_graph.proofs.Least.{not_below, ordered}
 use Rattle.history_graph.proofs.Adding.{shorter, earlier, here_too}
 

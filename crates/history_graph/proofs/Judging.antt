@@ -32,7 +32,7 @@ use Rattle.history_graph.specs.Room.{IsFirstWith}
 use Rattle.history_graph.proofs.Bridge.{handle_held}
 use Rattle.history_graph.proofs.Ending.{same_names}
 use Rattle.history_graph.proofs.Heading.{least_value}
-use Rattle.history_graph.proofs.Keys.{keys_ascend, in_keys, of_keys}
+use Rattle.linked_parts.proofs.Keys.{keys_ascend, in_keys, of_keys}
 use Rattle.history_graph.proofs.Leaving.{zip_forth}
 
 module _ (h : History) (s : State) (code : List ℕ) (marks : Marks) (now : PartList) (are : ArePartsIn s now.list) (heads : Heads) (left : AreHeads h.parts now marks s heads) where

@@ -20,7 +20,7 @@ use Rattle.history_graph.specs.declared.heads.Left.{Left}
 use Rattle.history_graph.specs.declared.heads.Left.TheVariants as left
 use Rattle.history_graph.specs.Left.{Heads, AreHeads, IsOfLeft, AreOfLeft}
 use Rattle.history_graph.proofs.Heading.{get_front}
-use Rattle.history_graph.proofs.Keys.{of_keys}
+use Rattle.linked_parts.proofs.Keys.{of_keys}
 
 -- ---- lists with a partner for each
 

@@ -27,6 +27,11 @@
 //!
 //!       not restored: cell 1 draws again
 //!
+//! - `parts`, of any value. Then the parts after each cell are printed alone: the names of each, and the number of its objects. A line
+//!   says too if the parts that are found in the whole state are others.
+//!
+//!       after cell 2: a, b 3; c 0
+//!
 //! A line may also be an object with `read`, the bytes of a checkpoint in hexadecimal digits. Then one line says what they are read as,
 //! or the first byte, version or cell by which they are no checkpoint:
 //!
@@ -35,9 +40,10 @@
 #![tactic(auto)]
 
 ghost use Rattle.std.specs.Prelude.{OnOk};
-ghost use Rattle.py_heap.specs.References.{IsClosed};
+ghost use Rattle.history_show.specs.Shown.{HasParts};
 
 mod given;
+mod parts;
 mod plans;
 mod reading;
 mod session;
@@ -45,6 +51,7 @@ mod words;
 
 use anyhow::{Result, bail};
 use given::{bytes_of, feed_of, weights_of};
+use parts::put_parts;
 use plain_data::Text;
 use plans::put_checkpoint;
 use reading::read_text;
@@ -55,10 +62,16 @@ use std::alloc::Global;
 use std::io::{BufRead, BufReader};
 use words::graph_text;
 
-/// Runs these cells in a session, if there are any.
-fn run_cells(alloc: Global, session: &mut ShownSession, cells: Option<&Value>) -> Result<()>
-    requires { IsClosed session.old.kernel.state }
-    ensures { OnOk result (IsClosed session.new.kernel.state) }
+/// Runs these cells in a session, if there are any. If parts are asked for, the line of those after each is added to the text.
+fn run_cells(
+    alloc: Global,
+    session: &mut ShownSession,
+    cells: Option<&Value>,
+    asked: bool,
+    parts: &mut Text,
+) -> Result<()>
+    requires { HasParts session.old.kernel.state session.old.history }
+    ensures { OnOk result (HasParts session.new.kernel.state session.new.history) }
 {
     let Some(cells) = cells else {
         return Ok(());
@@ -66,11 +79,17 @@ fn run_cells(alloc: Global, session: &mut ShownSession, cells: Option<&Value>) -
     let Some(codes) = cells.as_array() else {
         bail!("the cells are no array of codes")
     };
+    let mut cell = 0u32;
     for code in codes.as_slice() {
         let Some(code) = code.as_str() else {
             bail!("a code is no text")
         };
         session.end(alloc, code)?;
+        cell = cell.saturating_add(1);
+        if asked {
+            let state = &session.kernel.state;
+            put_parts(alloc, parts, cell, &session.history.parts, state)?;
+        }
     }
     Ok(())
 }
@@ -80,14 +99,19 @@ fn shown_after(
     alloc: Global,
     mut session: ShownSession,
     cells: Option<&Value>,
-    weights: Option<&Value>,
+    line: &Value,
 ) -> Result<Text>
-    requires { IsClosed session.kernel.state }
+    requires { HasParts session.kernel.state session.history }
 {
-    run_cells(alloc, &mut session, cells)?;
+    let asked = line.get("parts").is_some();
+    let mut parts = Text::new(alloc, "")?;
+    run_cells(alloc, &mut session, cells, asked, &mut parts)?;
+    if asked {
+        return Ok(parts);
+    }
     let graph = session.history.graph();
     let mut text = graph_text(alloc, graph)?;
-    if let Some(weights) = weights {
+    if let Some(weights) = line.get("weights") {
         let weights = weights_of(weights)?;
         put_checkpoint(alloc, &mut text, &session.kernel.state, graph, &weights)?;
     }
@@ -101,14 +125,13 @@ fn shown(alloc: Global, line: &Value) -> Result<Text> {
     }
     let feed = feed_of(alloc, line)?;
     let cells = line.get("cells");
-    let weights = line.get("weights");
     let Some(checkpoint) = line.get("checkpoint") else {
         let cells = cells.unwrap_or(line);
-        return shown_after(alloc, ShownSession::new(alloc, feed), Some(cells), weights);
+        return shown_after(alloc, ShownSession::new(alloc, feed), Some(cells), line);
     };
     let bytes = bytes_of(alloc, checkpoint)?;
     match ShownSession::restored(alloc, bytes.as_slice(), feed) {
-        Ok(session) => shown_after(alloc, session, cells, weights),
+        Ok(session) => shown_after(alloc, session, cells, line),
         Err(RestoreFault::OutOfMemory) => bail!("out of memory"),
         Err(fault) => Ok(Text::from_string(format!(in alloc; "not restored: {fault}\n")?)),
     }

@@ -1,7 +1,11 @@
 ghost use Rattle.std.specs.Prelude.{IfOk, OnOk};
 ghost use Rattle.py_heap.specs.References.{IsClosed};
+ghost use Rattle.linked_parts.specs.After.{IsAfter};
+ghost use Rattle.history_graph.specs.declared.history.History.{History};
+ghost use Rattle.history_show.specs.Shown.{HasParts};
 
 use history_graph::{History, HistoryFault};
+use linked_parts::the_count_is_no_matter_to_parts;
 use nb_outside::MemFeed;
 use py_heap::operations_keep_closed;
 use py_kernel::Kernel;
@@ -10,6 +14,7 @@ use py_machine::Marks;
 use py_meaning::CellEnd;
 use py_reader::{ReadError, read_cell};
 use restore_run::{RestoreFault, Restored, restore};
+use run_graph::marks_tell_what_a_cell_leaves;
 use std::alloc::{AllocError, Global};
 
 /// What is kept of a cell that ended.
@@ -27,9 +32,11 @@ fn run(
     feed: &mut MemFeed,
 ) -> Result<Ended, AllocError>
     requires { IsClosed kernel.old.state }
-    ensures { OnOk result (IsClosed kernel.new.state) }
+    ensures closed { OnOk result (IsClosed kernel.new.state) }
+    ensures after { IfOk result (λ ended. IsAfter kernel.old.state ended.marks kernel.new.state) }
 {
     cells_keep_states_closed();
+    marks_tell_what_a_cell_leaves();
     match read_cell(alloc, code) {
         Ok(tree) => {
             let end = kernel.run_cell(alloc, tree.body.as_slice(), feed)?;
@@ -54,9 +61,11 @@ fn run(
 /// Raises the count of a session.
 fn raise_count(kernel: &mut Kernel)
     requires { IsClosed kernel.old.state }
-    ensures { IsClosed kernel.new.state }
+    ensures closed { IsClosed kernel.new.state }
+    ensures parts { (h : History) → HasParts kernel.old.state h → HasParts kernel.new.state h }
 {
     operations_keep_closed();
+    the_count_is_no_matter_to_parts();
     let count = kernel.state.count().saturating_add(1);
     kernel.state.set_count(count);
 }
@@ -72,7 +81,7 @@ pub struct ShownSession {
 impl ShownSession {
     /// One without cells, which draws from this feed.
     pub fn new(alloc: Global, feed: MemFeed) -> ShownSession
-        ensures { IsClosed result.kernel.state }
+        ensures { HasParts result.kernel.state result.history }
     {
         operations_keep_closed();
         ShownSession {
@@ -88,7 +97,7 @@ impl ShownSession {
         bytes: &[u8],
         feed: MemFeed,
     ) -> Result<ShownSession, RestoreFault>
-        ensures { IfOk result (λ session. IsClosed session.kernel.state) }
+        ensures { IfOk result (λ session. HasParts session.kernel.state session.history) }
     {
         let restored = restore(alloc, bytes, 0)?;
         let Restored {
@@ -105,8 +114,8 @@ impl ShownSession {
 
     /// Raises the session's count, runs a cell, and adds it to the history.
     pub fn end(&mut self, alloc: Global, code: &str) -> Result<(), HistoryFault>
-        requires { IsClosed self.old.kernel.state }
-        ensures { OnOk result (IsClosed self.new.kernel.state) }
+        requires { HasParts self.old.kernel.state self.old.history }
+        ensures { OnOk result (HasParts self.new.kernel.state self.new.history) }
     {
         raise_count(&mut self.kernel);
         let meter = self.kernel.state.meter();

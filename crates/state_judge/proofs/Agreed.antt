@@ -28,7 +28,7 @@ use Rattle.part_bytes.specs.Texts.{part_text}
 use Rattle.history_graph.specs.Written.{WasPart, Numbered, IsByLeast}
 use Rattle.history_graph.specs.Sets.{Names, Has, IsWith}
 use Rattle.history_graph.proofs.Bridge.{handle_held}
-use Rattle.history_graph.proofs.Keys.{keys_ascend, in_keys, of_keys}
+use Rattle.linked_parts.proofs.Keys.{keys_ascend, in_keys, of_keys}
 use Rattle.history_graph.proofs.Ending.{was_one}
 use Rattle.history_graph.proofs.Least.{was_found}
 use Rattle.part_bytes.specs.Sizing.{holds_handle, have_values, size_of}

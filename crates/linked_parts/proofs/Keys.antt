@@ -15,7 +15,8 @@ use Rattle.std.proofs.lemmas.List.Elements.{All-nil, All-cons}
 use Rattle.std.proofs.lemmas.List.Kept.{AllPairs-cons}
 use Rattle.std.proofs.lemmas.Map.Views.{Contains-from_any, list_any-from_Contains}
 use Rattle.py_machine.specs.Marked.{Name}
-use Rattle.py_laws.proofs.Members.{name_itself, other_name}
+use Rattle.py_machine.proofs.Sets.{names_antisymmetric}
+use Rattle.py_machine.proofs.Sets as sets
 use Rattle.graph_model.specs.Faults.{TextBelow, Ascends}
 use Rattle.linked_parts.proofs.Lists.{ascends_by_pairs}
 
@@ -73,7 +74,7 @@ module _ {V : Type 0} (m : FinMap (slice_cmp nat_cmp) V) (k q : Name) (v : V) wh
   there_by true e = absurd (false≢true (sym e))
 
   pub got_here : k ≡ q → finite.get (finite.insert m k v) q ≡ Some v
-  got_here e = finite.get-insert nat_list_cmp_total m k v q ∙ here_by (eq_by_cmp (slice_cmp nat_cmp) q k) (subst (λ z. eq_by_cmp (slice_cmp nat_cmp) z k ≡ true) e (name_itself k))
+  got_here e = finite.get-insert nat_list_cmp_total m k v q ∙ here_by (eq_by_cmp (slice_cmp nat_cmp) q k) (subst (λ z. eq_by_cmp (slice_cmp nat_cmp) z k ≡ true) e (sets.itself nat_list_cmp_total names_antisymmetric k))
 
   pub got_there : (k ≡ q → ⊥) → finite.get (finite.insert m k v) q ≡ finite.get m q
-  got_there n = finite.get-insert nat_list_cmp_total m k v q ∙ there_by (eq_by_cmp (slice_cmp nat_cmp) q k) (other_name q k (λ e. n (sym e)))
+  got_there n = finite.get-insert nat_list_cmp_total m k v q ∙ there_by (eq_by_cmp (slice_cmp nat_cmp) q k) (sets.other nat_list_cmp_total names_antisymmetric q k (λ e. n (sym e)))
