@@ -2,7 +2,8 @@
 use Rattle.std.proofs.Common.{◌≡◌, ℕ, ◌+◌, ◌<◌, ◌≤◌, List, [], ◌∷◌, ◌++◌, length, get_or, take, Option, Some, None, is_some, Bor, refl, sym, ap, ◌∙◌, ◌⊎◌, inl, inr, subst, arith, take_all}
 use Rattle.std.specs.Prelude.{Contains, slice_get, ◌↔◌}
 use Rattle.std.specs.Option.{option_copied}
-use Rattle.std.specs.Cmp.Lexicographic.{nat_list_cmp_total}
+use Rattle.std.specs.Ordering.{nat_cmp}
+use Rattle.std.specs.Cmp.Lexicographic.{slice_cmp, nat_list_cmp_total}
 use Rattle.std.specs.FinMap as finite
 use Rattle.std.proofs.lemmas.Bool.{false≢true}
 use Rattle.std.proofs.lemmas.Option.{none-some, same_Some}
@@ -21,6 +22,9 @@ use Rattle.linked_parts.specs.After.{IsMarked}
 use Rattle.linked_parts.specs.Marking.{Names, AddsValued, AddsPlaces, IsMarkedAt, IsNear}
 use Rattle.linked_parts.proofs.Lists.{none_in}
 use Rattle.linked_parts.proofs.Keys.{in_keys, of_keys}
+
+pub no_member : (x : Name) → IsIn (finite.empty {R = slice_cmp nat_cmp}) x → ⊥
+no_member x i = sets.none_in nat_list_cmp_total names_antisymmetric x i
 
 -- ---- what a look gave
 

@@ -17,12 +17,12 @@ use Rattle.linked_parts.specs.Parts.{HasValue, Linked, shared, IsPartOf, LeastBe
 use Rattle.linked_parts.specs.After.{IsMarked, IsAfter}
 use Rattle.linked_parts.specs.Touched.{IsTouched, IsSpared}
 use Rattle.linked_parts.specs.Marking.{IsMarkedAt, IsNear}
-use Rattle.linked_parts.specs.Told.{told, AreTouched}
+use Rattle.linked_parts.specs.Told.{told, AreSome, AreTouched}
 use Rattle.linked_parts.proofs.Lists.{none_in, never_below_itself, least_there}
 use Rattle.linked_parts.proofs.Names.{linked_values}
 use Rattle.linked_parts.proofs.Staying.{reached_live, reach_of_one, all_untouched}
 use Rattle.linked_parts.proofs.Mending.{new_part, new_touched, old_part, part_with}
-use Rattle.linked_parts.proofs.Telling.{told_closed, touched_only}
+use Rattle.linked_parts.proofs.Telling.{told_closed, touched_some, touched_only}
 use Rattle.linked_parts.proofs.Unique.{pairs_ascend, below_parts, same_part}
 
 place_of : (ps : List Part) (p : Part) (h : Contains ps p) → slice_get ps h.0 ≡ Some p
@@ -206,3 +206,17 @@ module _ (S E : State) (marks : Marks) (closed : IsClosed S) (a : IsAfter S mark
                   w.2,
                 );
           }
+
+  -- ---- what was found
+
+  module _ (places : List ℕ) (each : AllPairs (λ j k. j < k) places) (at : (k : ℕ) → Contains places k ↔ IsMarkedAt P.list marks k) (names : List Name) (ascends : Ascends TextBelow names)
+      (members : (x : Name) → Contains names x ↔ (HasValue E x × IsNear P.list marks x)) (closed_after : IsClosed E) where
+    pub found_some : AreSome E names
+    found_some = touched_some S E marks names (are_touched names ascends members)
+
+    module _ (list : List Part) (news : ArePartsOf (told names E) (record { list = list })) where
+      pub found_come : MayCome P.list places list (length E.heap)
+      found_come = may_come places at each names (are_touched names ascends members) closed_after (record { list = list }) news
+
+      pub found_all : (stay : List Part) → ((p : Part) → Contains stay p ↔ (Contains P.list p × IsSpared marks p)) → ArePartsIn E (list ++ stay)
+      found_all = all_parts places at each names (are_touched names ascends members) closed_after (record { list = list }) news

@@ -1,6 +1,6 @@
 -- Lists of names and numbers: what they have, and the least of names that ascend.
 use Rattle.std.proofs.Common.{◌≡◌, ℕ, zero, suc, ◌+◌, ◌<◌, List, [], ◌∷◌, length, get_or, refl, sym, ap, ◌∙◌, ◌⊎◌, inl, inr, subst, arith}
-use Rattle.std.specs.Prelude.{Contains}
+use Rattle.std.specs.Prelude.{Contains, Some, slice_get}
 use Rattle.std.specs.List.{AllPairs, sum_by}
 use Rattle.std.proofs.lemmas.List.Sums.{sum_by-cons}
 use Rattle.std.specs.Cmp.Lexicographic.{nat_list_cmp_total}
@@ -26,6 +26,11 @@ module _ {X : Type 0} where
 
   pub one_in : (y x : X) → Contains (y ∷ []) x → y ≡ x
   one_in y x h = elim (cons_cases y [] x h) [ inl e ↦ e | inr none ↦ absurd (none_in x none) ]
+
+  pub item_at : (xs : List X) (k : ℕ) → k < length xs → (x : X) × (slice_get xs k ≡ Some x)
+  item_at [] k l = absurd (omega arith)
+  item_at (x ∷ xs) zero l = (x, refl)
+  item_at (x ∷ xs) (suc k) l = item_at xs k (omega arith)
 
   -- if each comes before all later ones, each comes before the next
   pub ascends_by_pairs : (Below : X → X → Type 0) (xs : List X) → AllPairs Below xs → Ascends Below xs
