@@ -3,5 +3,4 @@ pub mod Passing
 pub mod Referring
 pub mod Undrawn
 pub mod Walking
-pub mod OneParts
 pub mod OneWay
