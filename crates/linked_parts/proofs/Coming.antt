@@ -72,7 +72,7 @@ module _ (s : State) (parts : PartList) (are : ArePartsOf s parts) where
   -- they may come where there are none
   pub all_come : IsClosed s → MayCome [] [] parts.list (length s.heap)
   all_come closed = record {
-    places = λ i j d l k. absurd (let none : j < 0 = k in omega arith);
+    ascends = λ i j d l k. absurd (let none : j < 0 = k in omega arith);
     there = λ k h. absurd (none_in k h);
     orderly = all_orderly;
     apart = all_apart;
@@ -166,7 +166,7 @@ module _ (S E : State) (marks : Marks) (closed : IsClosed S) (a : IsAfter S mark
       -- the parts of the touched names may come in place of those that were marked
       pub may_come : MayCome P.list places Q.list (length E.heap)
       may_come = record {
-        places = each;
+        ascends = each;
         there = λ k h.
             let marked : IsMarkedAt P.list marks k = (at k).0 h in
             let of_x : HasNameAt P.list k marked.0 = marked.2 in

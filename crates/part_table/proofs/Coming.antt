@@ -16,16 +16,10 @@ use Rattle.part_table.specs.declared.table.Table.{Table}
 use Rattle.part_table.specs.Tables.{Name, Numbers, objects_from, no_head, head_at, names_at, least_at, room_at, part_of, IsTable, IsInOrder, IsIndex, IsSpare, IsWhole}
 use Rattle.part_table.specs.Places.{IsPlace}
 use Rattle.part_table.specs.Moves.{IsFilled, AreGiven, FitsIn}
-use Rattle.part_table.proofs.Lists.{has_number, inserted_cases, inserted_new, inserted_old, inserted_pairs, sum_on, pairs_on}
+use Rattle.part_table.proofs.Lists.{free_apart, one_number, has_number, inserted_cases, inserted_new, inserted_old, inserted_pairs, sum_on, pairs_on}
 use Rattle.part_table.proofs.Objects.{objects_members, objects_sorted, objects_alike, sorted_same}
 use Rattle.part_table.proofs.Orders.{below_cases}
 use Rattle.part_table.proofs.Wholes.{whole_by}
-
-known_apart : (n : ℕ) → Some {T = Option ℕ} None ≡ Some (Some n) → ⊥
-known_apart n e = cc
-
-number_same : (m n : ℕ) → Some {T = Option ℕ} (Some m) ≡ Some (Some n) → m ≡ n
-number_same m n e = cc
 
 module _ (t : Table) (whole : IsWhole t) (number : ℕ) (p : Part) (fits : FitsIn t number p) (place : ℕ) (at_place : IsPlace t.heads t.order.items (least_name p.names) place)
     (room_small : p.room < 2 ^ 64) where
@@ -45,7 +39,7 @@ module _ (t : Table) (whole : IsWhole t) (number : ℕ) (p : Part) (fits : FitsI
   not_old n h e = fits.fresh (subst (Contains order) e h)
 
   number_in : number < length t.heads
-  number_in = let l = fits.number in let c = whole.table.count in omega (arith, l, c)
+  number_in = let l = fits.listed in let c = whole.table.count in omega (arith, l, c)
 
   head_here : head_at heads number ≡ head
   head_here = get_or-set_same t.heads number head no_head number_in
@@ -68,7 +62,7 @@ module _ (t : Table) (whole : IsWhole t) (number : ℕ) (p : Part) (fits : FitsI
   other_least : (n : ℕ) → Contains order n → least_at t.heads n ≢ least_name p.names
   other_least n h e =
       let was : finite.get t.index (least_name p.names) ≡ Some (Some n) = subst (λ x. finite.get t.index x ≡ Some (Some n)) e (whole.index.has n (least_at t.heads n) h (whole.named n h)) in
-      known_apart n (sym (fits.known (least_name p.names) fits.named) ∙ was)
+      free_apart n (finite.get t.index (least_name p.names)) (fits.known (least_name p.names) fits.named) was
 
   new_order : IsInOrder heads more
   new_order =
@@ -134,7 +128,7 @@ module _ (t : Table) (whole : IsWhole t) (number : ℕ) (p : Part) (fits : FitsI
     new_table = record {
       count = length-set t.heads number head ∙ (whole.table.count ∙ sym f.count);
       within = λ n h. elim ((members n).0 h) [
-        | inl e ↦ let l = fits.number in omega (arith, e, l, f.count)
+        | inl e ↦ let l = fits.listed in omega (arith, e, l, f.count)
         | inr k ↦ let l = whole.table.within n k in omega (arith, l, f.count)
       ];
       once = inserted_pairs (λ m n. m ≢ n) order place number at_place.within whole.table.once
@@ -171,13 +165,13 @@ module _ (t : Table) (whole : IsWhole t) (number : ℕ) (p : Part) (fits : FitsI
           | inr old ↦
               let was = whole.index.has n x old (subst (λ (z : Head). Contains z.names x) (head_same n (not_old n old)) k) in
               elim (g x) [
-                | inl a ↦ absurd (known_apart n (sym (fits.known x a.0) ∙ was))
+                | inl a ↦ absurd (free_apart n (finite.get t.index x) (fits.known x a.0) was)
                 | inr b ↦ b.1 ∙ was
               ]
         ];
         only = λ n x e. elim (g x) [
           | inl a ↦
-              let same : n ≡ number = number_same n number (sym e ∙ a.1) in
+              let same : n ≡ number = one_number n number (finite.get index x) e a.1 in
               ((members n).1 (inl same), subst (λ (z : Head). Contains z.names x) (sym (ap (head_at heads) same ∙ head_here)) a.0)
           | inr b ↦
               let w = whole.index.only n x (sym b.1 ∙ e) in

@@ -8,11 +8,12 @@ use Rattle.std.specs.Cmp.{eq_by_cmp_equiv}
 use Rattle.std.specs.Cmp.Lexicographic.{slice_cmp, nat_list_cmp_total}
 use Rattle.std.specs.FinMap as finite
 use Rattle.std.proofs.lemmas.Bool.{false≢true}
+use Rattle.std.proofs.lemmas.Option.{none-some}
 use Rattle.std.proofs.lemmas.List.{take_more, get_or_default}
 use Rattle.std.proofs.lemmas.List.Elements.{Contains-append_cases, Contains-append_left, Contains-push}
 use Rattle.part_table.specs.Tables.{Name, Numbers}
 use Rattle.part_table.specs.Moves.{AreGiven, KeepsNumbers}
-use Rattle.part_table.proofs.Lists.{bool_cases, none_in, cons_cases}
+use Rattle.part_table.proofs.Lists.{free_apart, bool_cases, none_in, cons_cases}
 use Rattle.part_table.proofs.Orders.{same_name}
 
 is_equal : (o : Ordering) → is_eq o ≡ true → o ≡ Equal
@@ -119,20 +120,14 @@ keeps_known old now k x some = elim (k x) [
 ]
 
 -- and has the number that it had, if it has one
-some_apart : (n : ℕ) → Some {T = Option ℕ} None ≡ Some (Some n) → ⊥
-some_apart n e = cc
-
 pub keeps_number : (old now : Numbers) → KeepsNumbers old now → (x : Name) (n : ℕ) → finite.get now x ≡ Some (Some n) → finite.get old x ≡ Some (Some n)
 keeps_number old now k x n e = elim (k x) [
   | inl a ↦ sym a ∙ e
-  | inr b ↦ absurd (some_apart n (sym b.1 ∙ e))
+  | inr b ↦ absurd (free_apart n (finite.get now x) b.1 e)
 ]
 
 pub keeps_has : (old now : Numbers) → KeepsNumbers old now → (x : Name) (n : ℕ) → finite.get old x ≡ Some (Some n) → finite.get now x ≡ Some (Some n)
 keeps_has old now k x n e = elim (k x) [
   | inl a ↦ a ∙ e
-  | inr b ↦ absurd (none_apart (sym b.0 ∙ e))
+  | inr b ↦ absurd (none-some (Some n) (sym b.0 ∙ e))
 ]
-  where
-    none_apart : None ≡ Some (Some n) → ⊥
-    none_apart f = cc

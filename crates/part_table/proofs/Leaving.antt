@@ -16,15 +16,9 @@ use Rattle.part_table.specs.declared.table.Head.{Head}
 use Rattle.part_table.specs.declared.table.Table.{Table}
 use Rattle.part_table.specs.Tables.{Name, Numbers, objects_from, no_head, head_at, names_at, least_at, room_at, part_of, IsTable, IsInOrder, IsIndex, IsSpare, IsWhole}
 use Rattle.part_table.specs.Moves.{AreGiven}
-use Rattle.part_table.proofs.Lists.{in_removed, still_in, sum_on, pairs_on}
+use Rattle.part_table.proofs.Lists.{free_apart, one_number, in_removed, still_in, sum_on, pairs_on}
 use Rattle.part_table.proofs.Objects.{objects_alike}
 use Rattle.part_table.proofs.Wholes.{is_or_not, whole_by}
-
-gone_apart : (n : ℕ) → Some {T = Option ℕ} None ≡ Some (Some n) → ⊥
-gone_apart n e = cc
-
-number_same : (m n : ℕ) → Some {T = Option ℕ} (Some m) ≡ Some (Some n) → m ≡ n
-number_same m n e = cc
 
 module _ (t : Table) (whole : IsWhole t) (number place : ℕ) (place_in : place < length t.order.items) (is : slice_index t.order.items place ≡ number) where
   abbrev order : List ℕ
@@ -124,11 +118,11 @@ module _ (t : Table) (whole : IsWhole t) (number place : ℕ) (place_in : place 
             let w = (others m).0 h in
             let was : finite.get t.index x ≡ Some (Some m) = whole.index.has m x w.0 (subst (λ (z : Head). Contains z.names x) (head_same m w.1) k) in
             elim (g x) [
-              | inl a ↦ absurd (w.1 (number_same m number (sym was ∙ whole.index.has number x here_in a.0)))
+              | inl a ↦ absurd (w.1 (one_number m number (finite.get t.index x) was (whole.index.has number x here_in a.0)))
               | inr b ↦ b.1 ∙ was
             ];
         only = λ m x e. elim (g x) [
-          | inl a ↦ absurd (gone_apart m (sym a.1 ∙ e))
+          | inl a ↦ absurd (free_apart m (finite.get index x) a.1 e)
           | inr b ↦
               let w = whole.index.only m x (sym b.1 ∙ e) in
               let out : m ≢ number = λ same. b.0 (subst (λ z. Contains (names_at t.heads z) x) same w.1) in

@@ -18,6 +18,13 @@ some_or_none None = inr refl
 
 -- ---- what a list has
 
+-- what is known without a number has none, and else it has one
+pub free_apart : (n : ℕ) (o : Option (Option ℕ)) → o ≡ Some None → o ≡ Some (Some n) → ⊥
+free_apart n o e f = none-some n (same_Some None (Some n) (sym e ∙ f))
+
+pub one_number : (m n : ℕ) (o : Option (Option ℕ)) → o ≡ Some (Some m) → o ≡ Some (Some n) → m ≡ n
+one_number m n o e f = same_Some m n (same_Some (Some m) (Some n) (sym e ∙ f))
+
 module _ {X : Type 0} where
   pub first_in : (y : X) (ys : List X) → Contains (y ∷ ys) y
   first_in y ys = (0, omega arith, refl)

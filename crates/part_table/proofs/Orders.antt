@@ -43,57 +43,57 @@ empty_below (a ∷ more) l = refl
 
 -- ---- a search for a place
 
-module _ (heads : List Head) (order : List ℕ) (ordered : IsInOrder heads order) where
+module _ (heads : List Head) (order : List ℕ) where
   abbrev least : ℕ → Name
   least k = least_at heads (slice_index order k)
 
-  rising : (j k : ℕ) → j < k → k < length order → TextBelow (least j) (least k)
+  -- the place is from `low` on, and not after `high`
+  pub record IsNarrowed (name : Name) (low high : ℕ) : Type 0 where
+    pub low_high : low ≤ high
+    pub within : high ≤ length order
+    pub below : (k : ℕ) → k < low → TextBelow (least k) name
+    pub above : (k : ℕ) → high ≤ k → k < length order → ¬ TextBelow (least k) name
+
+  pub narrowed_none : (name : Name) → IsNarrowed name 0 (length order)
+  narrowed_none name = record {
+    low_high = omega arith;
+    within = omega arith;
+    below = λ k l. absurd (omega (arith, l));
+    above = λ k l k_in. absurd (omega (arith, l, k_in));
+  }
+
+  pub narrowed_place : (name : Name) (low high : ℕ) → IsNarrowed name low high → high ≤ low → IsPlace heads order name low
+  narrowed_place name low high n l = record {
+    within = let a = n.low_high in let b = n.within in omega (arith, a, b);
+    below = n.below;
+    above = λ k low_k k_in. n.above k (omega (arith, l, low_k)) k_in;
+  }
+
+module _ (heads : List Head) (order : List ℕ) (ordered : IsInOrder heads order) where
+  rising : (j k : ℕ) → j < k → k < length order → TextBelow (least heads order j) (least heads order k)
   rising j k l k_in = ordered j k 0 l k_in
 
-  module _ (name : Name) where
-    -- the place is from `low` on, and not after `high`
-    pub record IsNarrowed (low high : ℕ) : Type 0 where
-      pub low_high : low ≤ high
-      pub within : high ≤ length order
-      pub below : (k : ℕ) → k < low → TextBelow (least k) name
-      pub above : (k : ℕ) → high ≤ k → k < length order → ¬ TextBelow (least k) name
-
-    pub narrowed_none : IsNarrowed 0 (length order)
-    narrowed_none = record {
-      low_high = omega arith;
-      within = omega arith;
-      below = λ k l. absurd (omega (arith, l));
-      above = λ k l k_in. absurd (omega (arith, l, k_in));
+  module _ (name : Name) (low high middle : ℕ) (n : IsNarrowed heads order name low high) (low_in : low ≤ middle) (high_in : middle < high) where
+    pub narrowed_up : TextBelow (least heads order middle) name → IsNarrowed heads order name (middle + 1) high
+    narrowed_up here = record {
+      low_high = omega (arith, high_in);
+      within = n.within;
+      below = λ k l. elim (cases_eq k middle) [
+        | inl e ↦ subst (λ z. TextBelow (least heads order z) name) (sym e) here
+        | inr other ↦ below_on (least heads order k) (least heads order middle) name (rising k middle (omega (arith, l, other)) (let w = n.within in omega (arith, w, high_in))) here
+      ];
+      above = n.above;
     }
 
-    module _ (low high middle : ℕ) (n : IsNarrowed low high) (low_in : low ≤ middle) (high_in : middle < high) where
-      pub narrowed_up : TextBelow (least middle) name → IsNarrowed (middle + 1) high
-      narrowed_up here = record {
-        low_high = omega (arith, high_in);
-        within = n.within;
-        below = λ k l. elim (cases_eq k middle) [
-          | inl e ↦ subst (λ z. TextBelow (least z) name) (sym e) here
-          | inr other ↦ below_on (least k) (least middle) name (rising k middle (omega (arith, l, other)) (let w = n.within in omega (arith, w, high_in))) here
-        ];
-        above = n.above;
-      }
-
-      pub narrowed_down : ¬ TextBelow (least middle) name → IsNarrowed low middle
-      narrowed_down here = record {
-        low_high = low_in;
-        within = let w = n.within in omega (arith, w, high_in);
-        below = n.below;
-        above = λ k l k_in before. elim (cases_eq k middle) [
-          | inl e ↦ here (subst (λ z. TextBelow (least z) name) e before)
-          | inr other ↦ here (below_on (least middle) (least k) name (rising middle k (omega (arith, l, other)) k_in) before)
-        ];
-      }
-
-    pub narrowed_place : (low high : ℕ) → IsNarrowed low high → high ≤ low → IsPlace heads order name low
-    narrowed_place low high n l = record {
-      within = let a = n.low_high in let b = n.within in omega (arith, a, b);
+    pub narrowed_down : ¬ TextBelow (least heads order middle) name → IsNarrowed heads order name low middle
+    narrowed_down here = record {
+      low_high = low_in;
+      within = let w = n.within in omega (arith, w, high_in);
       below = n.below;
-      above = λ k low_k k_in. n.above k (omega (arith, l, low_k)) k_in;
+      above = λ k l k_in before. elim (cases_eq k middle) [
+        | inl e ↦ here (subst (λ z. TextBelow (least heads order z) name) e before)
+        | inr other ↦ here (below_on (least heads order middle) (least heads order k) name (rising middle k (omega (arith, l, other)) k_in) before)
+      ];
     }
 
   -- that of the least name of a part is the part's
@@ -104,5 +104,5 @@ module _ (heads : List Head) (order : List ℕ) (ordered : IsInOrder heads order
       elim (cases_order h.0 place) [
         | inl same ↦ (omega (arith, h_in, same), subst (λ z. slice_index order z ≡ n) same there)
         | inr (inl l) ↦ absurd (never_below_itself (least_at heads n) (subst (λ z. TextBelow (least_at heads z) (least_at heads n)) there (p.below h.0 l)))
-        | inr (inr l) ↦ absurd (p.above place (omega arith) (omega (arith, l, h_in)) (subst (λ z. TextBelow (least place) (least_at heads z)) there (rising place h.0 l h_in)))
+        | inr (inr l) ↦ absurd (p.above place (omega arith) (omega (arith, l, h_in)) (subst (λ z. TextBelow (least heads order place) (least_at heads z)) there (rising place h.0 l h_in)))
       ]

@@ -169,7 +169,7 @@ module _ (t s : Table) (number : ℕ) (news : List Part) (p : Part) (r : IsReady
   ready_fits =
       let orderly : IsOrderly p = All-contains IsOrderly (news ++ p ∷ []) p r.orderly here in
       record {
-        number = r.whole.spare.within number (was_spare number (last_in s.spare.items number));
+        listed = r.whole.spare.within number (was_spare number (last_in s.spare.items number));
         fresh = r.whole.spare.fresh number (was_spare number (last_in s.spare.items number));
         taken = λ h. last_pairs (λ m n. m ≢ n) s.spare.items number each_once number h refl;
         named = orderly.named;
@@ -307,7 +307,7 @@ module _ (t now : Table) (whole : IsWhole t) (places : List ℕ) (news : List Pa
           let a = get_or-map (λ j. slice_index order j) places i 0 d i_in in
           let b = get_or-map (λ j. slice_index order j) places j 0 d j_in in
           let same = one_place (get_or places i 0) (get_or places j 0) (place_in (get_or places i 0) (Contains-get_or places i 0 i_in)) (place_in (get_or places j 0) (Contains-get_or places j 0 j_in)) (sym a ∙ (e ∙ b)) in
-          let less : get_or places i 0 < get_or places j 0 = m.places i j 0 l j_in in
+          let less : get_or places i 0 < get_or places j 0 = m.ascends i j 0 l j_in in
           omega (arith, same, less);
       enough = enough;
       space = space;

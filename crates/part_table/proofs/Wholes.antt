@@ -1,13 +1,18 @@
 -- A table is whole by what its fields are.
-use Rattle.std.proofs.Common.{◌≡◌, ◌≢◌, ℕ, ◌<◌, ◌^◌, List, Option, Some, None, sym, ap, ◌∙◌, ◌⊎◌, inl, inr, subst}
+use Rattle.std.proofs.Common.{◌≡◌, ◌≢◌, ℕ, ◌<◌, ◌^◌, List, [], Option, Some, None, refl, sym, ap, ◌∙◌, ◌⊎◌, inl, inr, subst, lit<, arith}
 use Rattle.std.specs.Prelude.{Contains}
-use Rattle.std.specs.List.{sum_by}
+use Rattle.std.specs.List.{AllPairs, sum_by}
+use Rattle.std.specs.Ordering.{nat_cmp}
+use Rattle.std.specs.Cmp.Lexicographic.{slice_cmp}
+use Rattle.std.specs.FinMap as finite
 use Rattle.std.proofs.lemmas.Bool.{cases_eq}
 use Rattle.std.proofs.lemmas.Option.{none-some, same_Some}
 use Rattle.object_lists.specs.Placed.{Placed}
+use Rattle.graph_model.specs.Faults.{TextBelow}
 use Rattle.part_table.specs.declared.table.Head.{Head}
 use Rattle.part_table.specs.declared.table.Table.{Table}
 use Rattle.part_table.specs.Tables.{Numbers, names_at, least_at, room_at, IsTable, IsInOrder, IsIndex, IsSpare, IsWhole}
+use Rattle.part_table.proofs.Lists.{none_in}
 
 pub is_or_not : (o : Option ℕ) (n : ℕ) → (o ≡ Some n) ⊎ (o ≢ Some n)
 is_or_not None n = inr (λ e. none-some n e)
@@ -28,3 +33,17 @@ module _ (now : Table) (lists : Placed) (heads : List Head) (order spare : List 
     small = subst (λ hs. (n : ℕ) → room_at hs n < 2 ^ 64) (sym b) small;
     room = room ∙ (ap (λ hs. sum_by (room_at hs) order) (sym b) ∙ ap (sum_by (room_at now.heads)) (sym c));
   }
+
+-- a table of nothing
+pub empty_whole : (now : Table) → now.lists ≡ record { parts = []; count = 0 } → now.heads ≡ [] → now.order.items ≡ [] → now.spare.items ≡ [] → now.index ≡ finite.empty → now.room ≡ 0 → IsWhole now
+empty_whole now a b c h e r =
+    let empty : Placed = record { parts = []; count = 0 } in
+    let no_pair : (R : ℕ → ℕ → Type 0) → AllPairs R [] = λ R i j d l k. absurd (let none : j < 0 = k in omega (arith, none)) in
+    whole_by now empty [] [] [] finite.empty a b c h e
+    (record { count = refl; within = λ n k. absurd (none_in n k); once = no_pair (λ m n. m ≢ n); there = λ at n k. absurd (none-some n k) })
+    (no_pair (λ m n. TextBelow (least_at [] m) (least_at [] n)))
+    (λ n k. absurd (none_in n k))
+    (record { has = λ n x k. absurd (none_in n k); only = λ n x k. absurd (none-some (Some n) (sym (finite.get-empty (slice_cmp nat_cmp) x) ∙ k)) })
+    (record { within = λ n k. absurd (none_in n k); fresh = λ n k. absurd (none_in n k); each = no_pair (λ m n. m ≢ n) })
+    (λ n. lit< tt)
+    r

@@ -30,7 +30,7 @@ IsElsewhere parts places p = (k : ℕ) × (slice_get parts k ≡ Some p) × (¬ 
 
 -- these parts can come in place of those at these places, with objects below this address
 pub record MayCome (parts : List Part) (places : List ℕ) (news : List Part) (objects : ℕ) : Type 0 where
-  pub places : AllPairs (λ j k. j < k) places
+  pub ascends : AllPairs (λ j k. j < k) places
   pub there : (k : ℕ) → Contains places k → k < length parts
   pub orderly : All IsOrderly news
   pub apart : AllPairs AreApart news

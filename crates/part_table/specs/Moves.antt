@@ -41,7 +41,7 @@ pub record IsWithout (number : ℕ) (old now : Table) : Type 0 where
 
 -- the number is that of no part, there is room for its part, and no part has one of its names or objects
 pub record FitsIn (t : Table) (number : ℕ) (p : Part) : Type 0 where
-  pub number : number < t.lists.count
+  pub listed : number < t.lists.count
   pub fresh : ¬ Contains t.order.items number
   pub taken : ¬ Contains t.spare.items number
   pub named : Contains p.names (least_name p.names)
