@@ -1,0 +1,8 @@
+pub mod Rooms
+pub mod Adding
+pub mod Ranges
+pub mod Descent
+pub mod Lowering
+pub mod Orders
+pub mod Held
+pub mod Tables
