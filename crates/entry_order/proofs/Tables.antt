@@ -255,8 +255,8 @@ module _ (places slots sums : List ℕ) (room number : ℕ) (t : AreTables place
       let l = length-map places (after final number) in
       let e = length_later in
       same_lists later (map (after final number) places) (omega arith) (λ k d h.
-          let k_in : k < length places = omega arith in
-          get_or_default later k d 0 h ∙ changed_at k k_in ∙ sym (get_or-map (after final number) places k 0 d k_in))
+      let k_in : k < length places = omega arith in
+      get_or_default later k d 0 h ∙ changed_at k k_in ∙ sym (get_or-map (after final number) places k 0 d k_in))
 
   pub held_without : held later ≡ without (held places) number
   held_without =
@@ -289,8 +289,8 @@ module _ (places slots sums : List ℕ) (room number : ℕ) (t : AreTables place
       let long : length (map mark places) ≡ length places = length-map places mark in (
         omega arith,
         ap (λ (ms : List ℕ). get_or ms place 0) t.marks
-        ∙ get_or_append_left (map mark places) (replicate (room - length places) 1) 0 place (omega arith)
-        ∙ get_or-map mark places place 0 0 w ∙ ap mark (t.slots number there).1 ∙ mark_one number number_held,
+            ∙ get_or_append_left (map mark places) (replicate (room - length places) 1) 0 place (omega arith)
+            ∙ get_or-map mark places place 0 0 w ∙ ap mark (t.slots number there).1 ∙ mark_one number number_held,
       )
 
   abbrev fewer : List ℕ

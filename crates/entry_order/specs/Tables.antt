@@ -2,6 +2,11 @@
 use Rattle.std.specs.Prelude.{◌≡◌, ◌≢◌, ℕ, ◌+◌, ◌-◌, ◌<◌, ◌≤◌, ◌==◌, Bool, not, cond, List, ◌++◌, length, map, filter, replicate, slice_index}
 use Rattle.entry_order.specs.Sums.{AreSums, marks}
 
+pub record Tabled : Type 0 where
+  pub places : List ℕ
+  pub slots : List ℕ
+  pub sums : List ℕ
+
 -- what stands at a place whose entry is gone
 abbrev pub gone : ℕ
 gone = 4294967295

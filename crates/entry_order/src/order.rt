@@ -1,4 +1,4 @@
-ghost use Rattle.std.specs.Prelude.{◌≡◌, ◌↔◌, ◌<◌, ◌++◌, ◌∷◌, [], Some, length, slice_get, IfOk, IsTrue, OnOk, OnErr};
+ghost use Rattle.std.specs.Prelude.{◌≡◌, ◌↔◌, ◌+◌, ◌<◌, ◌++◌, ◌∷◌, [], Some, length, slice_get, IfOk, IsTrue, OnOk, OnErr};
 ghost use Rattle.entry_order.specs.Orders.{IsOrder, numbers_below, without};
 
 use crate::tables::Tables;
@@ -20,13 +20,14 @@ impl Model for EntryOrder {
 
     ghost coded = { coded_list coded_ℕ };
 
-    ghost view = { λ order. held order.tables.value.places.items };
+    ghost view = { λ order. held order.tables.value.places };
 }
 
 impl EntryOrder {
     /// The order of so many entries whose numbers ascend. There may be 2^29 of them; more are want of memory.
     pub fn new(alloc: Global, count: usize) -> Result<EntryOrder, AllocError>
-        ensures { IfOk result (λ order. order ≡ numbers_below count) }
+        ensures numbers { IfOk result (λ order. order ≡ numbers_below count) }
+        ensures order { IfOk result IsOrder }
     {
         let tables = Tables::new(alloc, count)?;
         Ok(EntryOrder {
@@ -62,6 +63,7 @@ impl EntryOrder {
     pub fn push(&mut self) -> Result<(), AllocError>
         ensures ok { OnOk result (self.new ≡ self.old ++ length self.old ∷ []) }
         ensures err { OnErr result (self.new ≡ self.old) }
+        ensures order { IsOrder self.new }
     {
         self.tables.push()
     }
@@ -69,7 +71,9 @@ impl EntryOrder {
     /// Takes an entry out. The last entry, the one with the greatest number, has its number then. Takes no memory.
     pub fn swap_remove(&mut self, number: usize)
         requires { number < length self.old }
-        ensures { self.new ≡ without self.old number }
+        ensures numbers { self.new ≡ without self.old number }
+        ensures less { length self.new + 1 ≡ length self.old }
+        ensures order { IsOrder self.new }
     {
         self.tables.swap_remove(number);
     }

@@ -1,9 +1,10 @@
-ghost use Rattle.std.specs.Prelude.{◌≡◌, ◌≢◌, ◌/◌, ◌^◌, ◌<◌, ◌≤◌, ◌++◌, [], ◌∷◌, Some, ℕ, length, All, AllPairs, slice_get, slice_index, IfOk, OnOk, OnErr};
+ghost use Rattle.std.specs.Prelude.{◌≡◌, ◌≢◌, ◌+◌, ◌/◌, ◌^◌, ◌<◌, ◌≤◌, ◌++◌, [], ◌∷◌, Some, ℕ, length, All, AllPairs, slice_get, slice_index, IfOk, OnOk, OnErr};
 ghost use Rattle.entry_order.specs.Orders.{IsOrder, numbers_below, without};
-ghost use Rattle.entry_order.specs.Tables.{AreTables, held, is_held};
+ghost use Rattle.entry_order.specs.Tables.{held, is_held};
 
 use crate::sums::{find, full_sums, lower, refill};
 use std::alloc::{AllocError, Global};
+use std::marker::Model;
 
 /// What stands at a place whose entry is gone.
 const GONE: u32 = u32::MAX;
@@ -14,10 +15,20 @@ const MOST: usize = 1 << 29;
 /// Numbers by their places and places by their numbers, with sums over marks that tell which places have a number.
 #[derive(Drop)]
 pub(crate) struct Tables {
-    pub(crate) places: Vec<u32>,
-    pub(crate) slots: Vec<u32>,
-    pub(crate) sums: Vec<u32>,
-    ghost kept: { AreTables places.items slots.items sums.items (length sums.items / 2) },
+    places: Vec<u32>,
+    slots: Vec<u32>,
+    sums: Vec<u32>,
+}
+
+impl Model for Tables {
+    ghost use Rattle.std.specs.Prelude.{◌/◌, length};
+    ghost use Rattle.entry_order.specs.Tables.{Tabled, AreTables};
+
+    ghost Value = { Tabled };
+
+    ghost view = { λ t. record { places = t.places.items; slots = t.slots.items; sums = t.sums.items } };
+
+    ghost invariant = { λ t. AreTables t.places.items t.slots.items t.sums.items (length t.sums.items / 2) };
 }
 
 /// The numbers below a count, ascending.
@@ -58,7 +69,8 @@ fn note_places(slots: &mut [u32], places: &[u32])
 impl Tables {
     /// The tables of the numbers below a count, ascending.
     pub(crate) fn new(alloc: Global, count: usize) -> Result<Tables, AllocError>
-        ensures { IfOk result (λ tables. held tables.places.items ≡ numbers_below count) }
+        ensures numbers { IfOk result (λ tables. held tables.places ≡ numbers_below count) }
+        ensures order { IfOk result (λ tables. IsOrder (held tables.places)) }
     {
         if count > MOST {
             return Err(AllocError);
@@ -75,17 +87,17 @@ impl Tables {
 
     /// How many numbers there are.
     pub(crate) fn len(&self) -> usize
-        ensures value { result ≡ length (held self.now.places.items) }
-        ensures order { IsOrder (held self.now.places.items) }
+        ensures value { result ≡ length (held self.now.places) }
+        ensures order { IsOrder (held self.now.places) }
     {
         self.slots.len()
     }
 
     /// The number at a position.
     pub(crate) fn at(&self, position: usize) -> usize
-        requires { position < length (held self.now.places.items) }
-        ensures value { slice_get (held self.now.places.items) position ≡ Some result }
-        ensures within { result < length (held self.now.places.items) }
+        requires { position < length (held self.now.places) }
+        ensures value { slice_get (held self.now.places) position ≡ Some result }
+        ensures within { result < length (held self.now.places) }
     {
         let place = find(self.sums.as_slice(), self.sums.len() / 2, position);
         self.places[place] as usize
@@ -93,7 +105,7 @@ impl Tables {
 
     /// Lets go of the places without a number if most have none. Takes no memory.
     fn settle(&mut self)
-        ensures { held self.new.places.items ≡ held self.old.places.items }
+        ensures { held self.new.places ≡ held self.old.places }
     {
         let count = self.slots.len();
         if self.places.len() - count > count {
@@ -105,8 +117,8 @@ impl Tables {
 
     /// Makes room for a place, if there is none. After an error the numbers are the same.
     fn make_room(&mut self) -> Result<(), AllocError>
-        ensures numbers { held self.new.places.items ≡ held self.old.places.items }
-        ensures room { OnOk result (length self.new.places.items < length self.new.sums.items / 2) }
+        ensures numbers { held self.new.places ≡ held self.old.places }
+        ensures room { OnOk result (length self.new.places < length self.new.sums / 2) }
     {
         if self.places.len() < self.sums.len() / 2 {
             return Ok(());
@@ -123,8 +135,9 @@ impl Tables {
 
     /// Puts the next number at the end. After an error the numbers are the same.
     pub(crate) fn push(&mut self) -> Result<(), AllocError>
-        ensures ok { OnOk result (held self.new.places.items ≡ held self.old.places.items ++ length (held self.old.places.items) ∷ []) }
-        ensures err { OnErr result (held self.new.places.items ≡ held self.old.places.items) }
+        ensures ok { OnOk result (held self.new.places ≡ held self.old.places ++ length (held self.old.places) ∷ []) }
+        ensures err { OnErr result (held self.new.places ≡ held self.old.places) }
+        ensures order { IsOrder (held self.new.places) }
     {
         self.make_room()?;
         self.slots.reserve(1)?;
@@ -138,8 +151,10 @@ impl Tables {
 
     /// Takes a number out, which the last entry then has.
     pub(crate) fn swap_remove(&mut self, number: usize)
-        requires { number < length (held self.old.places.items) }
-        ensures { held self.new.places.items ≡ without (held self.old.places.items) number }
+        requires { number < length (held self.old.places) }
+        ensures numbers { held self.new.places ≡ without (held self.old.places) number }
+        ensures less { length (held self.new.places) + 1 ≡ length (held self.old.places) }
+        ensures order { IsOrder (held self.new.places) }
     {
         let last = self.slots.len() - 1;
         let moved = self.slots[last];

@@ -169,8 +169,8 @@ all_picked entries =
     let long = length-numbers_below (length entries) in
     let wide = length-map ns (entry_in entries) in
     same_lists (picked entries ns) entries (omega arith) (λ i d l.
-        let within : i < length entries = omega arith in
-        get_or-map (entry_in entries) ns i 0 d (omega arith) ∙ ap (entry_in entries) (number_at (length entries) i 0 within) ∙ get_or_default entries i blank d within)
+    let within : i < length entries = omega arith in
+    get_or-map (entry_in entries) ns i 0 d (omega arith) ∙ ap (entry_in entries) (number_at (length entries) i 0 within) ∙ get_or_default entries i blank d within)
 
 all_in : (entries : Pairs) → AreIn entries (numbers_below (length entries))
 all_in entries i d l =
@@ -229,18 +229,18 @@ pub distinct_in_order : (order : Option (List ℕ)) (entries : Pairs) → AreEnt
 distinct_in_order order entries k =
     let p = pick order entries k in
     subst HasNoKeyTwice (sym p.are) (IsDistinct-from_apart same_key (keys_of (picked entries p.numbers)) (λ i j d less l.
-        let ps : Pairs = picked entries p.numbers in
-        let wide : length ps ≡ length p.numbers = length-map p.numbers (entry_in entries) in
-        let keys : length (keys_of ps) ≡ length ps = length-map ps (λ (pair : Key × Value). pair.0) in
-        let lj : j < length p.numbers = omega arith in
-        let li : i < length p.numbers = omega arith in
-        let a : ℕ = get_or p.numbers i 0 in
-        let b : ℕ = get_or p.numbers j 0 in
-        let key_a : get_or (keys_of ps) i d ≡ key_in entries a = key_at ps i d (omega arith) ∙ ap (λ (pair : Key × Value). pair.0) (get_or-map (entry_in entries) p.numbers i 0 blank li) in
-        let key_b : get_or (keys_of ps) j d ≡ key_in entries b = key_at ps j d (omega arith) ∙ ap (λ (pair : Key × Value). pair.0) (get_or-map (entry_in entries) p.numbers j 0 blank lj) in
-        let la : a < length entries = p.within i 0 li in
-        let lb : b < length entries = p.within j 0 lj in
-        ap₂ same_key key_a key_b ∙ (own_entry entries k.unique a la).alone b lb (λ q. p.apart i j 0 less lj (sym q))))
+    let ps : Pairs = picked entries p.numbers in
+    let wide : length ps ≡ length p.numbers = length-map p.numbers (entry_in entries) in
+    let keys : length (keys_of ps) ≡ length ps = length-map ps (λ (pair : Key × Value). pair.0) in
+    let lj : j < length p.numbers = omega arith in
+    let li : i < length p.numbers = omega arith in
+    let a : ℕ = get_or p.numbers i 0 in
+    let b : ℕ = get_or p.numbers j 0 in
+    let key_a : get_or (keys_of ps) i d ≡ key_in entries a = key_at ps i d (omega arith) ∙ ap (λ (pair : Key × Value). pair.0) (get_or-map (entry_in entries) p.numbers i 0 blank li) in
+    let key_b : get_or (keys_of ps) j d ≡ key_in entries b = key_at ps j d (omega arith) ∙ ap (λ (pair : Key × Value). pair.0) (get_or-map (entry_in entries) p.numbers j 0 blank lj) in
+    let la : a < length entries = p.within i 0 li in
+    let lb : b < length entries = p.within j 0 lj in
+    ap₂ same_key key_a key_b ∙ (own_entry entries k.unique a la).alone b lb (λ q. p.apart i j 0 less lj (sym q))))
 
 pub value_in_order : (order : Option (List ℕ)) (entries : Pairs) → AreEntries order entries → (key : Key) → value_under (in_order order entries) key ≡ value_under entries key
 value_in_order order entries kept key =

@@ -1,6 +1,6 @@
-ghost use Rattle.std.specs.Prelude.{◌≡◌, ◌<◌, ◌↔◌, ◌++◌, ◌∷◌, ◌&&◌, [], true, length, is_some, is_none, option_map, slice_get, Some, None, IsTrue, IfSome, MatchOption, OnOk, OnErr};
+ghost use Rattle.std.specs.Prelude.{◌≡◌, ◌+◌, ◌<◌, ◌↔◌, ◌++◌, ◌∷◌, ◌&&◌, [], true, length, is_some, is_none, option_map, slice_get, Some, None, IsTrue, IfSome, MatchOption, OnOk, OnErr};
 ghost use Rattle.std.specs.Option.{option_copied};
-ghost use Rattle.entry_order.specs.Orders.{without};
+ghost use Rattle.entry_order.specs.Orders.{IsOrder, without};
 ghost use Rattle.py_heap.specs.Dicts.{value_under, with_pair, without_key, HasNoKeyTwice};
 ghost use Rattle.py_heap.specs.Entries.{entry_in, in_order, AreEntries};
 
@@ -58,6 +58,7 @@ fn number_at(order: &Option<EntryOrder>, position: usize) -> usize
 fn add_number(order: &mut Option<EntryOrder>) -> Result<(), AllocError>
     ensures ok { OnOk result (order.new ≡ option_map (λ numbers. numbers ++ length numbers ∷ []) order.old) }
     ensures err { OnErr result (order.new ≡ order.old) }
+    ensures order { IfSome order.new IsOrder }
 {
     match order {
         Some(order) => order.push(),
@@ -75,7 +76,8 @@ fn goes_last(order: &Option<EntryOrder>, table: &IndexMap<Key, Value>, key: &Key
 /// Takes a number out of an order, which the last entry then has.
 fn take_number(order: &mut Option<EntryOrder>, number: usize)
     requires { IfSome order.old (λ numbers. number < length numbers) }
-    ensures { order.new ≡ option_map (λ numbers. without numbers number) order.old }
+    ensures numbers { order.new ≡ option_map (λ numbers. without numbers number) order.old }
+    ensures less { MatchOption order.old (order.new ≡ None) (λ numbers. IfSome order.new (λ fewer. (length fewer + 1 ≡ length numbers) × IsOrder fewer)) }
 {
     if let Some(order) = order {
         order.swap_remove(number);

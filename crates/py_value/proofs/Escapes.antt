@@ -42,7 +42,6 @@ shown_plain quote (c ∷ cs) e =
     let both = and_parts _ _ e in
     ap (λ front. front ++ flat_map (escaped quote) cs) (plain_byte quote c both.0) ∙ ap (λ rest. c ∷ rest) (shown_plain quote cs both.1)
 
-
 -- a byte that doesn't show as itself is ASCII
 pub not_plain_low : (quote c : ℕ) → quote < 128 → is_plain quote c ≡ false → c < 128
 not_plain_low quote c q f = elim (cases_lt c 128) [
