@@ -12,7 +12,7 @@ pub record AddedFrom (sums : List ℕ) (room node : ℕ) : Type 0 where
   pub size : length sums ≡ 2 * room
   pub low : 1 ≤ node
   pub high : node ≤ room
-  pub marks : marks room sums ≡ replicate room 1
+  pub ones : marks room sums ≡ replicate room 1
   pub nodes : (k : ℕ) → node ≤ k → k < room → get_or sums k 0 ≡ get_or sums (2 * k) 0 + get_or sums (2 * k + 1) 0
   pub bound : (k : ℕ) → node ≤ k → k < 2 * room → k * get_or sums k 0 < 2 * room
 
@@ -24,7 +24,7 @@ added_none sums room r e =
       size = ap (λ (xs : List ℕ). length xs) e ∙ length-replicate (2 * room) 1;
       low = some;
       high = omega arith;
-      marks = ap (drop room) e ∙ drop-replicate room (2 * room) 1 ∙ (let d : 2 * room - room ≡ room = omega arith in ap (λ n. replicate n 1) d);
+      ones = ap (drop room) e ∙ drop-replicate room (2 * room) 1 ∙ (let d : 2 * room - room ≡ room = omega arith in ap (λ n. replicate n 1) d);
       nodes = λ k a b. absurd (omega arith);
       bound = λ k a b.
           let o = one k b in
@@ -52,7 +52,7 @@ module _ (sums : List ℕ) (room node : ℕ) (a : AddedFrom sums room node) (mor
         size = length-set sums below sum_there ∙ size;
         low = omega arith;
         high = omega arith;
-        marks = drop-set-lt room sums below sum_there (omega arith) ∙ a.marks;
+        ones = drop-set-lt room sums below sum_there (omega arith) ∙ a.ones;
         nodes = λ k from l.
             let left = other (2 * k) (omega arith) in
             let right = other (2 * k + 1) (omega arith) in
@@ -82,8 +82,8 @@ module _ (sums : List ℕ) (room node : ℕ) (a : AddedFrom sums room node) (mor
 
 pub added_all : (sums : List ℕ) (room node : ℕ) → IsRoom room → AddedFrom sums room node → node ≤ 1 → AreSums room sums
 added_all sums room node r a few = record {
-  room = r;
+  is_room = r;
   size = a.size;
-  marks = All-same (λ mark. mark ≤ 1) (marks room sums) (replicate room 1) a.marks (All-replicate (λ mark. mark ≤ 1) room 1 (omega arith));
+  small = All-same (λ mark. mark ≤ 1) (marks room sums) (replicate room 1) a.ones (All-replicate (λ mark. mark ≤ 1) room 1 (omega arith));
   nodes = λ k some within. a.nodes k (omega arith) within;
 }

@@ -22,19 +22,19 @@ pub record IsAbove (sums : List ℕ) (room count node width rest : ℕ) : Type 0
 module _ (sums : List ℕ) (room : ℕ) (s : AreSums room sums) where
   all_marks : at sums 1 ≡ sum (marks room sums)
   all_marks =
-      let p = s.room.power in
+      let p = s.is_room.power in
       let size = s.size in
       let long : length (drop room sums) ≡ room = let l = length-drop room sums in omega arith in
-      let whole : at sums 1 ≡ sum_from (at sums) (1 * 2 ^ s.room.depth) (2 ^ s.room.depth) = sum_below (at sums) room s.nodes s.room.depth 1 (omega arith) (omega arith) in
-      let first : 1 * 2 ^ s.room.depth ≡ room = omega arith in
+      let whole : at sums 1 ≡ sum_from (at sums) (1 * 2 ^ s.is_room.depth) (2 ^ s.is_room.depth) = sum_below (at sums) room s.nodes s.is_room.depth 1 (omega arith) (omega arith) in
+      let first : 1 * 2 ^ s.is_room.depth ≡ room = omega arith in
       whole ∙ (λ i. sum_from (at sums) (first i) (sym p i)) ∙ sum_of_front sums room room (omega arith) ∙ ap (λ (ms : List ℕ). sum ms) (take_all room (drop room sums) (omega arith))
 
   pub begins : (count : ℕ) → count < sum (marks room sums) → IsAbove sums room count 1 room count
   begins count within =
       let none : 1 * room - room ≡ 0 = omega arith in
       record {
-        halvings = s.room.depth;
-        power = s.room.power;
+        halvings = s.is_room.depth;
+        power = s.is_room.power;
         some = omega arith;
         low = omega arith;
         high = omega arith;
@@ -155,7 +155,7 @@ module _ (sums : List ℕ) (room : ℕ) (s : AreSums room sums) where
       let within : place < room = omega arith in
       let is : get_or (drop room sums) place 0 ≡ at sums (room + place) = get_or-drop room sums place 0 in
       let that : at sums (room + place) ≡ at sums node = ap (at sums) (let m : room + place ≡ node = omega arith in m) in
-      let most : get_or (drop room sums) place 0 ≤ 1 = s.marks place 0 (omega arith) in
+      let most : get_or (drop room sums) place 0 ≤ 1 = s.small place 0 (omega arith) in
       let inside = a.inside in
       let counted = a.before in
       let none : rest ≡ 0 = omega arith in

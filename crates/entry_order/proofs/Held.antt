@@ -73,7 +73,7 @@ select (x ∷ xs) (suc place) l d =
 -- the place of a mark
 pub record IsFound (places : List ℕ) (count place : ℕ) : Type 0 where
   pub within : place < length places
-  pub held : get_or places place 0 ≢ gone
+  pub there : get_or places place 0 ≢ gone
   pub number : slice_get (held places) count ≡ Some (get_or places place 0)
 
 pub found : (places ms rest : List ℕ) (count place : ℕ) → ms ≡ map mark places ++ rest → count < length (held places) → get_or ms place 0 ≡ 1 → sum (take place ms) ≡ count → IsFound places count place
@@ -94,7 +94,7 @@ found places ms rest count place e few one before =
     let front : take place ms ≡ take place (map mark places) = ap (take place) e ∙ take-append-le place (map mark places) rest (omega arith) in
     record {
       within = within;
-      held = at;
+      there = at;
       number = ap (slice_get (held places)) (sym before ∙ ap (λ (xs : List ℕ). sum xs) front) ∙ select places place within at;
     }
 

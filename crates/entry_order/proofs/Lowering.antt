@@ -4,10 +4,6 @@ use Rattle.std.proofs.lemmas.Bool.{cases_eq, eq-eqb, ne_eqb}
 use Rattle.std.proofs.lemmas.List.{get_or-set_same, get_or-set_other}
 use Rattle.entry_order.specs.Sums.{AreSums, NodesBut}
 
--- 1 at one number
-one_at : ℕ → ℕ → ℕ
-one_at node wrong = cond (node == wrong) 1 0
-
 one_here : (node wrong : ℕ) → node ≡ wrong → cond (node == wrong) 1 0 ≡ 1
 one_here node wrong e = ap (λ b. cond b 1 0) (eq-eqb node wrong e)
 

@@ -17,7 +17,7 @@ module _ (places slots sums : List ℕ) (room : ℕ) (t : AreTables places slots
   slots_few =
       let l = filter_length is_held places in
       let c = t.count in
-      (omega arith, t.fits, t.sums.room.few)
+      (omega arith, t.fits, t.are_sums.is_room.few)
 
   pub no_gone : (number : ℕ) → number < length slots → number ≢ gone
   no_gone number l e = let f = slots_few in let no : ⊥ = omega arith in no
@@ -30,20 +30,20 @@ module _ (places slots sums : List ℕ) (room : ℕ) (t : AreTables places slots
       record {
         within = All_kept is_held P places (λ k d l q.
             let e = at_zero k d l in
-            let h = t.places k l (is_no_gone (get_or places k 0) (ap is_held (sym e) ∙ q)) in
+            let h = t.at_places k l (is_no_gone (get_or places k 0) (ap is_held (sym e) ∙ q)) in
             let below : get_or places k 0 < length slots = h.0 in
             omega arith);
         all = λ number l.
             let within : number < length slots = omega arith in
-            let s = t.slots number within in
+            let s = t.at_slots number within in
             let place : ℕ = get_or slots number 0 in
             contains_kept is_held places place number s.0 (get_or_default places place number 0 s.0 ∙ s.1) (held_is number (no_gone number within));
         once = pairs_kept is_held (λ a b. a ≢ b) places (λ i j d less l a b same.
             let low : i < length places = omega arith in
             let ei = at_zero i d low in
             let ej = at_zero j d l in
-            let hi = t.places i low (is_no_gone (get_or places i 0) (ap is_held (sym ei) ∙ a)) in
-            let hj = t.places j l (is_no_gone (get_or places j 0) (ap is_held (sym ej) ∙ b)) in
+            let hi = t.at_places i low (is_no_gone (get_or places i 0) (ap is_held (sym ei) ∙ a)) in
+            let hj = t.at_places j l (is_no_gone (get_or places j 0) (ap is_held (sym ej) ∙ b)) in
             let one : i ≡ j = sym hi.1 ∙ ap (λ n. get_or slots n 0) (sym ei ∙ same ∙ ej) ∙ hj.1 in
             let no : ⊥ = omega arith in no);
       }
@@ -58,15 +58,15 @@ module _ (places slots sums : List ℕ) (room : ℕ) (within : All (λ number. n
     (noted : (place : ℕ) → place < length places → get_or slots (get_or places place 0) 0 ≡ place) (all : (number : ℕ) → number < length slots → Contains places number)
     (fits : length places ≤ room) (s : AreSums room sums) (m : marks room sums ≡ replicate room 1) where
   none_gone : All (λ number. number ≢ gone) places
-  none_gone k d l e = let b = within k d l in let few = s.room.few in let no : ⊥ = omega arith in no
+  none_gone k d l e = let b = within k d l in let few = s.is_room.few in let no : ⊥ = omega arith in no
 
   pub all_held : held places ≡ places
   all_held = filter_whole is_held places (λ k d l. held_is (get_or places k d) (none_gone k d l))
 
   pub full_tables : AreTables places slots sums room
   full_tables = record {
-    places = λ place l d. (within place 0 l, noted place l);
-    slots = λ number l.
+    at_places = λ place l d. (within place 0 l, noted place l);
+    at_slots = λ number l.
         let c = all number l in
         let place : ℕ = c.0 in
         let is : get_or places place 0 ≡ number = get_or_default places place 0 number c.1 ∙ c.2 in
@@ -74,8 +74,8 @@ module _ (places slots sums : List ℕ) (room : ℕ) (within : All (λ number. n
         (rw at c.1, ap (λ p. get_or places p 0) at ∙ is);
     count = ap (λ (xs : List ℕ). length xs) all_held ∙ size;
     fits = fits;
-    sums = s;
-    marks = m ∙ (let e : room ≡ length places + (room - length places) = omega arith in ap (λ n. replicate n 1) e)
+    are_sums = s;
+    are_marks = m ∙ (let e : room ≡ length places + (room - length places) = omega arith in ap (λ n. replicate n 1) e)
         ∙ sym (replicate-append-replicate (length places) (room - length places) 1) ∙ ap (λ ms. ms ++ replicate (room - length places) 1) (sym (map_marks places none_gone));
   }
 
@@ -134,10 +134,10 @@ module _ (places slots sums : List ℕ) (room : ℕ) (t : AreTables places slots
       let last_slot : get_or (slots ++ p ∷ []) n 0 ≡ p = get_or_push slots p 0 n refl in
       let last_place : get_or (places ++ n ∷ []) p 0 ≡ n = get_or_push places n 0 p refl in
       record {
-        places = λ place l d. elim (cases_lt place p) [
+        at_places = λ place l d. elim (cases_lt place p) [
           | inl old ↦
               let e = get_or_append_left places (n ∷ []) 0 place old in
-              let h = t.places place old (λ q. d (e ∙ q)) in
+              let h = t.at_places place old (λ q. d (e ∙ q)) in
               let number : ℕ = get_or places place 0 in
               let below : number < n = h.0 in
               let is : get_or (slots ++ p ∷ []) number 0 ≡ place = get_or_append_left slots (p ∷ []) 0 number below ∙ h.1 in
@@ -147,10 +147,10 @@ module _ (places slots sums : List ℕ) (room : ℕ) (t : AreTables places slots
               let e : get_or (places ++ n ∷ []) place 0 ≡ n = ap (λ k. get_or (places ++ n ∷ []) k 0) here ∙ last_place in
               (rw e (omega arith), ap (λ k. get_or (slots ++ p ∷ []) k 0) e ∙ last_slot ∙ sym here)
         ];
-        slots = λ number l. elim (cases_lt number n) [
+        at_slots = λ number l. elim (cases_lt number n) [
           | inl old ↦
               let e = get_or_append_left slots (p ∷ []) 0 number old in
-              let h = t.slots number old in
+              let h = t.at_slots number old in
               let place : ℕ = get_or slots number 0 in
               let below : place < p = h.0 in
               (rw e (omega arith), ap (λ k. get_or (places ++ n ∷ []) k 0) e ∙ get_or_append_left places (n ∷ []) 0 place below ∙ h.1)
@@ -161,12 +161,12 @@ module _ (places slots sums : List ℕ) (room : ℕ) (t : AreTables places slots
         ];
         count = ap (λ (xs : List ℕ). length xs) (held_push places n last_held) ∙ (let l = length_push (held places) n in let c = t.count in omega arith);
         fits = omega arith;
-        sums = t.sums;
-        marks =
+        are_sums = t.are_sums;
+        are_marks =
             let k : ℕ = room - (p + 1) in
             let rest : room - p ≡ 1 + k = omega arith in
             let lengths : room - length (places ++ n ∷ []) ≡ k = omega arith in
-            t.marks ∙ ap (λ j. map mark places ++ replicate j 1) rest ∙ ap (λ ms. map mark places ++ ms) (sym (replicate-append-replicate 1 k 1))
+            t.are_marks ∙ ap (λ j. map mark places ++ replicate j 1) rest ∙ ap (λ ms. map mark places ++ ms) (sym (replicate-append-replicate 1 k 1))
             ∙ sym (append_assoc (map mark places) (1 ∷ []) (replicate k 1))
             ∙ (λ i. (map mark places ++ sym (mark_one n last_held) i ∷ []) ++ replicate k 1)
             ∙ (λ i. sym (map_push mark places n) i ++ replicate (sym lengths i) 1);
@@ -208,14 +208,14 @@ module _ (places slots sums : List ℕ) (room number : ℕ) (t : AreTables place
   -- a number stands at its own place alone
   own_place : (u k : ℕ) → u < length places → k < n → get_or places u 0 ≡ k → u ≡ get_or slots k 0
   own_place u k l b e =
-      let h = t.places u l (λ q. no_gone places slots sums room t k b (sym e ∙ q)) in
+      let h = t.at_places u l (λ q. no_gone places slots sums room t k b (sym e ∙ q)) in
       sym h.1 ∙ ap (λ j. get_or slots j 0) e
 
   pub place_within : place < length places
-  place_within = (t.slots number there).0
+  place_within = (t.at_slots number there).0
 
   pub moved_within : moved < length places
-  moved_within = (t.slots final final_there).0
+  moved_within = (t.at_slots final final_there).0
 
   length_later : length later ≡ length places
   length_later = length-set (set places moved number) place gone ∙ length-set places moved number
@@ -232,8 +232,8 @@ module _ (places slots sums : List ℕ) (room number : ℕ) (t : AreTables place
   -- the places change number by number
   changed_at : (u : ℕ) → u < length places → get_or later u 0 ≡ after final number (get_or places u 0)
   changed_at u l =
-      let s = t.slots number there in
-      let f = t.slots final final_there in
+      let s = t.at_slots number there in
+      let f = t.at_slots final final_there in
       elim (cases_eq u place) [
         | inl e ↦
             let is : get_or places u 0 ≡ number = ap (λ k. get_or places k 0) e ∙ s.1 in
@@ -266,7 +266,7 @@ module _ (places slots sums : List ℕ) (room number : ℕ) (t : AreTables place
   marks_later : map mark later ≡ set (map mark places) place 0
   marks_later =
       let same : get_or (map mark places) moved 0 ≡ mark number =
-      get_or-map mark places moved 0 0 moved_within ∙ ap mark (t.slots final final_there).1 ∙ mark_one final final_held ∙ sym (mark_one number number_held) in
+      get_or-map mark places moved 0 0 moved_within ∙ ap mark (t.at_slots final final_there).1 ∙ mark_one final final_held ∙ sym (mark_one number number_held) in
       map-set mark (set places moved number) place gone
       ∙ ap (λ ms. set ms place 0) (map-set mark places moved number ∙ ap (set (map mark places) moved) (sym same) ∙ set-get_or (map mark places) moved 0)
 
@@ -274,7 +274,7 @@ module _ (places slots sums : List ℕ) (room number : ℕ) (t : AreTables place
   count_later =
       let before = sum_of_marks places in
       let afterwards = sum_of_marks later in
-      let one : get_or (map mark places) place 0 ≡ 1 = get_or-map mark places place 0 0 place_within ∙ ap mark (t.slots number there).1 ∙ mark_one number number_held in
+      let one : get_or (map mark places) place 0 ≡ 1 = get_or-map mark places place 0 0 place_within ∙ ap mark (t.at_slots number there).1 ∙ mark_one number number_held in
       let less : sum (set (map mark places) place 0) + get_or (map mark places) place 0 ≡ sum (map mark places) + 0 =
       sum_by-set (λ (m : ℕ). m) (map mark places) place 0 0 (let l = length-map places mark in let w = place_within in omega arith) in
       let same : sum (map mark later) ≡ sum (set (map mark places) place 0) = ap (λ (ms : List ℕ). sum ms) marks_later in
@@ -288,9 +288,9 @@ module _ (places slots sums : List ℕ) (room number : ℕ) (t : AreTables place
       let f = t.fits in
       let long : length (map mark places) ≡ length places = length-map places mark in (
         omega arith,
-        ap (λ (ms : List ℕ). get_or ms place 0) t.marks
+        ap (λ (ms : List ℕ). get_or ms place 0) t.are_marks
             ∙ get_or_append_left (map mark places) (replicate (room - length places) 1) 0 place (omega arith)
-            ∙ get_or-map mark places place 0 0 w ∙ ap mark (t.slots number there).1 ∙ mark_one number number_held,
+            ∙ get_or-map mark places place 0 0 w ∙ ap mark (t.at_slots number there).1 ∙ mark_one number number_held,
       )
 
   abbrev fewer : List ℕ
@@ -313,7 +313,7 @@ module _ (places slots sums : List ℕ) (room number : ℕ) (t : AreTables place
       let lf = length_fewer in
       let ll = length_later in
       record {
-        places = λ u l d.
+        at_places = λ u l d.
             let u_in : u < length places = omega arith in
             elim (cases_eq u place) [
               | inl e ↦ absurd (d (ap (λ k. get_or later k 0) e ∙ at_place))
@@ -327,7 +327,7 @@ module _ (places slots sums : List ℕ) (room number : ℕ) (t : AreTables place
                     (rw is (omega arith), ap (λ k. get_or fewer k 0) is ∙ slot_of_number below ∙ sym e)
                 | inr not_moved ↦
                     let is = elsewhere u not_place not_moved in
-                    let h = t.places u u_in (λ q. d (is ∙ q)) in
+                    let h = t.at_places u u_in (λ q. d (is ∙ q)) in
                     let j : ℕ = get_or places u 0 in
                     let j_in : j < n = h.0 in
                     let other : j ≢ number = λ q. not_place (own_place u number u_in there q) in
@@ -336,35 +336,35 @@ module _ (places slots sums : List ℕ) (room number : ℕ) (t : AreTables place
                     (rw is (omega arith), ap (λ k. get_or fewer k 0) is ∙ slot_of_other j below other ∙ h.1)
               ]
             ];
-        slots = λ k l.
+        at_slots = λ k l.
             let below : k < final = omega arith in
             elim (cases_eq k number) [
               | inl e ↦
                   let low : number < final = omega arith in
                   let is : get_or fewer k 0 ≡ moved = ap (λ j. get_or fewer j 0) e ∙ slot_of_number low in
                   let apart : moved ≢ place = λ q.
-                  let same : final ≡ number = sym (t.slots final final_there).1 ∙ ap (λ j. get_or places j 0) q ∙ (t.slots number there).1 in
+                  let same : final ≡ number = sym (t.at_slots final final_there).1 ∙ ap (λ j. get_or places j 0) q ∙ (t.at_slots number there).1 in
                   let no : ⊥ = omega arith in no in
                   let w = moved_within in
                   (rw is (omega arith), ap (λ j. get_or later j 0) is ∙ at_moved apart ∙ sym e)
               | inr d ↦
                   let is = slot_of_other k below d in
                   let k_in : k < n = omega arith in
-                  let h = t.slots k k_in in
+                  let h = t.at_slots k k_in in
                   let u : ℕ = get_or slots k 0 in
                   let u_in : u < length places = h.0 in
-                  let not_place : u ≢ place = λ q. d (sym h.1 ∙ ap (λ j. get_or places j 0) q ∙ (t.slots number there).1) in
+                  let not_place : u ≢ place = λ q. d (sym h.1 ∙ ap (λ j. get_or places j 0) q ∙ (t.at_slots number there).1) in
                   let not_moved : u ≢ moved = λ q.
-                  let same : k ≡ final = sym h.1 ∙ ap (λ j. get_or places j 0) q ∙ (t.slots final final_there).1 in
+                  let same : k ≡ final = sym h.1 ∙ ap (λ j. get_or places j 0) q ∙ (t.at_slots final final_there).1 in
                   let no : ⊥ = omega arith in no in
                   (rw is (omega arith), ap (λ j. get_or later j 0) is ∙ elsewhere u not_place not_moved ∙ h.1)
             ];
         count = let c = count_later in omega arith;
         fits = let f = t.fits in omega arith;
-        sums = s;
-        marks =
+        are_sums = s;
+        are_marks =
             let long : length (map mark places) ≡ length places = length-map places mark in
             let w = place_within in
-            m ∙ ap (λ (ms : List ℕ). set ms place 0) t.marks ∙ set-append_left (map mark places) (replicate (room - length places) 1) place 0 (omega arith)
+            m ∙ ap (λ (ms : List ℕ). set ms place 0) t.are_marks ∙ set-append_left (map mark places) (replicate (room - length places) 1) place 0 (omega arith)
             ∙ (λ i. sym marks_later i ++ replicate (room - sym ll i) 1);
       }

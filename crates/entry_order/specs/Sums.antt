@@ -12,9 +12,9 @@ abbrev pub marks : ℕ → List ℕ → List ℕ
 marks room sums = drop room sums
 
 pub record AreSums (room : ℕ) (sums : List ℕ) : Type 0 where
-  pub room : IsRoom room
+  pub is_room : IsRoom room
   pub size : length sums ≡ 2 * room
-  pub marks : All (λ mark. mark ≤ 1) (marks room sums)
+  pub small : All (λ mark. mark ≤ 1) (marks room sums)
   pub nodes : (node : ℕ) → 1 ≤ node → node < room → slice_index sums node ≡ slice_index sums (2 * node) + slice_index sums (2 * node + 1)
 
 -- the sums are right, but that of one node, which is 1 too much

@@ -24,9 +24,9 @@ mark number = cond (number == gone) 0 1
 
 -- the marks of the places, and 1 for each place that nothing has come to yet
 pub record AreTables (places slots sums : List ℕ) (room : ℕ) : Type 0 where
-  pub places : (place : ℕ) → place < length places → slice_index places place ≢ gone → (slice_index places place < length slots) × (slice_index slots (slice_index places place) ≡ place)
-  pub slots : (number : ℕ) → number < length slots → (slice_index slots number < length places) × (slice_index places (slice_index slots number) ≡ number)
+  pub at_places : (place : ℕ) → place < length places → slice_index places place ≢ gone → (slice_index places place < length slots) × (slice_index slots (slice_index places place) ≡ place)
+  pub at_slots : (number : ℕ) → number < length slots → (slice_index slots number < length places) × (slice_index places (slice_index slots number) ≡ number)
   pub count : length (held places) ≡ length slots
   pub fits : length places ≤ room
-  pub sums : AreSums room sums
-  pub marks : marks room sums ≡ map mark places ++ replicate (room - length places) 1
+  pub are_sums : AreSums room sums
+  pub are_marks : marks room sums ≡ map mark places ++ replicate (room - length places) 1
