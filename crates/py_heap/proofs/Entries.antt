@@ -1,8 +1,10 @@
 -- The entries of a table in an order: what is found, put and taken out.
-use Rattle.std.proofs.Common.{◌≡◌, ◌≢◌, ℕ, zero, suc, ◌+◌, ◌-◌, ◌<◌, ◌≤◌, ◌==◌, ◌⊎◌, ◌&&◌, Bool, true, false, not, cond, List, [], ◌∷◌, ◌++◌, length, get_or, set, take, map, remove, Option, Some, None, refl, sym, ap, ap₂, ◌∙◌, subst, inl, inr, arith}
-use Rattle.std.specs.Prelude.{All, AllPairs, Contains, filter, swap_remove, IfSome, is_some, is_none}
+use Rattle.std.proofs.Common.{◌≡◌, ◌≢◌, ℕ, zero, suc, ◌+◌, ◌-◌, ◌<◌, ◌≤◌, ◌==◌, ◌⊎◌, ◌&&◌, Bool, true, false, not, cond, List, [], ◌∷◌, ◌++◌, length, get_or, set, take, map, remove, Option, Some, None, slice_get, refl, sym, ap, ap₂, ◌∙◌, subst, inl, inr, arith}
+use Rattle.std.specs.Prelude.{All, AllPairs, Contains, filter, swap_remove, position, IfSome, MatchOption, option_map, is_some, is_none}
 use Rattle.std.proofs.lemmas.Bool.{cases_Bool, cases_eq, cases_lt, false≢true, true≢false, false_from_ne_true, eq-eqb, ne_eqb}
 use Rattle.std.proofs.lemmas.List.{get_or-map, get_or-take, get_or-set_same, get_or-set_other, get_or_default, get_or_append_left, get_or_push, length-map, length-set, map-append, same_lists, nil_from_length}
+use Rattle.std.proofs.lemmas.List.Quantifiers.{position-Some}
+use Rattle.std.proofs.lemmas.Option.{slice_get-map, slice_get-get_or}
 use Rattle.std.proofs.lemmas.List.Elements.{All-head, All-tail, All-filter, filter_passes}
 use Rattle.std.proofs.lemmas.Map.Keys.{apart_from_distinct, IsDistinct-from_apart}
 use Rattle.indexmap.specs.IndexMap.{insert_entry}
@@ -255,6 +257,29 @@ value_in_order order entries kept key =
       | inr lacks ↦ none_under entries key p.numbers p.within lacks ∙ sym (all ∙ none_under entries key (numbers_below (length entries)) (all_in entries) lacks)
     ]
 
+-- the entry at a position
+pub at_position : (order : Option (List ℕ)) (entries : Pairs) → AreEntries order entries → (index number : ℕ) → index < length (in_order order entries)
+    → MatchOption order (number ≡ index) (λ numbers. (slice_get numbers index ≡ Some number) × (number < length numbers))
+    → (number < length entries) × (slice_get (in_order order entries) index ≡ slice_get entries number)
+at_position None entries kept index number l e = (omega arith, ap (slice_get entries) (sym e))
+at_position (Some numbers) entries kept index number l e =
+    let size : length numbers ≡ length entries = kept.order.1 in
+    let within : number < length entries = omega arith in
+    (within, slice_get-map (entry_in entries) numbers index ∙ ap (option_map (entry_in entries)) e.0 ∙ sym (slice_get-get_or entries number blank within))
+
+-- the entry whose key is the first that passes
+pub found_at : (entries : Pairs) → HasNoKeyTwice entries → (k : Key) (number : ℕ) → position (same_key k) (keys_of entries) ≡ Some number
+    → (number < length entries) × (value_under entries k ≡ Some (entry_in entries number).1) × (same_key k (key_in entries number) ≡ true)
+found_at entries d k number e =
+    let h = position-Some (same_key k) (keys_of entries) number key.Nothing e in
+    let long = length-map entries (λ (pair : Key × Value). pair.0) in
+    let first : number < length (keys_of entries) = h.0 in
+    let within : number < length entries = omega arith in
+    let here : same_key k (key_in entries number) ≡ true = ap (same_key k) (sym (key_at entries number key.Nothing within)) ∙ h.1 in
+    let it = entry_with entries d k number within here in
+    let all : value_under entries k ≡ value_under (picked entries (numbers_below (length entries))) k = ap (λ ps. value_under ps k) (sym (all_picked entries)) in
+    (within, all ∙ value_picked entries k number it (numbers_below (length entries)) (all_in entries) (contains_all (length entries) number within), here)
+
 -- ---- what is put
 
 -- a new key
@@ -364,6 +389,14 @@ module _ (entries : Pairs) (d : HasNoKeyTwice entries) (number : ℕ) (there : n
       ap (λ n. picked (swapped x) (map (renamed (n - 1) number) rest)) size
       ∙ renamed_picked x rest (All-filter test (λ n. n < length entries) numbers p.within) others
       ∙ sym (taken_from entries (key_in entries number) number (own_entry entries d number there) numbers p.within p.apart)
+
+-- a key that no pair has takes nothing out
+pub none_taken : (pairs : Pairs) (k : Key) → value_under pairs k ≡ None → without_key pairs k ≡ pairs
+none_taken [] k e = refl
+none_taken (pair ∷ pairs) k e = elim (cases_Bool (same_key k pair.0)) [
+  | inl t ↦ absurd (let found : Some pair.1 ≡ None = rw t at e in true≢false (ap is_some found))
+  | inr f ↦ let rest : value_under pairs k ≡ None = rw f at e in rw f (ap (λ ps. pair ∷ ps) (none_taken pairs k rest))
+]
 
 -- two keys that are the same take the same pair out
 pub same_taken : (pairs : Pairs) (k l : Key) → same_key k l ≡ true → without_key pairs k ≡ without_key pairs l
