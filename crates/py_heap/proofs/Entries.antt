@@ -2,14 +2,14 @@
 use Rattle.std.proofs.Common.{◌≡◌, ◌≢◌, ℕ, zero, suc, ◌+◌, ◌-◌, ◌<◌, ◌≤◌, ◌==◌, ◌⊎◌, ◌&&◌, Bool, true, false, not, cond, List, [], ◌∷◌, ◌++◌, length, get_or, set, take, map, remove, Option, Some, None, slice_get, refl, sym, ap, ap₂, ◌∙◌, subst, inl, inr, arith}
 use Rattle.std.specs.Prelude.{All, AllPairs, Contains, filter, swap_remove, position, IfSome, MatchOption, option_map, is_some, is_none}
 use Rattle.std.proofs.lemmas.Bool.{cases_Bool, cases_eq, cases_lt, false≢true, true≢false, false_from_ne_true, eq-eqb, ne_eqb}
-use Rattle.std.proofs.lemmas.List.{get_or-map, get_or-take, get_or-set_same, get_or-set_other, get_or_default, get_or_append_left, get_or_push, length-map, length-set, map-append, same_lists, nil_from_length}
+use Rattle.std.proofs.lemmas.List.{get_or-map, get_or-take, get_or-set_same, get_or-set_other, get_or_default, get_or_append_left, get_or_push, length-map, length-set, length_push, append-nil, map-append, same_lists, nil_from_length}
 use Rattle.std.proofs.lemmas.List.Quantifiers.{position-Some}
 use Rattle.std.proofs.lemmas.Option.{slice_get-map, slice_get-get_or}
-use Rattle.std.proofs.lemmas.List.Elements.{All-head, All-tail, All-filter, filter_passes}
+use Rattle.std.proofs.lemmas.List.Elements.{All-head, All-tail, All-filter, filter_passes, filter-append}
 use Rattle.std.proofs.lemmas.Map.Keys.{apart_from_distinct, IsDistinct-from_apart}
 use Rattle.indexmap.specs.IndexMap.{insert_entry}
 use Rattle.entry_order.specs.Orders.{IsOrder, numbers_below, renamed, without}
-use Rattle.entry_order.proofs.Orders.{number_at, length-numbers_below}
+use Rattle.entry_order.proofs.Orders.{filter_whole, number_at, length-numbers_below}
 use Rattle.py_value.specs.declared.key.Key.{Key}
 use Rattle.py_value.specs.declared.key.Key.TheVariants as key
 use Rattle.py_value.specs.declared.value.Value.{Value}
@@ -299,6 +299,43 @@ pub put_after : (numbers : List ℕ) (entries : Pairs) (pair : Key × Value) →
 put_after numbers entries pair a =
     map-append (entry_in (entries ++ pair ∷ [])) numbers (length entries ∷ [])
     ∙ (λ i. picked_more entries pair numbers a i ++ get_or_push entries pair blank (length entries) refl i ∷ [])
+
+-- a new entry in an order
+pub put_last : (order : Option (List ℕ)) (entries : Pairs) (pair : Key × Value) → AreEntries order entries
+    → in_order (option_map (λ numbers. numbers ++ length numbers ∷ []) order) (entries ++ pair ∷ []) ≡ in_order order entries ++ pair ∷ []
+put_last None entries pair kept = refl
+put_last (Some numbers) entries pair kept =
+    let p = pick (Some numbers) entries kept in
+    ap (λ n. picked (entries ++ pair ∷ []) (numbers ++ n ∷ [])) kept.order.1 ∙ put_after numbers entries pair p.within
+
+pub kept_last : (order : Option (List ℕ)) (entries : Pairs) (pair : Key × Value) → AreEntries order entries → HasNoKeyTwice (entries ++ pair ∷ [])
+    → IfSome (option_map (λ (numbers : List ℕ). numbers ++ length numbers ∷ []) order) IsOrder → AreEntries (option_map (λ (numbers : List ℕ). numbers ++ length numbers ∷ []) order) (entries ++ pair ∷ [])
+kept_last None entries pair kept d o = record { unique = d; order = tt }
+kept_last (Some numbers) entries pair kept d o =
+    let size : length numbers ≡ length entries = kept.order.1 in
+    let more : length (numbers ++ length numbers ∷ []) ≡ length numbers + 1 = length_push numbers (length numbers) in
+    let wide : length (entries ++ pair ∷ []) ≡ length entries + 1 = length_push entries pair in
+    record { unique = d; order = (o, omega arith) }
+
+-- an order whose last number goes again
+renamed_same : (last : ℕ) (numbers : List ℕ) → All (λ n. n < last) numbers → map (renamed last last) numbers ≡ numbers
+renamed_same last [] a = refl
+renamed_same last (n ∷ numbers) a =
+    let low : n < last = All-head (λ m. m < last) n numbers a in
+    let same : renamed last last n ≡ n = ap (λ b. cond b last n) (ne_eqb n last (λ q. let no : ⊥ = omega arith in no)) in
+    λ i. same i ∷ renamed_same last numbers (All-tail (λ m. m < last) n numbers a) i
+
+pub push_taken : (numbers : List ℕ) → IsOrder numbers → without (numbers ++ length numbers ∷ []) (length numbers) ≡ numbers
+push_taken numbers o =
+    let count : ℕ = length numbers in
+    let test : ℕ → Bool = λ n. not (n == count) in
+    let more : length (numbers ++ count ∷ []) ≡ count + 1 = length_push numbers count in
+    let last : length (numbers ++ count ∷ []) - 1 ≡ count = omega arith in
+    let low : All (λ n. n < count) numbers = o.within in
+    let front : filter test numbers ≡ numbers = filter_whole test numbers (λ k d l. ap not (ne_eqb (get_or numbers k d) count (λ q. let w : get_or numbers k d < count = low k d l in let no : ⊥ = omega arith in no))) in
+    let back : filter test (count ∷ []) ≡ [] = ap (λ b. cond (not b) (count ∷ []) []) (eq-eqb count count refl) in
+    let kept : filter test (numbers ++ count ∷ []) ≡ numbers = filter-append test numbers (count ∷ []) ∙ (λ i. front i ++ back i) ∙ append-nil numbers in
+    (λ i. map (renamed (last i) count) (kept i)) ∙ renamed_same count numbers low
 
 -- a key that is there
 put_there : (entries : Pairs) (k : Key) (number : ℕ) (v : Value) → number < length entries → same_key k (key_in entries number) ≡ true → ((n : ℕ) → n < number → same_key k (key_in entries n) ≡ false)
