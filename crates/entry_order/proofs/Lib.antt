@@ -5,4 +5,4 @@ pub mod Descent
 pub mod Lowering
 pub mod Orders
 pub mod Held
-pub mod Tables
+pub mod Keeping

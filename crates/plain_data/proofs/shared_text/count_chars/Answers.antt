@@ -1,7 +1,7 @@
 use Rattle.std.proofs.Common.{length, sym, ap, ◌∙◌}
 use Rattle.std.proofs.lemmas.Str.{chars-IsAscii}
 use Rattle.plain_data.specs.Leads.{leads}
-use Rattle.plain_data.proofs.Leads.{leads_are}
+use Rattle.plain_data.proofs.Beginnings.{leads_are}
 use Rattle.plain_data.proofs.shared_text.count_chars.Goals as goal
 
 pub returns-then-is_ascii : goal.returns-then-is_ascii

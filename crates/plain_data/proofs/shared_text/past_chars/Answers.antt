@@ -1,5 +1,5 @@
 use Rattle.std.proofs.Common.{◌∙◌}
-use Rattle.plain_data.proofs.Leads.{past_boundary, past_is}
+use Rattle.plain_data.proofs.Beginnings.{past_boundary, past_is}
 use Rattle.plain_data.proofs.shared_text.past_chars.Goals as goal
 
 pub range_from-requires : goal.range_from-requires
