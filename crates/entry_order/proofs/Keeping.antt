@@ -1,14 +1,14 @@
 -- The tables of an order, and what keeps them so.
-use Rattle.std.proofs.Common.{◌≡◌, ◌≢◌, ℕ, zero, suc, ◌+◌, ◌-◌, ◌*◌, ◌^◌, ◌<◌, ◌≤◌, true, List, [], ◌∷◌, ◌++◌, length, get_or, set, map, take, replicate, refl, sym, ap, ◌∙◌, subst, inl, inr, arith, append_assoc}
+use Rattle.std.proofs.Common.{◌≡◌, ◌≢◌, ℕ, zero, suc, ◌+◌, ◌-◌, ◌*◌, ◌^◌, ◌<◌, ◌≤◌, true, List, [], ◌∷◌, ◌++◌, length, get_or, set, map, take, drop, replicate, refl, sym, ap, ◌∙◌, subst, inl, inr, arith, append_assoc}
 use Rattle.std.specs.Prelude.{All, AllPairs, Contains, sum, filter, not, ◌==◌}
 use Rattle.std.proofs.lemmas.Bool.{cases_eq, cases_lt}
-use Rattle.std.proofs.lemmas.List.{length-append, length-map, length_push, length-set, length-take-le, get_or_append_left, get_or_push, get_or-map, get_or-take, get_or-set_same, get_or-set_other, get_or_default, map-set, map_push, set-get_or, set-append_left, same_lists, replicate-append-replicate}
-use Rattle.std.proofs.lemmas.List.Sums.{sum_by-set}
+use Rattle.std.proofs.lemmas.List.{length-append, length-map, length_push, length-set, length-take-le, get_or_append_left, get_or_push, get_or-map, get_or-take, get_or-set_same, get_or-set_other, get_or_default, map-set, map_push, set-get_or, set-append_left, same_lists, append-nil, take_all, drop_all, replicate-append-replicate}
+use Rattle.std.proofs.lemmas.List.Sums.{sum_by-set, sum_by-append}
 use Rattle.entry_order.specs.Orders.{IsOrder, numbers_below, renamed, without}
 use Rattle.entry_order.specs.Sums.{AreSums, marks}
 use Rattle.entry_order.specs.Tables.{AreTables, gone, is_held, held, mark}
 use Rattle.entry_order.proofs.Orders.{filter_length, filter_whole, All_kept, contains_kept, pairs_kept, length-numbers_below, number_at}
-use Rattle.entry_order.proofs.Held.{held_is, is_no_gone, mark_one, held_push, sum_of_marks, after, after_number, after_last, after_other, held_after}
+use Rattle.entry_order.proofs.Held.{IsFound, found, held_is, is_no_gone, mark_one, held_push, sum_of_marks, after, after_number, after_last, after_other, held_after}
 
 -- ---- what the tables tell
 
@@ -47,6 +47,43 @@ module _ (places slots sums : List ℕ) (room : ℕ) (t : AreTables places slots
             let one : i ≡ j = sym hi.1 ∙ ap (λ n. get_or slots n 0) (sym ei ∙ same ∙ ej) ∙ hj.1 in
             let no : ⊥ = omega arith in no);
       }
+
+  -- a list that is the numbers in order
+  pub held_within : (seen noted : List ℕ) → seen ≡ held places → length noted ≡ length slots → All (λ number. number < length noted) seen
+  held_within seen noted e l = subst (All (λ number. number < length noted)) (sym e) (λ k d h. let b = order_of.within k d h in let c = t.count in omega arith)
+
+  pub held_once : (seen : List ℕ) → seen ≡ held places → AllPairs (λ a b. a ≢ b) seen
+  held_once seen e = subst (AllPairs (λ a b. a ≢ b)) (sym e) order_of.once
+
+  sum_of_all : length (held places) ≤ sum (marks room sums)
+  sum_of_all =
+      let m = sum_of_marks places in
+      let e : sum (marks room sums) ≡ sum (map mark places ++ replicate (room - length places) 1) = ap (λ (ms : List ℕ). sum ms) t.are_marks in
+      let split = sum_by-append (λ (m : ℕ). m) (map mark places) (replicate (room - length places) 1) in
+      omega arith
+
+  -- a mark stands for each position
+  pub enough_marks : (n position : ℕ) (seen : List ℕ) → n ≡ room → seen ≡ sums → position < length (held places) → position < sum (marks n seen)
+  enough_marks n position seen e f l = rw (e, f) (let s = sum_of_all in omega arith)
+
+  pub found_there : (n position place : ℕ) (seen : List ℕ) → n ≡ room → seen ≡ sums → position < length (held places)
+      → get_or (marks n seen) place 0 ≡ 1 → sum (take place (marks n seen)) ≡ position → IsFound places position place
+  found_there n position place seen e f l one before =
+      found places (marks room sums) (replicate (room - length places) 1) position place t.are_marks l
+      ((λ i. get_or (marks (sym e i) (sym f i)) place 0) ∙ one)
+      ((λ i. sum (take place (marks (sym e i) (sym f i)))) ∙ before)
+
+  pub found_within : (position place : ℕ) → IsFound places position place → get_or places place 0 < length (held places)
+  found_within position place f = let h = t.at_places place f.within f.there in let c = t.count in omega arith
+
+pub held_twice : (places : List ℕ) → held (held places) ≡ held places
+held_twice places = filter_whole is_held (held places) (All_kept is_held (λ number. is_held number ≡ true) places (λ k d l q. q))
+
+-- a slice that is written back whole
+pub written_back : (n : ℕ) (new old : List ℕ) → n ≡ length old → length new ≡ length old → take n (new ++ drop (length new) old) ≡ new
+written_back n new old a b =
+    let none : drop (length new) old ≡ [] = drop_all (length new) old (omega arith) in
+    (λ i. take n (new ++ none i)) ∙ (λ i. take n (append-nil new i)) ∙ take_all n new (omega arith)
 
 -- ---- tables in which each place has a number
 
@@ -91,6 +128,10 @@ first_tables count sums room fits s m =
     let fit : length ns ≤ room = omega arith in
     (full_tables ns ns sums room within refl noted all fit s m, all_held ns ns sums room within refl noted all fit s m)
 
+pub first_are : (count : ℕ) (places slots sums : List ℕ) (room : ℕ) → places ≡ numbers_below count → slots ≡ numbers_below count → count ≤ room → AreSums room sums
+    → marks room sums ≡ replicate room 1 → AreTables places slots sums room × (held places ≡ numbers_below count)
+first_are count places slots sums room p q fits s m = rw (p, q) (first_tables count sums room fits s m)
+
 -- tables whose places without a number are gone
 module _ (places slots sums : List ℕ) (room : ℕ) (t : AreTables places slots sums room) (noted sums' : List ℕ) (room' : ℕ)
     (size : length noted ≡ length slots) (are_noted : (place : ℕ) → place < length (held places) → get_or noted (get_or (held places) place 0) 0 ≡ place)
@@ -112,9 +153,6 @@ module _ (places slots sums : List ℕ) (room : ℕ) (t : AreTables places slots
 
   pub closed_up : AreTables (held places) noted sums' room'
   closed_up = full_tables (held places) noted sums' room' within same_size are_noted all fit s m
-
-  pub held_twice : held (held places) ≡ held places
-  held_twice = all_held (held places) noted sums' room' within same_size are_noted all fit s m
 
 -- ---- one more number
 

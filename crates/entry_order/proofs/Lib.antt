@@ -2,7 +2,6 @@ pub mod Rooms
 pub mod Adding
 pub mod Ranges
 pub mod Descent
-pub mod Lowering
 pub mod Orders
 pub mod Held
 pub mod Keeping

@@ -30,7 +30,8 @@ module _ (f : ℕ → ℕ) (room : ℕ) (nodes : (node : ℕ) → 1 ≤ node →
   pub sum_below : (halvings node : ℕ) → 1 ≤ node → (node + 1) * 2 ^ halvings ≤ 2 * room → f node ≡ sum_from f (node * 2 ^ halvings) (2 ^ halvings)
   sum_below zero node some within =
       let e : node ≡ node * 2 ^ 0 + 0 = omega arith in
-      ap f e
+      let z : f (node * 2 ^ 0 + 0) ≡ 0 + f (node * 2 ^ 0 + 0) = omega arith in
+      ap f e ∙ z
   sum_below (suc k) node some within =
       let p = pow_pos k in
       let w : ℕ = 2 ^ k in

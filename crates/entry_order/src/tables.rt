@@ -139,10 +139,10 @@ impl Tables {
         ensures err { OnErr result (held self.new.places ≡ held self.old.places) }
         ensures order { IsOrder (held self.new.places) }
     {
+        let number = self.len();
         self.make_room()?;
         self.slots.reserve(1)?;
         self.places.reserve(1)?;
-        let number = self.slots.len();
         let place = self.places.len();
         self.slots.push_reserved(place as u32);
         self.places.push_reserved(number as u32);

@@ -9,7 +9,9 @@ loop-place-preserved c =
     let slots = c.loop-place.slots in
     let places = c.args.places.now in
     let number : ℕ = get_or places at 0 in
-    let there : number < length slots = c.requires.within at 0 (omega arith) in
+    let long = c.loop-place.auto.slots in
+    let below = c.requires.within at 0 (omega arith) in
+    let there : number < length slots = omega arith in
     λ place low. elim (cases_lt place at) [
       | inl before ↦
           let apart : get_or places place 0 ≢ number = c.requires.once place at 0 before (omega arith) in
