@@ -1,6 +1,4 @@
-use Rattle.std.proofs.Common.{◌≡◌, ◌×◌, ◌/◌, length}
-use Rattle.entry_order.specs.Orders.{numbers_below}
-use Rattle.entry_order.specs.Tables.{AreTables, held}
+use Rattle.std.proofs.Common.{◌/◌, length}
 use Rattle.entry_order.proofs.Keeping.{first_are, order_of}
 use Rattle.entry_order.proofs.tables.Tables.new.Goals as goal
 
