@@ -3,6 +3,7 @@ use Rattle.std.proofs.Common.{◌≡◌, ◌≢◌, ℕ, zero, suc, ◌+◌, ◌
 use Rattle.std.proofs.lemmas.List.{drop_all, get_or_read, length-set}
 use Rattle.flow_model.specs.declared.Arc.{Arc}
 use Rattle.flow_model.specs.Flows.{given, taken, IsWithin}
+use Rattle.flow_arcs.specs.Arcs.{arc_at}
 use Rattle.flow_arcs.specs.Pairs.{tails, heads, partner, IsPaired, carried, pushed}
 
 -- the lists have two entries for each arc
@@ -174,3 +175,41 @@ pub partner_near : (e : ℕ) → partner e ≤ e + 1
 partner_near zero = omega arith
 partner_near (suc zero) = omega arith
 partner_near (suc (suc e)) = let r = partner_near e in omega arith
+
+-- the two directed arcs of an arc
+pub record AreBoth (arcs : List Arc) (rest : List ℕ) (a e : ℕ) : Type 0 where
+  pub numbered : suc e < length (heads arcs)
+  pub along_from : get_or (tails arcs) e 0 ≡ (arc_at arcs a).from
+  pub along_to : get_or (heads arcs) e 0 ≡ (arc_at arcs a).to
+  pub back_from : get_or (tails arcs) (suc e) 0 ≡ (arc_at arcs a).to
+  pub back_to : get_or (heads arcs) (suc e) 0 ≡ (arc_at arcs a).from
+  pub sum : get_or rest e 0 + get_or (carried rest) a 0 ≡ (arc_at arcs a).capacity
+  pub back : get_or rest (suc e) 0 ≡ get_or (carried rest) a 0
+
+pub both_arcs : (arcs : List Arc) (rest : List ℕ) (a e : ℕ) → IsPaired arcs rest → a < length arcs → e ≡ 2 * a → AreBoth arcs rest a e
+both_arcs [] rest a e h l q = absurd (omega arith)
+both_arcs (arc ∷ arcs) [] a e h l q = absurd h
+both_arcs (arc ∷ arcs) (x ∷ []) a e h l q = absurd h
+both_arcs (arc ∷ arcs) (x ∷ y ∷ rest) zero zero h l q = record {
+  numbered = omega arith;
+  along_from = refl;
+  along_to = refl;
+  back_from = refl;
+  back_to = refl;
+  sum = h.0.sum;
+  back = refl;
+}
+both_arcs (arc ∷ arcs) (x ∷ y ∷ rest) zero (suc e) h l q = absurd (omega arith)
+both_arcs (arc ∷ arcs) (x ∷ y ∷ rest) (suc a) zero h l q = absurd (omega arith)
+both_arcs (arc ∷ arcs) (x ∷ y ∷ rest) (suc a) (suc zero) h l q = absurd (omega arith)
+both_arcs (arc ∷ arcs) (x ∷ y ∷ rest) (suc a) (suc (suc e)) h l q =
+    let r = both_arcs arcs rest a e h.1 (omega arith) (omega arith) in
+    record {
+      numbered = let n = r.numbered in omega arith;
+      along_from = r.along_from;
+      along_to = r.along_to;
+      back_from = r.back_from;
+      back_to = r.back_to;
+      sum = r.sum;
+      back = r.back;
+    }
