@@ -33,13 +33,13 @@ module _ (net : Net) (old rest level by order : List ℕ) (node e : ℕ) (h : Is
   link = subst (λ d. IsReached net.arcs old level node d) (sym read) (h.linked node inner p.reached)
 
   pub fits : 1 ≤ get_or rest e 0
-  fits = let r = link.room in let k = p.kept e link.higher in omega arith
+  fits = let r = link.room in let k = p.kept e (let a = link.above in omega arith) in omega arith
 
   pub push_step : IsPushed net old (pushed rest e 1) level (get_or (tails net.arcs) e 0)
   push_step =
       let l = pairs_length net.arcs rest p.paired in
       let n = link.numbered in
-      let g = link.higher in
+      let g = link.above in
       record {
         paired = pushed_paired net.arcs rest e 1 p.paired fits;
         reached = link.from;

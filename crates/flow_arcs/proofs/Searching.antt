@@ -53,7 +53,7 @@ module _ (net : Net) (rest level by order : List ℕ) (node head e : ℕ) (n : I
     numbered = r.numbered;
     enters = r.enters;
     from = let f = r.from in let k = kept_level (get_or (tails net.arcs) d 0) f in omega arith;
-    higher = let f = r.from in let k = kept_level (get_or (tails net.arcs) d 0) f in let g = r.higher in let m = kept_level v l in omega arith;
+    above = let f = r.from in let k = kept_level (get_or (tails net.arcs) d 0) f in let g = r.above in let m = kept_level v l in omega arith;
     room = r.room;
   }
 
@@ -65,7 +65,7 @@ module _ (net : Net) (rest level by order : List ℕ) (node head e : ℕ) (n : I
         few = h.few;
         levels = length-set level head (get_or level node 0 + 1) ∙ h.levels;
         arcs = length-set by head e ∙ h.arcs;
-        root = let r = h.root in let k = kept_level 0 r in omega arith;
+        root = let r = h.root in kept_level 0 (omega arith) ∙ r;
         counted =
             let l = h.levels in
             let z = zeros_set level head (get_or level node 0 + 1) (omega arith) unseen (omega arith) in
@@ -89,7 +89,7 @@ module _ (net : Net) (rest level by order : List ℕ) (node head e : ℕ) (n : I
             numbered = numbered;
             enters = enters;
             from = rw leaves (let k = kept_level node reached in omega arith);
-            higher = rw leaves (let k = kept_level node reached in let m = new_level in omega arith);
+            above = rw leaves (let k = kept_level node reached in let m = new_level in omega arith);
             room = room;
           }))
           | inr q ↦ (let m = rw (old_level v q) at l in rw (get_or-set_other by head v e 0 q) (more_linked v (get_or by v 0) m (h.linked v i m)))

@@ -77,7 +77,7 @@ side_reached (x ∷ level) (suc node) = side_reached level node
 
 pub cut_reached : (net : Net) (rest level by order : List ℕ) → IsSearch net rest level by order → get_or level 1 0 ≡ 0 → IsCut (side (reached level))
 cut_reached net rest level by order h s = record {
-  source = side_reached level 0 ∙ lt-ltb 0 (get_or level 0 0) h.root;
+  source = side_reached level 0 ∙ lt-ltb 0 (get_or level 0 0) (let r = h.root in omega arith);
   sink = side_reached level 1 ∙ le-ltb 0 (get_or level 1 0) (omega arith);
 }
 

@@ -9,20 +9,21 @@ abbrev pub zeros : List ℕ → ℕ
 zeros [] = 0
 zeros (x ∷ xs) = cond (x == 0) 1 0 + zeros xs
 
--- a node was reached by that directed arc, which may carry more and comes from a node of a lower level
+-- a node was reached by that directed arc, which may carry more and comes from a reached node, whose level is one less
 pub record IsReached (arcs : List Arc) (rest level : List ℕ) (node e : ℕ) : Type 0 where
   pub numbered : e < length (heads arcs)
   pub enters : slice_index (heads arcs) e ≡ node
   pub from : 0 < slice_index level (slice_index (tails arcs) e)
-  pub higher : slice_index level (slice_index (tails arcs) e) < slice_index level node
+  pub above : slice_index level node ≡ slice_index level (slice_index (tails arcs) e) + 1
   pub room : 0 < slice_index rest e
 
--- the level of each node, or 0 if it isn't reached; the arc by which it was; and the reached nodes in their order
+-- the level of each node, 1 for the source and 0 if it isn't reached; the arc by which it was; and the reached nodes in
+-- their order
 pub record IsSearch (net : Net) (rest level by order : List ℕ) : Type 0 where
   pub few : net.nodes < 2 ^ 32
   pub levels : length level ≡ net.nodes
   pub arcs : length by ≡ net.nodes
-  pub root : 0 < slice_index level 0
+  pub root : slice_index level 0 ≡ 1
   pub counted : zeros level + length order ≡ length level
   pub low : (node : ℕ) → slice_index level node ≤ length order
   pub listed : (k : ℕ) → k < length order → 0 < slice_index level (slice_index order k)

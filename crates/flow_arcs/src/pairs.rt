@@ -8,7 +8,8 @@ use std::alloc::{AllocError, Global};
 /// The other directed arc of the same arc: 2i and 2i + 1 are partners.
 pub fn partner(arc: u32) -> u32
     requires { partner arc < 2 ^ 32 }
-    ensures { result ≡ partner arc }
+    ensures value { result ≡ partner arc }
+    ensures back { partner result ≡ arc }
 {
     if arc % 2 == 0 { arc + 1 } else { arc - 1 }
 }
@@ -34,7 +35,7 @@ pub fn idle_rests(alloc: Global, net: &Network) -> Result<Vec<u64>, AllocError>
 {
     let arcs = net.arcs();
     let mut rest = Vec::new(alloc);
-    for (i, arc) in arcs.iter().enumerate() {
+    for arc in arcs {
         rest.push(arc.capacity)?;
         rest.push(0)?;
     }

@@ -1,4 +1,4 @@
-ghost use Rattle.std.specs.Prelude.{◌≡◌, ℕ, ◌+◌, ◌<◌, ◌^◌, length, IfOk, OnOk, slice_index};
+ghost use Rattle.std.specs.Prelude.{◌≡◌, ℕ, ◌+◌, ◌<◌, ◌^◌, List, length, IfOk, OnOk, slice_index};
 ghost use Rattle.flow_model.specs.Flows.{IsNet, IsLegal, value};
 ghost use Rattle.flow_arcs.specs.Lists.{AreListsOf};
 ghost use Rattle.flow_arcs.specs.Pairs.{heads, tails, carried, IsPaired};
@@ -6,9 +6,8 @@ ghost use Rattle.flow_arcs.specs.Searches.{IsSearch, Grows, IsShut, IsDone, IsCl
 ghost use Rattle.flow_arcs.specs.Ways.{IsLinks};
 
 use crate::links::Links;
-use crate::network::Network;
+use crate::network::{Network, SINK, SOURCE};
 use crate::pairs::{partner, push};
-use crate::send::{SINK, SOURCE};
 use std::alloc::{AllocError, Global};
 
 /// What a search from the source has reached.
@@ -23,9 +22,9 @@ pub struct Search {
 }
 
 impl Search {
-    /// The search that has reached the source alone.
-    fn new(alloc: Global, net: &Network, rest: &[u64]) -> Result<Search, AllocError>
-        ensures { IfOk result (λ it. IsSearch net.now rest.now it.level.items it.by.items it.order.items) }
+    /// The search that has reached the source alone, whatever the arcs may carry.
+    fn new(alloc: Global, net: &Network) -> Result<Search, AllocError>
+        ensures { IfOk result (λ it. (rest : List ℕ) → IsSearch net.now rest it.level.items it.by.items it.order.items) }
     {
         let nodes = net.nodes() as usize;
         let mut level = vec![in alloc; 0u32; nodes]?;
@@ -127,10 +126,9 @@ pub fn search_levels(
     requires lists { AreListsOf (λ e. 0 < slice_index rest.now e) (tails net.now.arcs) links.now.first.items links.now.next.items }
     requires paired { IsPaired net.now.arcs rest.now }
     ensures search { IfOk result (λ it. IsSearch net.now rest.now it.level.items it.by.items it.order.items) }
-    ensures levels { IfOk result (λ it. length it.level.items ≡ net.now.nodes) }
     ensures closed { IfOk result (λ it. slice_index it.level.items 1 ≡ 0 → IsClosed net.now.arcs rest.now it.level.items) }
 {
-    let mut search = Search::new(alloc, net, rest)?;
+    let mut search = Search::new(alloc, net)?;
     let mut done = 0usize;
     'nodes: while done < search.order.len() && search.level[SINK as usize] == 0 {
         let node = search.order[done];

@@ -1,20 +1,16 @@
-ghost use Rattle.std.specs.Prelude.{◌≡◌, ◌≢◌, ◌<◌, ◌≤◌, ◌+◌, ◌^◌, [], ◌∷◌, ◌⊎◌, length, slice_index, slice_set, false, OnOk, IfOk, IsTrue};
+ghost use Rattle.std.specs.Prelude.{◌≡◌, ◌≢◌, ◌<◌, ◌≤◌, ◌+◌, ◌^◌, ◌↔◌, [], ◌∷◌, ◌⊎◌, length, slice_index, slice_set, false, OnOk, IfOk, IsTrue};
 ghost use Rattle.flow_model.specs.Flows.{IsNet, IsLegal, value};
 ghost use Rattle.flow_arcs.specs.Pairs.{heads, tails, partner, pushed, carried, IsPaired};
+ghost use Rattle.flow_arcs.specs.Searches.{IsSearch};
 ghost use Rattle.flow_arcs.specs.Ways.{IsLinks, IsSending, IsCarried};
 
 use crate::levels::rising_levels;
 use crate::links::Links;
-use crate::network::Network;
+use crate::network::{Network, SINK, SOURCE};
 use crate::pairs::{idle_rests, push};
+use crate::search::Search;
 use plain_data::Stack;
 use std::alloc::{AllocError, Global};
-
-/// The source's number.
-pub const SOURCE: u32 = 0;
-
-/// The sink's number.
-pub const SINK: u32 = 1;
 
 /// The level of a node from which nothing more reaches the sink.
 const SHUT: u32 = 0;
@@ -216,6 +212,13 @@ impl Sender {
         Ok(())
     }
 
+    /// Whether it is back at the source.
+    fn is_back(&self) -> bool
+        ensures { IsTrue result ↔ (self.now.before ≡ []) }
+    {
+        self.before.top().is_none()
+    }
+
     /// Sends what it may along an arc of the source.
     fn send_along(&mut self, net: &Network, links: &Links, arc: u32) -> Result<(), AllocError>
         requires few { length (heads net.now.arcs) < 2 ^ 32 }
@@ -230,7 +233,7 @@ impl Sender {
     {
         self.try_arc(net, links, arc)?;
         'steps: for _ in 0..u64::MAX {
-            if self.before.top().is_none() {
+            if self.is_back() {
                 break;
             }
             self.step(net, links)?;
@@ -259,5 +262,34 @@ impl Sender {
             }
         }
         Ok(())
+    }
+
+    /// A round: sends one along the arcs by which a search reached the sink, and then what it may up the levels of that search.
+    pub fn send_round(
+        &mut self,
+        alloc: Global,
+        net: &Network,
+        links: &Links,
+        search: Search,
+    ) -> Result<(), AllocError>
+        requires few { length (heads net.now.arcs) < 2 ^ 32 }
+        requires net { IsNet net.now }
+        requires links { IsLinks net.now links.now.to.items links.now.first.items links.now.next.items }
+        requires paired { IsPaired net.now.arcs self.old.rest.items }
+        requires legal { IsLegal net.now (carried self.old.rest.items) }
+        requires search { IsSearch net.now self.old.rest.items search.level.items search.by.items search.order.items }
+        requires reached { 0 < slice_index search.level.items 1 }
+        ensures paired { OnOk result (IsPaired net.now.arcs self.new.rest.items) }
+        ensures legal { OnOk result (IsLegal net.now (carried self.new.rest.items)) }
+        ensures raised { OnOk result (value net.now (carried self.old.rest.items) < value net.now (carried self.new.rest.items)) }
+    {
+        search.push_one(net, links, &mut self.rest);
+        let Search {
+            level,
+            by: _by,
+            order: _order,
+        } = search;
+        self.level = level;
+        self.send(alloc, net, links)
     }
 }

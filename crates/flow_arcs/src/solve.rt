@@ -6,10 +6,10 @@ ghost use Rattle.flow_arcs.specs.Sides.{side};
 
 use crate::flow::{ArcFlow, Cut};
 use crate::links::Links;
-use crate::network::Network;
+use crate::network::{Network, SINK};
 use crate::pairs::carried_flow;
 use crate::search::{Search, search_levels};
-use crate::send::{SINK, Sender};
+use crate::send::Sender;
 use plain_data::Items;
 use std::alloc::{AllocError, Global};
 
@@ -40,10 +40,7 @@ pub fn max_flow_with_cut(alloc: Global, net: &Network) -> Result<(ArcFlow, Cut),
         if search.level[SINK as usize] == 0 {
             return flow_and_cut(alloc, net, &sender.rest, &search);
         }
-        search.push_one(net, &links, &mut sender.rest);
-        let Search { level, .. } = search;
-        sender.level = level;
-        sender.send(alloc, net, &links)?;
+        sender.send_round(alloc, net, &links, search)?;
     }
 }
 
