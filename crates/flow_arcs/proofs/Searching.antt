@@ -1,11 +1,22 @@
 -- A search keeps its facts as it reaches one node more.
 use Rattle.std.proofs.Common.{◌≡◌, ◌≢◌, ℕ, zero, suc, replicate, ◌+◌, ◌^◌, ◌<◌, ◌≤◌, List, [], ◌∷◌, ◌++◌, length, get_or, set, refl, sym, ap, ◌∙◌, subst, inl, inr, arith}
-use Rattle.std.proofs.lemmas.Bool.{cases_eq, eq-eqb, ne_eqb}
-use Rattle.std.proofs.lemmas.List.{get_or_append_left, get_or_push, get_or-set_same, get_or-set_other, length-set, length_push, length-replicate, get_or-replicate}
+use Rattle.std.proofs.lemmas.Bool.{cases_eq, cases_lt, eq-eqb, ne_eqb}
+use Rattle.std.proofs.lemmas.List.{get_or_append_left, get_or_push, get_or_past, get_or-set_same, get_or-set_other, length-set, length_push, length-replicate, get_or-replicate}
 use Rattle.flow_model.specs.Flows.{Net, IsNet}
+use Rattle.flow_model.specs.declared.Arc.{Arc}
+use Rattle.flow_arcs.specs.Lists.{AreListsOf}
 use Rattle.flow_arcs.specs.Pairs.{heads, tails}
 use Rattle.flow_arcs.specs.Searches.{zeros, IsReached, IsSearch, Grows, IsShut, IsDone, IsClosed}
+use Rattle.flow_arcs.proofs.Partners.{length_tails}
 use Rattle.flow_arcs.proofs.Ways.{heads_below}
+
+-- an index with a number that isn't 0 is within the list
+pub below_length : (xs : List ℕ) (i : ℕ) → 0 < get_or xs i 0 → i < length xs
+below_length xs i h = elim (cases_lt i (length xs)) [ inl l ↦ l | inr g ↦ absurd (let e = get_or_past xs i 0 g in omega arith) ]
+
+-- what is reached is a node
+pub reached_below : (net : Net) (rest level by order : List ℕ) (node : ℕ) → IsSearch net rest level by order → 0 < get_or level node 0 → node < net.nodes
+reached_below net rest level by order node h r = let b = below_length level node r in let l = h.levels in omega arith
 
 -- a 0 that is written over
 pub zeros_set : (xs : List ℕ) (i y : ℕ) → i < length xs → get_or xs i 0 ≡ 0 → 0 < y → zeros (set xs i y) + 1 ≡ zeros xs
@@ -154,6 +165,51 @@ module _ (net : Net) (rest : List ℕ) (n : IsNet net) (f : net.nodes < 2 ^ 32) 
         ];
         linked = λ v i g. absurd (let o = other_level v i in omega arith);
       }
+
+-- nothing more is reached
+pub grows_none : (level order : List ℕ) → Grows level level order order
+grows_none level order = record { longer = omega arith; same = λ k l. refl; kept = λ node l. l }
+
+pub grows_along : (level level' level'' order order' order'' : List ℕ) → Grows level level' order order' → Grows level' level'' order' order'' → Grows level level'' order order''
+grows_along level level' level'' order order' order'' g h = record {
+  longer = let a = g.longer in let b = h.longer in omega arith;
+  same = λ k l. h.same k (let a = g.longer in omega arith) ∙ g.same k l;
+  kept = λ node l. h.kept node (g.kept node l);
+}
+
+-- a walk along the list of a node
+module _ (net : Net) (rest level first next : List ℕ) (node position : ℕ) (h : AreListsOf (λ e. 0 < get_or rest e 0) (tails net.arcs) first next) where
+  -- begins before each arc that may carry more
+  pub shut_first : position ≡ get_or first node 0 → (e : ℕ) → e < length (heads net.arcs) → position ≤ e → get_or (tails net.arcs) e 0 ≡ node → IsShut net.arcs rest level e
+  shut_first q e l b t = let k = length_tails net.arcs in λ r. absurd (h.first_skips node e (omega arith) (omega arith) r t)
+
+  -- and skips none
+  module _ (level' : List ℕ) (arc after : ℕ) (p : position ≡ arc + 1) (low : position ≤ length (tails net.arcs)) (t : get_or (tails net.arcs) arc 0 ≡ node) (q : after ≡ get_or next arc 0) where
+    pub next_below : after < position
+    next_below = let b = h.next_low arc (omega arith) in omega arith
+
+    pub next_leaves : (e : ℕ) → after ≡ e + 1 → get_or (tails net.arcs) e 0 ≡ node
+    next_leaves e s = h.next_leaves arc e (omega arith) (sym q ∙ s) ∙ t
+
+    pub shut_more : IsShut net.arcs rest level' arc → ((v : ℕ) → 0 < get_or level v 0 → 0 < get_or level' v 0)
+        → ((e : ℕ) → e < length (heads net.arcs) → position ≤ e → get_or (tails net.arcs) e 0 ≡ node → IsShut net.arcs rest level e)
+        → (e : ℕ) → e < length (heads net.arcs) → after ≤ e → get_or (tails net.arcs) e 0 ≡ node → IsShut net.arcs rest level' e
+    shut_more s k d e l b u = λ r. elim (cases_lt e arc) [
+      | inl f ↦ absurd (h.next_skips arc e (omega arith) (omega arith) f r (u ∙ sym t))
+      | inr f ↦ elim (cases_eq e arc) [
+        | inl g ↦ subst (λ v. IsShut net.arcs rest level' v) (sym g) s r
+        | inr g ↦ k (get_or (heads net.arcs) e 0) (d e l (omega arith) u r)
+      ]
+    ]
+
+-- one node more from which the search has looked
+pub done_more : (arcs : List Arc) (rest level level' order order' : List ℕ) (done node : ℕ) → Grows level level' order order' → done < length order → node ≡ get_or order done 0
+    → ((k : ℕ) → k < done → k < length order → IsDone arcs rest level (get_or order k 0)) → IsDone arcs rest level' node
+    → (k : ℕ) → k < done + 1 → k < length order' → IsDone arcs rest level' (get_or order' k 0)
+done_more arcs rest level level' order order' done node g l r d n k b m = elim (cases_eq k done) [
+  | inl q ↦ subst (λ v. IsDone arcs rest level' v) (r ∙ (sym (g.same done l) ∙ ap (λ i. get_or order' i 0) (sym q))) n
+  | inr q ↦ (λ e f t s. g.kept (get_or (heads arcs) e 0) (d k (omega arith) (omega arith) e f (t ∙ g.same k (omega arith)) s))
+]
 
 -- a search that has looked from each node that it reached is closed
 pub closed_from_done : (net : Net) (rest level by order : List ℕ) (done : ℕ) → IsSearch net rest level by order → length order ≤ done
