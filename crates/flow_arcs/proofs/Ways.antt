@@ -1,5 +1,5 @@
 -- The steps of a sender keep what it holds.
-use Rattle.std.proofs.Common.{◌≡◌, ◌≢◌, ◌⊎◌, ℕ, zero, suc, ◌+◌, ◌-◌, ◌^◌, ◌<◌, ◌≤◌, cond, ◌==◌, Bool, true, false, List, [], ◌∷◌, length, get_or, set, replicate, refl, sym, ap, ◌∙◌, subst, arith, inl, inr}
+use Rattle.std.proofs.Common.{◌≡◌, ◌≢◌, ◌⊎◌, ℕ, zero, suc, ◌+◌, ◌-◌, ◌*◌, ◌^◌, ◌<◌, ◌≤◌, cond, ◌==◌, Bool, true, false, List, [], ◌∷◌, length, get_or, set, replicate, refl, sym, ap, ◌∙◌, subst, arith, inl, inr}
 use Rattle.std.proofs.lemmas.Bool.{cases_eq, ne_eqb}
 use Rattle.std.proofs.lemmas.List.{get_or-set_same, get_or-set_other, get_or_read, length-set, length-replicate}
 use Rattle.std.specs.List.{AllByRecursion}
@@ -7,9 +7,10 @@ use Rattle.flow_model.specs.declared.Arc.{Arc}
 use Rattle.flow_model.specs.Flows.{Net, Joins, IsNet, IsLegal, value}
 use Rattle.flow_model.proofs.Cuts.{taken-source}
 use Rattle.flow_arcs.specs.declared.send.Stop.{Stop}
+use Rattle.flow_arcs.specs.Arcs.{no_arc}
 use Rattle.flow_arcs.specs.Pairs.{tails, heads, IsPaired, carried, pushed}
 use Rattle.flow_arcs.specs.Ways.{LeavesEach, IsLinks, IsWay, owed, IsSending, IsCarried}
-use Rattle.flow_arcs.proofs.Partners.{pairs_length, pushed_paired, pushed_other, pushed_moves, carried_within}
+use Rattle.flow_arcs.proofs.Partners.{pairs_length, pushed_paired, pushed_other, pushed_moves, carried_within, both_arcs}
 
 -- the directed arcs enter nodes
 pub heads_below : (nodes : ℕ) (arcs : List Arc) → AllByRecursion (Joins nodes) arcs → (e : ℕ) → e < length (heads arcs) → get_or (heads arcs) e 0 < nodes
@@ -198,6 +199,15 @@ sent_all net old new level turn stop n l h c = (
       let t = taken-source net.nodes net.arcs (carried new) n.joined in
       omega arith),
 )
+
+-- an arc of the source leaves the stop at the source
+pub source_arc : (net : Net) (rest level turn : List ℕ) (stop : Stop) (before : List Stop) (a e : ℕ) → IsSending net rest level turn stop before → before ≡ [] → a < length net.arcs → e ≡ 2 * a → (get_or net.arcs a no_arc).from ≡ 0
+    → (e < length (heads net.arcs)) × (get_or (tails net.arcs) e 0 ≡ stop.node)
+source_arc net rest level turn stop before a e h b l q z =
+    let s = subst (λ xs. IsSending net rest level turn stop xs) b h in
+    let k = both_arcs net.arcs rest a e s.paired l q in
+    let n = k.numbered in
+    (omega arith, k.along_from ∙ (z ∙ sym s.way.0))
 
 -- the stop at the source with which a sender begins
 pub begins_sending : (net : Net) (rest level turn : List ℕ) (stop : Stop) → IsNet net → IsPaired net.arcs rest → length level ≡ net.nodes → length turn ≡ net.nodes → LeavesEach net.arcs turn

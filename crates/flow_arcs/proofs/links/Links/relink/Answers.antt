@@ -1,9 +1,10 @@
-use Rattle.std.proofs.Common.{◌≡◌, ℕ, ◌+◌, ◌<◌, List, length, get_or, ap, arith}
-use Rattle.std.proofs.lemmas.List.{length-set}
+use Rattle.std.proofs.Common.{◌≡◌, ℕ, ◌+◌, ◌<◌, ◌≤◌, List, [], length, get_or, take, replicate, ap, ◌∙◌, arith}
+use Rattle.std.proofs.lemmas.List.{length-set, length-replicate}
 use Rattle.flow_model.specs.Flows.{Net, IsNet}
 use Rattle.flow_arcs.specs.Pairs.{heads, tails, partner, IsPaired}
+use Rattle.flow_arcs.specs.Lists.{AreListsOf}
 use Rattle.flow_arcs.proofs.Partners.{pairs_length, rest_below, partner_below, tail_read, length_tails}
-use Rattle.flow_arcs.proofs.Listing.{relinked, passed, all_linked}
+use Rattle.flow_arcs.proofs.Listing.{none_linked, relinked, passed, all_linked}
 use Rattle.flow_arcs.proofs.Ways.{tails_below}
 use Rattle.flow_arcs.proofs.links.Links.relink.Goals as goal
 use Rattle.flow_arcs.proofs.links.Links.relink.Goals.{then-room-gt0, else-room-gt0}
@@ -18,6 +19,15 @@ within net to first e p node n h l q r f =
 -- after the last arc
 seen : (net : Net) (rest : List ℕ) (i : ℕ) → IsPaired net.arcs rest → length rest ≤ i → length (tails net.arcs) ≤ i
 seen net rest i h l = let t = length_tails net.arcs in let s = pairs_length net.arcs rest h in omega arith
+
+begun : (wanted : ℕ → Type 0) (n : ℕ) (ts first next : List ℕ) → first ≡ replicate n 0 → next ≡ [] → (length first ≡ n) × AreListsOf wanted (take 0 ts) first next
+begun wanted n ts first next f e = rw (f, e) (length-replicate n 0, none_linked wanted n)
+
+pub loop-arc-init : goal.loop-arc-init
+loop-arc-init c =
+    let b = begun (λ e. 0 < get_or c.args.rest.now e 0) c.args.net.now.nodes (tails c.args.net.now.arcs) c.in_ok-first.first.items c.new-next.result.items
+    (c.in_ok-first.ensures.items_if_clones_equal (λ y h. h) ∙ ap (λ n. replicate {A = ℕ} n 0) c.nodes.ensures.value) c.new-next.ensures.items in
+    record { firsts = b.0; lists = b.1 }
 
 pub partner-requires : goal.partner-requires
 partner-requires c =

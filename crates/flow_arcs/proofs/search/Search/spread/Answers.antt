@@ -17,9 +17,9 @@ arcs-init c =
     let first = c.args.links.now.first.items in
     let next = c.args.links.now.next.items in
     let b : c.args.node < length first = (
-        let r = reached_below c.args.net.now c.args.rest.now c.args.self.now.level.items c.args.self.now.by.items c.args.self.now.order.items c.args.node c.requires.search c.requires.reached in
-        let f = c.requires.links.firsts in
-        omega arith) in
+    let r = reached_below c.args.net.now c.args.rest.now c.args.self.now.level.items c.args.self.now.by.items c.args.self.now.order.items c.args.node c.requires.search c.requires.reached in
+    let f = c.requires.links.firsts in
+    omega arith) in
     let q : c.index-position.result.now ≡ get_or first c.args.node 0 = get_or_read first c.args.node c.index-position.result.now b c.index-position.ensures 0 in
     record {
       low = let a = h.first_low c.args.node in omega arith;

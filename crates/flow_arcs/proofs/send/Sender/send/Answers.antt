@@ -1,9 +1,9 @@
-use Rattle.std.proofs.Common.{◌≡◌, ℕ, ◌+◌, List, [], ◌∷◌, length, subst, refl, arith}
+use Rattle.std.proofs.Common.{◌≡◌, ℕ, ◌+◌, List, [], ◌∷◌, length, subst, refl, ap, arith}
 use Rattle.flow_model.specs.Flows.{Net, IsNet, IsLegal, value}
 use Rattle.flow_arcs.specs.declared.send.Stop.{Stop}
 use Rattle.flow_arcs.specs.Pairs.{carried, IsPaired}
 use Rattle.flow_arcs.specs.Ways.{IsLinks, IsSending, IsCarried}
-use Rattle.flow_arcs.proofs.Ways.{begins_sending, begins_carried, carried_along, sent_all}
+use Rattle.flow_arcs.proofs.Ways.{begins_sending, begins_carried, carried_along, source_arc, sent_all}
 use Rattle.flow_arcs.proofs.send.Sender.send.Goals as goal
 
 begun : (net : Net) (old rest level level' to first next turn : List ℕ) (stop : Stop) (before : List Stop) → IsNet net → IsPaired net.arcs old → length level ≡ net.nodes → IsLinks net to first next
@@ -27,6 +27,16 @@ loop-i-init c =
     let b = begun c.args.net.now c.args.self.now.rest.items _ c.args.self.now.level.items _ c.args.links.now.to.items c.args.links.now.first.items c.args.links.now.next.items _ _ _
     c.requires.net c.requires.paired c.requires.levels c.requires.links c.in_ok-begin.ensures.rest c.in_ok-begin.ensures.level c.in_ok-begin.ensures.turn c.in_ok-begin.ensures.last c.in_ok-begin.ensures.before in
     record { sending = b.0; carried = b.1; back = c.in_ok-begin.ensures.before }
+
+pub send_along-requires-clause-arc : goal.send_along-requires-clause-arc
+send_along-requires-clause-arc c =
+    let e = ap length c.arcs.ensures.value in
+    (source_arc c.args.net.now c.loop-i.self.rest.items c.loop-i.self.level.items c.loop-i.self.turn.items c.loop-i.self.last c.loop-i.self.before c.loop-i.i _ c.loop-i.invariant.sending c.loop-i.invariant.back (omega arith) refl ?).0
+
+pub send_along-requires-clause-leaves : goal.send_along-requires-clause-leaves
+send_along-requires-clause-leaves c =
+    let e = ap length c.arcs.ensures.value in
+    (source_arc c.args.net.now c.loop-i.self.rest.items c.loop-i.self.level.items c.loop-i.self.turn.items c.loop-i.self.last c.loop-i.self.before c.loop-i.i _ c.loop-i.invariant.sending c.loop-i.invariant.back (omega arith) refl ?).1
 
 pub returns-clause-legal : goal.returns-clause-legal
 returns-clause-legal c =
