@@ -123,6 +123,11 @@ module _ (net : Net) (rest level by order : List ℕ) (node head e : ℕ) (n : I
 abbrev pub blank : ℕ → List ℕ
 blank n = replicate n 0
 
+zero_at : (n v : ℕ) → get_or (blank n) v 0 ≡ 0
+zero_at zero v = refl
+zero_at (suc n) zero = refl
+zero_at (suc n) (suc v) = zero_at n v
+
 zeros-replicate : (n : ℕ) → zeros (blank n) ≡ n
 zeros-replicate zero = refl
 zeros-replicate (suc n) = let e = zeros-replicate n in omega arith
@@ -137,11 +142,6 @@ module _ (net : Net) (rest : List ℕ) (n : IsNet net) (f : net.nodes < 2 ^ 32) 
 
   other_level : (v : ℕ) → v ≢ 0 → get_or (set (blank net.nodes) 0 1) v 0 ≡ 0
   other_level v ne = get_or-set_other (blank net.nodes) 0 v 1 0 ne ∙ zero_at net.nodes v
-    where
-      zero_at : (m v : ℕ) → get_or (blank m) v 0 ≡ 0
-      zero_at zero v = refl
-      zero_at (suc m) zero = refl
-      zero_at (suc m) (suc v) = zero_at m v
 
   pub search_begins : IsSearch net rest (set (blank net.nodes) 0 1) (blank net.nodes) (0 ∷ [])
   search_begins =
