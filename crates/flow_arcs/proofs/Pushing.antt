@@ -24,7 +24,7 @@ push_begins net old level p r = record {
   paired = p;
   reached = r;
   kept = λ e l. omega arith;
-  moved = λ node ne. let z : cond (1 == node) 1 0 ≡ 0 = rw (ne_eqb 1 node (λ q. ne (sym q))) refl in omega arith;
+  moved = λ node ne. let z : ◌≡◌ {A = ℕ} (cond (1 == node) 1 0) 0 = rw (ne_eqb 1 node (λ q. ne (sym q))) refl in omega arith;
 }
 
 -- one arc of the path
@@ -62,7 +62,7 @@ push_ends net old rest level n l p = (
     balanced = λ node low high.
         let m = p.moved node (λ e. omega arith) in
         let b = l.balanced node low high in
-        let z : cond (0 == node) 1 0 ≡ 0 = rw (ne_eqb 0 node (λ e. omega arith)) refl in
+        let z : ◌≡◌ {A = ℕ} (cond (0 == node) 1 0) 0 = rw (ne_eqb 0 node (λ e. omega arith)) refl in
         omega arith;
   },
   (let m = p.moved 0 (λ e. omega arith) in

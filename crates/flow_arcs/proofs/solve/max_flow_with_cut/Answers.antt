@@ -21,18 +21,18 @@ index-requires c =
 
 pub flow_and_cut-requires-clause-unreached : goal.flow_and_cut-requires-clause-unreached
 flow_and_cut-requires-clause-unreached c =
-    sym (sink_level c.args.net.now c.rounds.sender.rest.items c.in_ok-search.search.level.items c.in_ok-search.search.by.items c.in_ok-search.search.order.items c.index.result.now c.in_ok-links.ensures.net c.in_ok-search.ensures.search c.index.ensures)
+    sym (sink_level c.args.net.now c.deref-in-rounds-2.result.now c.in_ok-search.search.level.items c.in_ok-search.search.by.items c.in_ok-search.search.order.items c.index.result.now c.in_ok-links.ensures.net c.in_ok-search.ensures.search c.index.ensures)
     ∙ c.if-index-eq0.true
 
 pub flow_and_cut-requires-clause-closed : goal.flow_and_cut-requires-clause-closed
 flow_and_cut-requires-clause-closed c =
     c.in_ok-search.ensures.closed
-    (sym (sink_level c.args.net.now c.rounds.sender.rest.items c.in_ok-search.search.level.items c.in_ok-search.search.by.items c.in_ok-search.search.order.items c.index.result.now c.in_ok-links.ensures.net c.in_ok-search.ensures.search c.index.ensures)
+    (sym (sink_level c.args.net.now c.deref-in-rounds-2.result.now c.in_ok-search.search.level.items c.in_ok-search.search.by.items c.in_ok-search.search.order.items c.index.result.now c.in_ok-links.ensures.net c.in_ok-search.ensures.search c.index.ensures)
     ∙ c.if-index-eq0.true)
 
 pub send_round-requires-clause-reached : goal.send_round-requires-clause-reached
 send_round-requires-clause-reached c =
-    let s = sink_level c.args.net.now c.rounds.sender.rest.items c.in_ok-search.search.level.items c.in_ok-search.search.by.items c.in_ok-search.search.order.items c.index.result.now c.in_ok-links.ensures.net c.in_ok-search.ensures.search c.index.ensures in
+    let s = sink_level c.args.net.now c.deref-in-rounds-2.result.now c.in_ok-search.search.level.items c.in_ok-search.search.by.items c.in_ok-search.search.order.items c.index.result.now c.in_ok-links.ensures.net c.in_ok-search.ensures.search c.index.ensures in
     let f = c.if-index-eq0.false in
     omega arith
 

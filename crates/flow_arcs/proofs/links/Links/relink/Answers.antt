@@ -79,6 +79,24 @@ loop-arc-preserved c =
       }
     ]
 
+pub overflow_cast-arc : goal.overflow_cast-arc
+overflow_cast-arc c =
+    let l = rest_below c.args.net.now.arcs c.args.rest.now c.loop-arc.arc c.requires.paired (omega arith) in
+    let f = c.requires.few in
+    omega arith
+
+pub overflow_cast-arc-then-room-gt0 : goal.overflow_cast-arc-then-room-gt0
+overflow_cast-arc-then-room-gt0 c =
+    let l = rest_below c.args.net.now.arcs c.args.rest.now c.loop-arc.arc c.requires.paired (omega arith) in
+    let f = c.requires.few in
+    omega arith
+
+pub overflow_add-arc : goal.overflow_add-arc
+overflow_add-arc c =
+    let l = rest_below c.args.net.now.arcs c.args.rest.now c.loop-arc.arc c.requires.paired (omega arith) in
+    let f = c.requires.few in
+    omega arith
+
 pub returns-clause-links : goal.returns-clause-links
 returns-clause-links c =
     (all_linked c.args.net.now (λ e. 0 < get_or c.args.rest.now e 0) c.args.self.now.to.items c.loop-arc.first.items c.loop-arc.next.items c.loop-arc.arc c.requires.ends c.loop-arc.invariant.firsts

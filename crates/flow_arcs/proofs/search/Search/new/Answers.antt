@@ -9,8 +9,8 @@ begun : (net : Net) (rest level by order order' : List ℕ) → IsNet net → ne
 begun net rest level by order order' n f l b e o = rw (o, e, l, b) (search_begins net rest n f)
 
 pub returns : goal.returns
-returns c =
-    begun c.args.net.now c.args.rest.now _ _ _ _ c.nodes.ensures.net (let v = c.nodes.ensures.value in omega arith)
+returns c = λ rest.
+    begun c.args.net.now rest _ _ _ _ c.nodes.ensures.net (let v = c.nodes.ensures.value in omega arith)
     (c.in_ok-level.ensures.items_if_clones_equal (λ y h. h) ∙ ap blank c.nodes.ensures.value)
     (c.in_ok-by.ensures.items_if_clones_equal (λ y h. h) ∙ ap blank c.nodes.ensures.value)
     c.new-order.ensures.items c.in_ok-push.ensures.items

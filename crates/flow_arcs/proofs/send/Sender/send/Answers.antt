@@ -30,13 +30,15 @@ loop-i-init c =
 
 pub send_along-requires-clause-arc : goal.send_along-requires-clause-arc
 send_along-requires-clause-arc c =
-    let e = ap length c.arcs.ensures.value in
-    (source_arc c.args.net.now c.loop-i.self.rest.items c.loop-i.self.level.items c.loop-i.self.turn.items c.loop-i.self.last c.loop-i.self.before c.loop-i.i _ c.loop-i.invariant.sending c.loop-i.invariant.back (omega arith) refl ?).0
+    let e = ap length c.arcs-arc-items.ensures.value in
+    (source_arc c.args.net.now c.loop-i.self.rest.items c.loop-i.self.level.items c.loop-i.self.turn.items c.loop-i.self.last c.loop-i.self.before c.loop-i.i _ c.loop-i.invariant.sending c.loop-i.invariant.back (omega arith) refl
+    (rw c.arcs-arc-items.ensures.value at c.if-arc-eq-SOURCE.true)).0
 
 pub send_along-requires-clause-leaves : goal.send_along-requires-clause-leaves
 send_along-requires-clause-leaves c =
-    let e = ap length c.arcs.ensures.value in
-    (source_arc c.args.net.now c.loop-i.self.rest.items c.loop-i.self.level.items c.loop-i.self.turn.items c.loop-i.self.last c.loop-i.self.before c.loop-i.i _ c.loop-i.invariant.sending c.loop-i.invariant.back (omega arith) refl ?).1
+    let e = ap length c.arcs-arc-items.ensures.value in
+    (source_arc c.args.net.now c.loop-i.self.rest.items c.loop-i.self.level.items c.loop-i.self.turn.items c.loop-i.self.last c.loop-i.self.before c.loop-i.i _ c.loop-i.invariant.sending c.loop-i.invariant.back (omega arith) refl
+    (rw c.arcs-arc-items.ensures.value at c.if-arc-eq-SOURCE.true)).1
 
 pub returns-clause-legal : goal.returns-clause-legal
 returns-clause-legal c =
