@@ -26,9 +26,8 @@ flow_and_cut-requires-clause-unreached c =
 
 pub flow_and_cut-requires-clause-closed : goal.flow_and_cut-requires-clause-closed
 flow_and_cut-requires-clause-closed c =
-    c.in_ok-search.ensures.closed
-    (sym (sink_level c.args.net.now c.deref-in-rounds-2.result.now c.in_ok-search.search.level.items c.in_ok-search.search.by.items c.in_ok-search.search.order.items c.index.result.now c.in_ok-links.ensures.net c.in_ok-search.ensures.search c.index.ensures)
-    ∙ c.if-index-eq0.true)
+    let s = sink_level c.args.net.now c.deref-in-rounds-2.result.now c.in_ok-search.search.level.items c.in_ok-search.search.by.items c.in_ok-search.search.order.items c.index.result.now c.in_ok-links.ensures.net c.in_ok-search.ensures.search c.index.ensures in
+    rw c.deref-then-index-eq0.ensures.value (rw c.deref-in-rounds-2.ensures.value at (c.in_ok-search.ensures.closed (sym s ∙ c.if-index-eq0.true)))
 
 pub send_round-requires-clause-reached : goal.send_round-requires-clause-reached
 send_round-requires-clause-reached c =

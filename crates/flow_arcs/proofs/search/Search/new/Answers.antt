@@ -10,7 +10,7 @@ begun net rest level by order order' n f l b e o = rw (o, e, l, b) (search_begin
 
 pub returns : goal.returns
 returns c = λ rest.
-    begun c.args.net.now rest _ _ _ _ c.nodes.ensures.net (let v = c.nodes.ensures.value in omega arith)
-    (c.in_ok-level.ensures.items_if_clones_equal (λ y h. h) ∙ ap blank c.nodes.ensures.value)
-    (c.in_ok-by.ensures.items_if_clones_equal (λ y h. h) ∙ ap blank c.nodes.ensures.value)
+    begun c.args.net.now rest _ _ _ _ c.nodes-nodes.ensures.net (let v = c.nodes-nodes.ensures.value in omega arith)
+    (c.in_ok-level.ensures.items_if_clones_equal (λ y h. h) ∙ ap blank c.nodes-nodes.ensures.value)
+    (c.in_ok-by.ensures.items_if_clones_equal (λ y h. h) ∙ ap blank c.nodes-nodes.ensures.value)
     c.new-order.ensures.items c.in_ok-push.ensures.items
