@@ -1,10 +1,10 @@
 -- One goes along a path, arc by arc from the sink back to the source.
-use Rattle.std.proofs.Common.{◌≡◌, ◌≢◌, ℕ, zero, suc, ◌+◌, ◌<◌, ◌≤◌, cond, ◌==◌, List, length, get_or, refl, sym, ap, subst, arith}
+use Rattle.std.proofs.Common.{◌≡◌, ◌≢◌, ℕ, ◌+◌, ◌<◌, ◌≤◌, cond, ◌==◌, List, get_or, refl, sym, ap, subst, arith}
 use Rattle.std.proofs.lemmas.Bool.{ne_eqb}
 use Rattle.flow_model.specs.declared.Arc.{Arc}
 use Rattle.flow_model.specs.Flows.{Net, IsNet, given, taken, IsLegal, value}
 use Rattle.flow_model.proofs.Cuts.{taken-source}
-use Rattle.flow_arcs.specs.Pairs.{tails, heads, carried, pushed, IsPaired}
+use Rattle.flow_arcs.specs.Pairs.{tails, carried, pushed, IsPaired}
 use Rattle.flow_arcs.specs.Searches.{IsReached, IsSearch}
 use Rattle.flow_arcs.proofs.Partners.{pairs_length, pushed_paired, pushed_other, pushed_moves, carried_within}
 

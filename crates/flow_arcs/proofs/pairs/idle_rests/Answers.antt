@@ -1,5 +1,4 @@
-use Rattle.std.proofs.Common.{◌≡◌, ◌^◌, ◌<◌, length, get_or, ap, arith}
-use Rattle.flow_arcs.specs.Arcs.{no_arc}
+use Rattle.std.proofs.Common.{length, ap, arith}
 use Rattle.flow_arcs.proofs.Resting.{rests_paired, rests_carried, all_paired, all_idle}
 use Rattle.flow_arcs.proofs.pairs.idle_rests.Goals as goal
 

@@ -1,4 +1,4 @@
-use Rattle.std.proofs.Common.{◌≡◌, ℕ, ◌<◌, length, take, get_or}
+use Rattle.std.proofs.Common.{◌≡◌, ◌<◌, length, take, get_or}
 use Rattle.flow_arcs.specs.Pairs.{tails}
 use Rattle.flow_arcs.specs.Lists.{AreListsOf}
 use Rattle.flow_arcs.proofs.links.Links.relink.Given as goal

@@ -1,7 +1,7 @@
-use Rattle.std.proofs.Common.{◌≡◌, ◌≢◌, ℕ, ◌+◌, ◌<◌, List, length, get_or, sym, ap, subst, arith}
+use Rattle.std.proofs.Common.{◌≡◌, ◌≢◌, ℕ, ◌<◌, List, length, get_or, sym, ap, subst, arith}
 use Rattle.std.proofs.lemmas.List.{get_or_read}
 use Rattle.flow_model.specs.Flows.{Net}
-use Rattle.flow_arcs.specs.Pairs.{heads, tails, partner, pushed}
+use Rattle.flow_arcs.specs.Pairs.{tails, partner, pushed}
 use Rattle.flow_arcs.specs.Searches.{IsSearch, IsReached}
 use Rattle.flow_arcs.specs.Ways.{IsLinks}
 use Rattle.flow_arcs.proofs.Partners.{partner_rests, partner_below, pairs_length, tail_read}

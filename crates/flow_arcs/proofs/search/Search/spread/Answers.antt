@@ -1,6 +1,5 @@
 use Rattle.std.proofs.Common.{◌≡◌, ◌+◌, ◌-◌, ◌<◌, length, get_or, sym, ◌∙◌, arith}
 use Rattle.std.proofs.lemmas.List.{get_or_read}
-use Rattle.flow_arcs.specs.Pairs.{heads, tails}
 use Rattle.flow_arcs.proofs.Partners.{length_tails}
 use Rattle.flow_arcs.proofs.Searching.{reached_below, grows_none, grows_along, shut_first, next_below, next_leaves, shut_more}
 use Rattle.flow_arcs.proofs.search.Search.spread.Goals as goal

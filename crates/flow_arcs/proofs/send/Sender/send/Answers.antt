@@ -3,7 +3,7 @@ use Rattle.flow_model.specs.Flows.{Net, IsNet, IsLegal, value}
 use Rattle.flow_arcs.specs.declared.send.Stop.{Stop}
 use Rattle.flow_arcs.specs.Pairs.{carried, IsPaired}
 use Rattle.flow_arcs.specs.Ways.{IsLinks, IsSending, IsCarried}
-use Rattle.flow_arcs.proofs.Ways.{begins_sending, begins_carried, carried_along, source_arc, sent_all}
+use Rattle.flow_arcs.proofs.Ways.{begins_sending, begins_carried, source_arc, sent_all}
 use Rattle.flow_arcs.proofs.send.Sender.send.Goals as goal
 
 begun : (net : Net) (old rest level level' to first next turn : List ℕ) (stop : Stop) (before : List Stop) → IsNet net → IsPaired net.arcs old → length level ≡ net.nodes → IsLinks net to first next
