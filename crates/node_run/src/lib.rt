@@ -9,11 +9,13 @@
 //! whether a worker does anything.
 #![tactic(auto)]
 
+mod counting;
 mod desk;
 mod end;
 mod feeding;
 mod finishing;
 mod open_session;
+mod render;
 mod run;
 mod streams;
 mod write;
