@@ -70,6 +70,6 @@ pub trait Desk: Drop {
         ensures err { OnErr result ((ts : List Taken) → holds self.old ts → holds self.new ts) }
         ensures kept { keeps self.old self.new };
 
-    /// All frames that came are taken in: who waits for what was opened and handed in is woken.
-    fn pause(&self);
+    /// Wakes who waits for what was opened and handed in. It is called once all frames that came are taken in.
+    fn notify(&self);
 }

@@ -50,7 +50,7 @@ pub fn take_frames<D: Desk, R: Threads + Sync>(
     let (bodies, more) = cut_off(alloc, framer)?;
     let all = read_bodies(rt, alloc, bodies.as_slice(), HALVINGS)?;
     node.take_all(alloc, hosts, all)?;
-    node.desk.pause();
+    node.desk.notify();
     Ok(more)
 }
 

@@ -7,4 +7,3 @@ pub mod Serving
 pub mod Ending
 pub mod Keeping
 pub mod Batching
-pub mod Counts

@@ -205,7 +205,7 @@ impl<'a, E: Engine + Drop, Q: Feeds, N: Name, R: Wait> Desk for AdmissionDesk<'a
         Ok(())
     }
 
-    fn pause(&self) {
+    fn notify(&self) {
         self.node.ring_hosts(self.rt);
     }
 }

@@ -9,7 +9,6 @@
 //! whether a worker does anything.
 #![tactic(auto)]
 
-mod counting;
 mod desk;
 mod end;
 mod feeding;

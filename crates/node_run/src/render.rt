@@ -6,9 +6,8 @@ ghost use Rattle.std.specs.Thread.{IsSync};
 ghost use Rattle.reply_frames.specs.Replies.{entry_length};
 ghost use Rattle.node_run.specs.Frames.{journal_frames, parts_together, IsBatch};
 
-use crate::counting::frame_count;
 use plain_data::Items;
-use reply_frames::frames_of;
+use reply_frames::{frame_count, frames_of};
 use session_core::{Ask, Entry, Reply};
 use std::alloc::{AllocError, Global};
 use std::thread::{Threads, join};
@@ -64,14 +63,13 @@ pub fn batch_len(entries: &[Entry]) -> usize
     entries.len()
 }
 
-/// The running number after the frames of these entries, if they are counted at once.
+/// The running number after the frames of these entries, if it is below 2^64.
 fn number_after(first: u64, entries: &[Entry]) -> Option<u64>
     ensures { IfSome result (λ next. next ≡ first + sum_by entry_length entries.now) }
 {
     let mut next = first;
     for entry in entries {
-        let count = frame_count(entry)?;
-        next = next.checked_add(count)?;
+        next = next.checked_add(frame_count(entry))?;
     }
     Some(next)
 }
@@ -111,7 +109,7 @@ fn one_part(
 }
 
 /// The frames of these entries of a kernel's journal, with running numbers from this one on, in parts. If there are many, each half
-/// is made by a thread of its own, so often halved again.
+/// is made by a thread of its own, so often halved again. Also `Err` if a number would pass 2^64 - 1.
 #[cycle(halves)]
 fn render<R: Threads + Sync>(
     rt: &R,
@@ -128,7 +126,7 @@ fn render<R: Threads + Sync>(
     }
     let (front, back) = entries.split_at(entries.len() / 2);
     let Some(middle) = number_after(first, front) else {
-        return one_part(alloc, kernel, first, entries);
+        return Err(AllocError);
     };
     let lower = || -> Result<Vec<Items<u8>>, AllocError>
         requires { IsSync R.row × (0 < halvings) }
@@ -153,8 +151,8 @@ pub struct Made {
     pub next: u64,
 }
 
-/// The frames of these entries of a kernel's journal, with running numbers from this one on, made by threads. None if they aren't counted,
-/// or memory doesn't suffice for all at once.
+/// The frames of these entries of a kernel's journal, with running numbers from this one on, made by threads. None if memory doesn't
+/// suffice for all at once, or the next number isn't below 2^64.
 pub fn make_batch<R: Threads + Sync>(
     rt: &R,
     alloc: Global,

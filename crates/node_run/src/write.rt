@@ -220,7 +220,7 @@ fn send_parts<K: Sink>(sink: &mut K, parts: &[Items<u8>]) -> Result<(), WriteFau
 }
 
 /// Writes parts that were made, while threads make the frames of these entries of a kernel's journal, with running numbers from this one
-/// on. None of them if they aren't counted, or memory doesn't suffice for all at once.
+/// on. None of them if memory doesn't suffice for all at once.
 fn write_beside<K: Sink, R: Threads + Sync>(
     rt: &R,
     alloc: Global,
