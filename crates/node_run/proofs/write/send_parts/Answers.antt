@@ -14,7 +14,7 @@ returns-in-Err-clause-err g c =
 pub loop-part-preserved : goal.loop-part-preserved
 loop-part-preserved g c = (
   piece_written (g.K.Sink.written c.args.sink.now) (g.K.Sink.written c.loop-part.sink) (g.K.Sink.written c.send.new.sink) (parts_together c.args.parts.now) (parts_together (drop c.loop-part.part-index c.args.parts.now)) c.part-item.result
-    (parts_together (drop (c.loop-part.part-index + 1) c.args.parts.now)) c.loop-part.invariant.0
+      (parts_together (drop (c.loop-part.part-index + 1) c.args.parts.now)) c.loop-part.invariant.0
       (parts_next c.loop-part.part-index c.part-item.result c.args.parts.now c.loop-part-test.true c.part-item.is) (subst (Adds (g.K.Sink.written c.loop-part.sink) (g.K.Sink.written c.send.new.sink)) c.as_slice.ensures c.in-Ok.ensures.ok),
   omega (arith, c.in-Ok.ensures.faults_stay, c.loop-part.invariant.1),
 )

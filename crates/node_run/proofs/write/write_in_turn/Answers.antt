@@ -29,7 +29,6 @@ loop-entry-preserved g c = (
       omega (arith, c.in-Ok.ensures.next, c.loop-entry.invariant.2, more, one)),
 )
 
--- (`let rest` and the lemmas are those of main's `write_journal`)
 pub returns-in-Ok-flush-clause-ok : goal.returns-in-Ok-flush-clause-ok
 returns-in-Ok-flush-clause-ok g c =
     let rest = journal_frames c.args.kernel c.loop-entry.running (drop c.loop-entry.entry-index c.args.entries.now) in
