@@ -1,5 +1,5 @@
 -- How many messages tell an entry.
-use Rattle.std.proofs.Common.{◌≡◌, ℕ, zero, suc, ◌+◌, ◌-◌, ◌^◌, ◌<◌, ◌≤◌, List, [], ◌∷◌, ◌++◌, length, take, drop, refl, ap, sym, ◌∙◌, arith, codes}
+use Rattle.std.proofs.Common.{◌≡◌, ℕ, zero, suc, ◌+◌, ◌-◌, ◌^◌, ◌<◌, ◌≤◌, List, [], ◌∷◌, ◌++◌, length, drop, refl, ap, sym, ◌∙◌, arith, codes}
 use Rattle.std.specs.Prelude.{map, false, Option}
 use Rattle.std.specs.Int.{div_ceil}
 use Rattle.std.proofs.lemmas.Grind.{div_ceil_times}
@@ -9,7 +9,6 @@ use Rattle.serde_json.specs.Data.{Data}
 use Rattle.graph_model.specs.declared.plan.Certified.{Certified}
 use Rattle.session_core.specs.declared.request.Request.{Request}
 use Rattle.session_core.specs.declared.reply.Failure.{Failure}
-use Rattle.session_core.specs.declared.reply.Reply.TheVariants as reply
 use Rattle.reply_frames.specs.declared.lists.Listing.{Listing}
 use Rattle.reply_frames.specs.declared.lists.Listing.TheVariants as listing
 use Rattle.reply_frames.specs.Messages.{Said, streams, stream, idle}
