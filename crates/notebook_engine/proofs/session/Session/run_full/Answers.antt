@@ -4,7 +4,7 @@ use Rattle.graph_model.specs.declared.plan.Tally.{Tally}
 use Rattle.notebook_meaning.specs.Cells.{recorded}
 use Rattle.notebook_engine.specs.Holding.{PassesWith}
 use Rattle.notebook_engine.proofs.Passing.{same_number, same_draws, fills_the_count}
-use Rattle.notebook_engine.proofs.notebook.Notebook.run_full.Goals as goal
+use Rattle.notebook_engine.proofs.session.Session.run_full.Goals as goal
 
 pub returns-clause-passes : goal.returns-clause-passes
 returns-clause-passes g c = λ which draws same.

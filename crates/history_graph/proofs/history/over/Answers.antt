@@ -4,11 +4,11 @@ use Rattle.std.proofs.lemmas.Bool.{false≢true}
 use Rattle.graph_model.specs.declared.graph.Graph.{Graph}
 use Rattle.history_graph.specs.Texts.{HasManyTexts}
 use Rattle.history_graph.proofs.Told.{none_first}
-use Rattle.history_graph.proofs.history.History.over.Goals as goal
+use Rattle.history_graph.proofs.history.over.Goals as goal
 
 pub returns-then-branch : goal.returns-then-branch
 returns-then-branch c =
-    let g = c.args.self.now.graph in
+    let g = c.args.kept.now in
     let s = c.args.state.now in (
       none_first (length g.cells) (length g.versions) c.args.news (length (finite.keys s.globals)) c.len.result c.len-2.result c.len-3.result c.first_over-first.result
           (c.len.ensures ∙ ap (λ (z : Graph). length z.cells) c.graph-graph.ensures) (c.len-2.ensures ∙ ap (λ (z : Graph). length z.versions) c.graph-graph.ensures)
@@ -18,7 +18,7 @@ returns-then-branch c =
 
 pub returns : goal.returns
 returns c =
-    let g = c.args.self.now.graph in
+    let g = c.args.kept.now in
     let s = c.args.state.now in (
       none_first (length g.cells) (length g.versions) c.args.news (length (finite.keys s.globals)) c.len.result c.len-2.result c.len-3.result c.first_over-first.result
           (c.len.ensures ∙ ap (λ (z : Graph). length z.cells) c.graph-graph.ensures) (c.len-2.ensures ∙ ap (λ (z : Graph). length z.versions) c.graph-graph.ensures)
