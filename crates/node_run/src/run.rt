@@ -243,7 +243,13 @@ where
     ensures statuses { IsStatus result }
 {
     match run_sessions::<E, S, Q, G, R>(rt, alloc, hosts, workers, source, feeds, gate) {
-        Ok(ran) => match write_all_frames(alloc, sink, ran.errors.as_slice(), ran.runs.as_slice()) {
+        Ok(ran) => match write_all_frames(
+            rt,
+            alloc,
+            sink,
+            ran.errors.as_slice(),
+            ran.runs.as_slice(),
+        ) {
             Ok(()) => status_of(ran.end),
             Err(WriteFault::Sink) => status::SINK_FAULT,
             Err(WriteFault::OutOfMemory) => status::OUT_OF_MEMORY,
