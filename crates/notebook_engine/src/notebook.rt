@@ -22,7 +22,6 @@ pub struct Notebook {
 
 impl Model for Notebook {
     ghost use Rattle.notebook_engine.specs.declared.session.Session.{Session};
-
     ghost use Rattle.notebook_engine.specs.contracts.session.Session as session;
 
     ghost Value = { Session };
