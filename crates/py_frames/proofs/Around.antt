@@ -4,8 +4,7 @@ use Rattle.std.proofs.lemmas.Bool.{false≢true}
 use Rattle.py_frames.specs.declared.frames.Frame.{Frame}
 use Rattle.py_frames.specs.declared.frames.Hole.{Hole}
 use Rattle.py_frames.specs.declared.frames.Hole.TheVariants as h
-use Rattle.py_frames.specs.Values.{is_index}
-use Rattle.py_frames.specs.Ends.{is_tuple}
+use Rattle.py_frames.specs.Values.{is_index, is_tuple}
 use Rattle.py_frames.specs.Forced.{node, is_nil, is_operand, unless_below, last_as, forced_in}
 use Rattle.py_frames.specs.Forced as g
 use Rattle.py_frames.proofs.Forced.{Outer}

@@ -13,11 +13,11 @@ use Rattle.py_frames.specs.declared.frames.Hole.{Hole}
 use Rattle.py_frames.specs.declared.frames.Hole.TheVariants as h
 use Rattle.py_frames.specs.declared.frames.State.{State}
 use Rattle.py_frames.specs.declared.frames.State.TheVariants.{Wants, Has, Compared}
-use Rattle.py_frames.specs.Values.{closes, finished}
+use Rattle.py_frames.specs.Values.{closes, finished, is_tuple}
 use Rattle.py_frames.specs.Kept.{kept_pairs}
 use Rattle.py_frames.specs.Held.{value_compares, frames_opened, above, held, value_if}
 use Rattle.py_frames.specs.Constructs.{behind_hole, behind_top, construct, lone, lone_tuple, may_end}
-use Rattle.py_frames.specs.Ends.{ended, ended_in, ended_after, ended_at_in, ended_at, is_tuple}
+use Rattle.py_frames.specs.Ends.{ended, ended_in, ended_after, ended_at_in, ended_at}
 use Rattle.py_frames.proofs.Wholes.{reading-ended}
 use Rattle.py_frames.proofs.Stepped.{ends-2, ends-2-test, whole_of}
 use Rattle.py_frames.proofs.Closed.{compares-end}

@@ -8,10 +8,9 @@ use Rattle.py_frames.specs.declared.frames.Frame.{Frame}
 use Rattle.py_frames.specs.declared.frames.Hole.{Hole}
 use Rattle.py_frames.specs.declared.frames.Hole.TheVariants as h
 use Rattle.py_frames.specs.declared.frames.State.{State}
-use Rattle.py_frames.specs.Values.{places, beside, level, close, shut, closes}
+use Rattle.py_frames.specs.Values.{places, beside, level, close, shut, closes, is_tuple, is_dict}
 use Rattle.py_frames.specs.Steps as m
 use Rattle.py_frames.specs.Steps.{ends_at, ends_with, with_both, step}
-use Rattle.py_frames.specs.Ends.{is_tuple}
 use Rattle.py_frames.specs.Forced.{Sooner, reach, node, bare, is_nil, loose, forced_in, forced, AddsAt, Adds, covered, of_dict, Ending, a_name, no_args, parenthesis, bracket, brace, otherwise, key, related, no_value, not_no_value, within, a_method, called}
 use Rattle.py_frames.specs.Forced as g
 use Rattle.py_frames.proofs.Forced.{shift, reach-beside, beside-none, drop-sooner, beside-left, none-more, less-true, Outer, operator-plain}
@@ -205,7 +204,7 @@ module _ (ts : Bool) where
   colon-adds at [] v e = no-true e
   colon-adds at (x ∷ fs) v e = in_dict at x.from x.under x.hole fs v e
     where
-      in_dict : (at from : ℕ) (under : List ℕ) (hole : Hole) (fs : List Frame) (v : Value) → g.is_dict hole ≡ true → Adds ts at (forced_in ts (framed from under hole ∷ fs) true [] (places v)) (m.colon_in hole (framed from under hole) fs v)
+      in_dict : (at from : ℕ) (under : List ℕ) (hole : Hole) (fs : List Frame) (v : Value) → is_dict hole ≡ true → Adds ts at (forced_in ts (framed from under hole ∷ fs) true [] (places v)) (m.colon_in hole (framed from under hole) fs v)
       in_dict at from under (h.Dict ps) fs v e = goes_on at true from (beside under (places v)) fs
       in_dict at from under _ fs v e = no-true e
 
@@ -213,7 +212,7 @@ module _ (ts : Bool) where
   dict-covered [] e = no-true e
   dict-covered (x ∷ fs) e = in_dict x.hole (is_nil fs) e
     where
-      in_dict : (hole : Hole) (b : Bool) → g.is_dict hole ≡ true → not (is_tuple hole && b) ≡ true
+      in_dict : (hole : Hole) (b : Bool) → is_dict hole ≡ true → not (is_tuple hole && b) ≡ true
       in_dict (h.Dict ps) b e = refl
       in_dict _ b e = no-true e
 

@@ -10,7 +10,8 @@ use Rattle.py_grammar.specs.Open.{spell_upper, spell_lower, spell_bracket}
 use Rattle.py_frames.specs.declared.frames.Frame.{Frame}
 use Rattle.py_frames.specs.declared.frames.State.TheVariants.{Wants}
 use Rattle.py_frames.specs.Held.{frames_signs, frames_scaled, frames_added, frames_related, frames_nots, frames_and, frames_or, frames_test, frames_picked, frames_lower, frames_upper, frames_opened, hole_bracket, above, around, held}
-use Rattle.py_frames.specs.Ends.{last_from, outermost, is_bracket, is_tuple, enclosed_or, is_narrow, is_one, is_undivided, is_begun}
+use Rattle.py_frames.specs.Values.{is_tuple}
+use Rattle.py_frames.specs.Ends.{last_from, outermost, is_bracket, enclosed_or, is_narrow, is_one, is_undivided, is_begun}
 
 module _ (place : ℕ → ℕ) where
   pub last-joined : {A : Type 0} (o : Option A) (xs : List A) (x : A) → last_from o (xs ++ x ∷ []) ≡ Some x

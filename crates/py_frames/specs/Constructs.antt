@@ -10,8 +10,7 @@ use Rattle.py_frames.specs.declared.frames.Hole.{Hole}
 use Rattle.py_frames.specs.declared.frames.Hole.TheVariants as h
 use Rattle.py_frames.specs.declared.frames.State.{State}
 use Rattle.py_frames.specs.declared.frames.State.TheVariants.{Wants, Has, Compared, AfterIs, AfterIsNot, AfterMethod}
-use Rattle.py_frames.specs.Values.{closes, finished}
-use Rattle.py_frames.specs.Ends.{is_tuple}
+use Rattle.py_frames.specs.Values.{closes, finished, is_tuple}
 
 -- `for` and `=` among elements
 abbrev pub among : Kind → Option Construct
@@ -58,3 +57,11 @@ may_end (Wants fs) = lone_tuple fs
 may_end (Has fs v) = lone (closes 2 fs v).0
 may_end (Compared fs c) = lone (closes 2 fs (finished c)).0
 may_end _ = false
+
+-- both where no expression and no comparison has ended
+abbrev pub open_end : State → Kind → Bool × Option Construct
+open_end (Wants fs) t = (lone_tuple fs, None)
+open_end (AfterIs fs c) t = (false, not_none_or_not t)
+open_end (AfterIsNot fs c) t = (false, not_none t)
+open_end (AfterMethod fs v n) t = (false, no_call t)
+open_end _ t = (false, None)

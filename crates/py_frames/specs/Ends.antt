@@ -6,7 +6,7 @@ use Rattle.py_frames.specs.declared.frames.Hole.{Hole}
 use Rattle.py_frames.specs.declared.frames.Hole.TheVariants as h
 use Rattle.py_frames.specs.declared.frames.State.{State}
 use Rattle.py_frames.specs.declared.frames.State.TheVariants.{Wants, Has, Compared, AfterIs, AfterIsNot, AfterNot, AfterDot, AfterMethod}
-use Rattle.py_frames.specs.Values.{close, shut, closes, finished}
+use Rattle.py_frames.specs.Values.{close, shut, closes, finished, is_tuple}
 use Rattle.py_frames.specs.declared.endings.Colon.{Colon}
 use Rattle.py_frames.specs.declared.endings.Colon.TheVariants.{Goes, Ends}
 use Rattle.py_frames.specs.Steps.{with_both, ends_with, ends_at, colon_in, colon_at_in}
@@ -54,10 +54,6 @@ is_bracket (h.Slice p b) = true
 is_bracket (h.Dict ps) = true
 is_bracket (h.Pair ps k) = true
 is_bracket _ = false
-
-abbrev pub is_tuple : Hole → Bool
-is_tuple (h.Tuple xs may) = true
-is_tuple _ = false
 
 -- in a bracket, or else as this says
 abbrev pub enclosed_or : Bool → Option Frame → Bool

@@ -11,8 +11,7 @@ use Rattle.py_frames.specs.declared.frames.Hole.TheVariants as h
 use Rattle.py_frames.specs.declared.frames.State.{State}
 use Rattle.py_frames.specs.declared.frames.State.TheVariants.{Wants, Has, Compared, AfterIs, AfterIsNot, AfterNot, AfterDot, AfterMethod}
 use Rattle.py_frames.specs.declared.seeing.Sight.{Sight}
-use Rattle.py_frames.specs.Values.{places, beside, closes}
-use Rattle.py_frames.specs.Ends.{is_tuple}
+use Rattle.py_frames.specs.Values.{places, beside, closes, is_tuple, is_dict}
 
 -- each frame is a part; but where targets may come, neither a target nor a list of them is one
 abbrev pub node : Frame → List ℕ → List ℕ
@@ -121,10 +120,6 @@ Adds targets at p (Some s) = AddsAt at p (forced targets s)
 abbrev pub covered : List Frame → Bool
 covered [] = false
 covered (f ∷ fs) = not (is_tuple f.hole && is_nil fs)
-
-abbrev pub is_dict : Hole → Bool
-is_dict (h.Dict ps) = true
-is_dict _ = false
 
 -- a dict is innermost
 abbrev pub of_dict : List Frame → Bool

@@ -2,6 +2,7 @@
 use Rattle.std.specs.Prelude.{ℕ, Bool, true, false, ◌&&◌, if◌then◌else◌, nat_le, List, [], ◌∷◌, ◌++◌, Option, Some, None}
 use Rattle.py_token.specs.declared.kinds.Kind.{Kind}
 use Rattle.py_token.specs.declared.kinds.Kind.TheVariants as t
+use Rattle.py_tree.specs.declared.expressions.Expr.{Expr}
 use Rattle.py_tree.specs.declared.expressions.Expr.TheVariants as e
 use Rattle.py_tree.specs.declared.expressions.Literal.TheVariants as literal
 use Rattle.py_tree.specs.declared.expressions.Relation.TheVariants as relation
@@ -17,14 +18,17 @@ use Rattle.py_frames.specs.declared.steps.Link.TheVariants as k
 use Rattle.py_frames.specs.declared.frames.State.{State}
 use Rattle.py_frames.specs.declared.frames.State.TheVariants.{Wants, Has, Compared, AfterIs, AfterIsNot, AfterNot, AfterDot, AfterMethod}
 use Rattle.py_grammar.specs.Words.{and_word, or_word, not_word, if_word, else_word, in_word, is_word, none_word, true_word, false_word, equal_sign, not_equal_sign, at_most_sign, at_least_sign, floor_sign, plus_sign, minus_sign, times_sign, mod_sign, less_sign, more_sign, open_parenthesis, close_parenthesis, open_bracket, close_bracket, open_brace, close_brace, colon, comma, dot}
-use Rattle.py_frames.specs.Values.{atom, level, opened, begun_by, grown, close, shut, closes, logic, arithmetic, compared, relating, related, finished}
+use Rattle.py_frames.specs.Values.{is_tuple, is_group, is_pair, is_dict, is_pick, is_round, is_square, is_square_without, atom, level, opened, begun_by, grown, close, shut, closes, logic, arithmetic, compared, relating, related, finished}
 
 -- ---- brackets end
 
+abbrev pub closed_if : Bool → Frame → List Frame → Value → Option State
+closed_if true f fs v = Some (Has fs (close f v))
+closed_if false f fs v = None
+
 -- parentheses round a tuple
 abbrev pub enclosed_in : Hole → Frame → List Frame → Value → Option State
-enclosed_in h.Group f fs v = Some (Has fs (close f v))
-enclosed_in _ f fs v = None
+enclosed_in hole f fs v = closed_if (is_group hole) f fs v
 
 abbrev pub enclosed : List Frame → Value → Option State
 enclosed [] v = None
@@ -32,38 +36,47 @@ enclosed (f ∷ fs) v = enclosed_in f.hole f fs v
 
 -- `)` after an expression
 abbrev pub close_parenthesis_in : Hole → Frame → List Frame → Value → Option State
-close_parenthesis_in h.Group f fs v = Some (Has fs (close f v))
-close_parenthesis_in (h.Call g xs) f fs v = Some (Has fs (close f v))
-close_parenthesis_in (h.Method p n xs) f fs v = Some (Has fs (close f v))
-close_parenthesis_in (h.Tuple xs targets) f fs v = enclosed fs (close f v)
-close_parenthesis_in _ f fs v = None
+close_parenthesis_in hole f fs v = if is_tuple hole then enclosed fs (close f v) else closed_if (is_round hole) f fs v
 
 abbrev pub close_bracket_in : Hole → Frame → List Frame → Value → Option State
-close_bracket_in (h.Display xs) f fs v = Some (Has fs (close f v))
-close_bracket_in (h.Index p) f fs v = Some (Has fs (close f v))
-close_bracket_in (h.Slice p b) f fs v = Some (Has fs (close f v))
-close_bracket_in _ f fs v = None
+close_bracket_in hole f fs v = closed_if (is_square hole) f fs v
 
 abbrev pub close_brace_in : Hole → Frame → List Frame → Value → Option State
-close_brace_in (h.Pair ps k) f fs v = Some (Has fs (close f v))
-close_brace_in _ f fs v = None
+close_brace_in hole f fs v = closed_if (is_pair hole) f fs v
+
+-- the innermost part goes on with this hole, if it may
+abbrev pub goes_on : Option Hole → Frame → List Frame → Value → Option State
+goes_on None f fs v = None
+goes_on (Some hole) f fs v = Some (Wants (grown f v hole ∷ fs))
+
+-- after one more element; whether it may be a target
+abbrev pub with_next : Hole → Expr → Bool → Option Hole
+with_next (h.Tuple xs targets) x target = Some (h.Tuple (xs ++ x ∷ []) (targets && target))
+with_next (h.Display xs) x target = Some (h.Display (xs ++ x ∷ []))
+with_next (h.Call g xs) x target = Some (h.Call g (xs ++ x ∷ []))
+with_next (h.Method p n xs) x target = Some (h.Method p n (xs ++ x ∷ []))
+with_next (h.Pair ps k) x target = Some (h.Dict (ps ++ record { key = k; value = x } ∷ []))
+with_next _ x target = None
+
+-- after a key, or the first bound of a slice
+abbrev pub with_first : Hole → Expr → Option Hole
+with_first (h.Dict ps) x = Some (h.Pair ps x)
+with_first (h.Index p) x = Some (h.Slice p (Some x))
+with_first _ x = None
+
+-- after the test of a choice
+abbrev pub with_test : Hole → Expr → Option Hole
+with_test (h.Picks a) x = Some (h.Chooses a x)
+with_test _ x = None
 
 abbrev pub next_in : Hole → Frame → List Frame → Value → Option State
-next_in (h.Tuple xs targets) f fs v = Some (Wants (grown f v (h.Tuple (xs ++ v.tree ∷ []) (targets && v.target)) ∷ fs))
-next_in (h.Display xs) f fs v = Some (Wants (grown f v (h.Display (xs ++ v.tree ∷ [])) ∷ fs))
-next_in (h.Call g xs) f fs v = Some (Wants (grown f v (h.Call g (xs ++ v.tree ∷ [])) ∷ fs))
-next_in (h.Method p n xs) f fs v = Some (Wants (grown f v (h.Method p n (xs ++ v.tree ∷ [])) ∷ fs))
-next_in (h.Pair ps k) f fs v = Some (Wants (grown f v (h.Dict (ps ++ record { key = k; value = v.tree } ∷ [])) ∷ fs))
-next_in _ f fs v = None
+next_in hole f fs v = goes_on (with_next hole v.tree v.target) f fs v
 
 abbrev pub comma_in : Hole → Frame → List Frame → Value → Option State
-comma_in h.Group f fs v = Some (Wants (begun_by v (h.Tuple (v.tree ∷ []) v.target) ∷ f ∷ fs))
-comma_in hole f fs v = next_in hole f fs v
+comma_in hole f fs v = if is_group hole then Some (Wants (begun_by v (h.Tuple (v.tree ∷ []) v.target) ∷ f ∷ fs)) else next_in hole f fs v
 
 abbrev pub colon_in : Hole → Frame → List Frame → Value → Option State
-colon_in (h.Dict ps) f fs v = Some (Wants (grown f v (h.Pair ps v.tree) ∷ fs))
-colon_in (h.Index p) f fs v = Some (Wants (grown f v (h.Slice p (Some v.tree)) ∷ fs))
-colon_in _ f fs v = None
+colon_in hole f fs v = goes_on (with_first hole v.tree) f fs v
 
 -- with the innermost frame, if there is one
 abbrev pub ends_with : List Frame → Value → (Hole → Frame → List Frame → Value → Option State) → Option State
@@ -76,21 +89,18 @@ comma_after (f ∷ fs) v = comma_in f.hole f fs v
 
 -- ---- bracket ends where an operand is to come
 
+abbrev pub shut_if : Bool → Frame → List Frame → Option State
+shut_if true f fs = Some (Has fs (shut f))
+shut_if false f fs = None
+
 abbrev pub close_parenthesis_at_in : Hole → Frame → List Frame → Option State
-close_parenthesis_at_in h.Group f fs = Some (Has fs (shut f))
-close_parenthesis_at_in (h.Call g xs) f fs = Some (Has fs (shut f))
-close_parenthesis_at_in (h.Method p n xs) f fs = Some (Has fs (shut f))
-close_parenthesis_at_in (h.Tuple xs targets) f fs = enclosed fs (shut f)
-close_parenthesis_at_in _ f fs = None
+close_parenthesis_at_in hole f fs = if is_tuple hole then enclosed fs (shut f) else shut_if (is_round hole) f fs
 
 abbrev pub close_bracket_at_in : Hole → Frame → List Frame → Option State
-close_bracket_at_in (h.Display xs) f fs = Some (Has fs (shut f))
-close_bracket_at_in (h.Slice p b) f fs = Some (Has fs (shut f))
-close_bracket_at_in _ f fs = None
+close_bracket_at_in hole f fs = shut_if (is_square_without hole) f fs
 
 abbrev pub close_brace_at_in : Hole → Frame → List Frame → Option State
-close_brace_at_in (h.Dict ps) f fs = Some (Has fs (shut f))
-close_brace_at_in _ f fs = None
+close_brace_at_in hole f fs = shut_if (is_dict hole) f fs
 
 abbrev pub colon_at_in : Hole → Frame → List Frame → Option State
 colon_at_in (h.Index p) f fs = Some (Wants (record f { hole = h.Slice p None } ∷ fs))
@@ -130,18 +140,17 @@ operand fs _ at = None
 abbrev pub picks : List Frame → Value → List Frame
 picks fs v = begun_by v (h.Picks v.tree) ∷ fs
 
-abbrev pub if_in : Hole → List Frame → Value → Option State
-if_in (h.Picks a) fs v = None
-if_in _ fs v = Some (Wants (picks fs v))
+-- the test of a choice is innermost
+abbrev pub is_picking : List Frame → Bool
+is_picking [] = false
+is_picking (f ∷ fs) = is_pick f.hole
 
 -- `if` after what comes before it
 abbrev pub if_after : List Frame → Value → Option State
-if_after [] v = Some (Wants (picks [] v))
-if_after (f ∷ fs) v = if_in f.hole (f ∷ fs) v
+if_after fs v = if is_picking fs then None else Some (Wants (picks fs v))
 
 abbrev pub else_in : Hole → Frame → List Frame → Value → Option State
-else_in (h.Picks a) f fs v = Some (Wants (grown f v (h.Chooses a v.tree) ∷ fs))
-else_in _ f fs v = None
+else_in hole f fs v = goes_on (with_test hole v.tree) f fs v
 
 -- with what is left, and the part that ended
 abbrev pub with_both : {A : Type 0} → List Frame × Value → (List Frame → Value → A) → A

@@ -80,6 +80,47 @@ abbrev pub is_index : Hole → Bool
 is_index (h.Index p) = true
 is_index _ = false
 
+abbrev pub is_tuple : Hole → Bool
+is_tuple (h.Tuple xs may) = true
+is_tuple _ = false
+
+abbrev pub is_group : Hole → Bool
+is_group h.Group = true
+is_group _ = false
+
+abbrev pub is_pair : Hole → Bool
+is_pair (h.Pair ps k) = true
+is_pair _ = false
+
+abbrev pub is_dict : Hole → Bool
+is_dict (h.Dict ps) = true
+is_dict _ = false
+
+-- `yes if _`
+abbrev pub is_pick : Hole → Bool
+is_pick (h.Picks a) = true
+is_pick _ = false
+
+-- what ends with `)`, and is no tuple
+abbrev pub is_round : Hole → Bool
+is_round h.Group = true
+is_round (h.Call f xs) = true
+is_round (h.Method p n xs) = true
+is_round _ = false
+
+-- what ends with `]` after an expression
+abbrev pub is_square : Hole → Bool
+is_square (h.Display xs) = true
+is_square (h.Index p) = true
+is_square (h.Slice p b) = true
+is_square _ = false
+
+-- what ends with `]` where an operand is to come
+abbrev pub is_square_without : Hole → Bool
+is_square_without (h.Display xs) = true
+is_square_without (h.Slice p b) = true
+is_square_without _ = false
+
 -- a part that begins here
 abbrev pub opened : ℕ → Hole → Frame
 opened at hole = record { from = at; under = []; hole = hole }

@@ -1,15 +1,19 @@
 //! Chains that begin and go on.
-ghost use Rattle.std.specs.Prelude.{◌≡◌, [], ◌∷◌, ◌++◌, IfOk, Some, None};
+ghost use Rattle.std.specs.Prelude.{◌≡◌, [], ◌∷◌, ◌++◌, IfOk, Some};
 ghost use Rattle.py_frames.specs.declared.frames.Hole.TheVariants as h;
+ghost use Rattle.py_frames.specs.declared.frames.State.TheVariants.{Wants};
+ghost use Rattle.py_frames.specs.Gives.{Gives};
 ghost use Rattle.py_frames.specs.Values.{beside, compared_from, begun_by, logic, arithmetic_in, arithmetic, compared, relating, related, finished, made};
 
 use crate::closing::{all_with, join, made, operate, places, relate};
-use crate::frames::{Chain, Frame, Hole, Value};
+use crate::frames::{Chain, Frame, Hole, State, Value};
 use crate::nest::Nest;
 use crate::places::Places;
+use crate::stop::Stop;
 use plain_data::{Boxed, Items};
 use py_tree::{Expr, Op, Operand, Relation};
 use std::alloc::{AllocError, Global};
+use std::mem::drop;
 
 /// One more frame, inside these.
 pub fn put(mut frames: Nest<Frame>, frame: Frame) -> Result<Nest<Frame>, AllocError>
@@ -19,8 +23,30 @@ pub fn put(mut frames: Nest<Frame>, frame: Frame) -> Result<Nest<Frame>, AllocEr
     Ok(frames)
 }
 
+/// What is open, with one more in it, where an operand is to come.
+pub fn wants(frames: Nest<Frame>, frame: Frame) -> Result<State, Stop>
+    ensures { Gives result (Some (Wants (frame ∷ frames))) }
+{
+    let frames = put(frames, frame)?;
+    Ok(State::Wants(frames))
+}
+
+/// A part, with the places of one more in it.
+pub fn widened(frame: Frame, inner: usize, below: Places) -> Result<Frame, AllocError>
+    ensures { IfOk result (λ all. all ≡ record { from = frame.from; under = beside frame.under (inner ∷ below); hole = frame.hole }) }
+{
+    let Frame { from, under, hole } = frame;
+    match join(under, inner, below) {
+        Ok(under) => Ok(Frame { from, under, hole }),
+        Err(error) => {
+            drop(hole);
+            Err(error)
+        }
+    }
+}
+
 /// A list of one tree.
-pub fn one(alloc: Global, tree: Expr) -> Result<Items<Expr>, AllocError>
+pub fn one(alloc: Global, tree: Boxed<Expr>) -> Result<Items<Expr>, AllocError>
     ensures { IfOk result (λ all. all ≡ tree ∷ []) }
 {
     all_with(Items::new(alloc), tree)
@@ -44,6 +70,20 @@ fn begin_logic(
     let under = places(from, under)?;
     let hole = Hole::Logic { and, before };
     put(frames, Frame { from, under, hole })
+}
+
+/// A chain of `and` or of `or` begins in an open part.
+fn begin_logic_in(
+    alloc: Global,
+    and: bool,
+    frames: Nest<Frame>,
+    frame: Frame,
+    value: Value,
+) -> Result<Nest<Frame>, AllocError>
+    ensures { IfOk result (λ all. all ≡ begun_by value (h.Logic and (value.tree ∷ [])) ∷ frame ∷ frames) }
+{
+    let frames = put(frames, frame)?;
+    begin_logic(alloc, and, frames, value)
 }
 
 /// A chain of `and` or of `or` goes on.
@@ -82,12 +122,12 @@ fn logic_after(
 ) -> Result<Nest<Frame>, AllocError>
     ensures { IfOk result (λ all. all ≡ logic and (record { from = from; under = under; hole = h.Logic same before } ∷ frames) value) }
 {
-    if same != and {
+    if same == and {
+        logic_more(and, frames, value, from, under, before)
+    } else {
         let hole = Hole::Logic { and: same, before };
-        let frames = put(frames, Frame { from, under, hole })?;
-        return begin_logic(alloc, and, frames, value);
+        begin_logic_in(alloc, and, frames, Frame { from, under, hole }, value)
     }
-    logic_more(and, frames, value, from, under, before)
 }
 
 /// `and` or `or` after what comes before it.
@@ -105,10 +145,7 @@ pub fn logic(
             Hole::Logic { and: same, before } => {
                 logic_after(alloc, and, frames, value, from, under, same, before)
             }
-            hole => {
-                let frames = put(frames, Frame { from, under, hole })?;
-                begin_logic(alloc, and, frames, value)
-            }
+            hole => begin_logic_in(alloc, and, frames, Frame { from, under, hole }, value),
         },
     }
 }
@@ -138,6 +175,21 @@ fn begin_arithmetic(
     put(frames, Frame { from, under, hole })
 }
 
+/// A sum or a product begins in an open part.
+fn begin_arithmetic_in(
+    alloc: Global,
+    product: bool,
+    op: Op,
+    frames: Nest<Frame>,
+    frame: Frame,
+    value: Value,
+) -> Result<Nest<Frame>, AllocError>
+    ensures { IfOk result (λ all. all ≡ begun_by value (h.Arithmetic product value.tree [] op) ∷ frame ∷ frames) }
+{
+    let frames = put(frames, frame)?;
+    begin_arithmetic(alloc, product, op, frames, value)
+}
+
 /// A sum or a product goes on.
 fn arithmetic_more(
     product: bool,
@@ -146,7 +198,7 @@ fn arithmetic_more(
     value: Value,
     from: usize,
     under: Places,
-    first: Expr,
+    first: Boxed<Expr>,
     rest: Items<Operand>,
     before: Op,
 ) -> Result<Nest<Frame>, AllocError>
@@ -179,23 +231,30 @@ fn arithmetic_after(
     from: usize,
     under: Places,
     same: bool,
-    first: Expr,
+    first: Boxed<Expr>,
     rest: Items<Operand>,
     before: Op,
 ) -> Result<Nest<Frame>, AllocError>
     ensures { IfOk result (λ all. all ≡ arithmetic_in product op (h.Arithmetic same first rest before) (record { from = from; under = under; hole = h.Arithmetic same first rest before }) frames value) }
 {
-    if same != product {
+    if same == product {
+        arithmetic_more(product, op, frames, value, from, under, first, rest, before)
+    } else {
         let hole = Hole::Arithmetic {
             product: same,
             first,
             rest,
             op: before,
         };
-        let frames = put(frames, Frame { from, under, hole })?;
-        return begin_arithmetic(alloc, product, op, frames, value);
+        begin_arithmetic_in(
+            alloc,
+            product,
+            op,
+            frames,
+            Frame { from, under, hole },
+            value,
+        )
     }
-    arithmetic_more(product, op, frames, value, from, under, first, rest, before)
 }
 
 /// A sign of a sum or of a product after what comes before it.
@@ -219,10 +278,14 @@ pub fn arithmetic(
             } => arithmetic_after(
                 alloc, product, op, frames, value, from, under, same, first, rest, before,
             ),
-            hole => {
-                let frames = put(frames, Frame { from, under, hole })?;
-                begin_arithmetic(alloc, product, op, frames, value)
-            }
+            hole => begin_arithmetic_in(
+                alloc,
+                product,
+                op,
+                frames,
+                Frame { from, under, hole },
+                value,
+            ),
         },
     }
 }
@@ -252,13 +315,26 @@ fn begin_comparison(
     ))
 }
 
+/// A comparison begins in an open part.
+fn begin_comparison_in(
+    alloc: Global,
+    frames: Nest<Frame>,
+    frame: Frame,
+    value: Value,
+) -> Result<(Nest<Frame>, Chain), AllocError>
+    ensures { IfOk result (λ it. it ≡ (frame ∷ frames, compared_from value)) }
+{
+    let frames = put(frames, frame)?;
+    begin_comparison(alloc, frames, value)
+}
+
 /// The innermost part is a comparison, which goes on.
 fn comparison_after(
     frames: Nest<Frame>,
     value: Value,
     from: usize,
     under: Places,
-    first: Expr,
+    first: Boxed<Expr>,
     rest: Items<Relation>,
     op: Op,
 ) -> Result<(Nest<Frame>, Chain), AllocError>
@@ -297,10 +373,7 @@ pub fn comparison(
             Hole::Compare { first, rest, op } => {
                 comparison_after(frames, value, from, under, first, rest, op)
             }
-            hole => {
-                let frames = put(frames, Frame { from, under, hole })?;
-                begin_comparison(alloc, frames, value)
-            }
+            hole => begin_comparison_in(alloc, frames, Frame { from, under, hole }, value),
         },
     }
 }
@@ -351,6 +424,6 @@ pub fn finished(alloc: Global, chain: Chain) -> Result<Value, AllocError>
         first,
         rest,
     } = chain;
-    let first = Boxed::new(alloc, first)?;
-    Ok(made(from, under, false, Expr::Compare { first, rest }))
+    let whole = Boxed::new(alloc, Expr::Compare { first, rest })?;
+    made(alloc, from, under, false, whole)
 }

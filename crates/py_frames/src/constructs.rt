@@ -2,12 +2,12 @@
 ghost use Rattle.std.specs.Prelude.{◌≡◌, IfOk};
 ghost use Rattle.py_grammar.specs.Outside.{not_none, not_none_or_not, no_call};
 ghost use Rattle.py_frames.specs.Values.{closes, finished};
-ghost use Rattle.py_frames.specs.Constructs.{among, in_braces, behind_hole, behind_top, construct, lone, lone_tuple, may_end};
+ghost use Rattle.py_frames.specs.Constructs.{among, in_braces, behind_hole, behind_top, construct, lone, lone_tuple, open_end, may_end};
 
 use crate::chains::finished;
 use crate::closing::closes;
-use crate::endings::is_tuple;
 use crate::frames::{Chain, Frame, Hole, State, Value};
+use crate::kinds::is_tuple;
 use crate::nest::Nest;
 use py_grammar::Construct;
 use py_token::{Keyword, Kind, Symbol};
@@ -145,6 +145,19 @@ fn behind_compared(
     behind(alloc, frames, value, token)
 }
 
+/// Where no expression and no comparison has ended. Of those it tells nothing.
+fn behind_open(state: &State, token: &Kind) -> (bool, Option<Construct>)
+    ensures { result ≡ open_end state.now token.now }
+{
+    match state {
+        State::Wants(frames) => (is_lone_tuple(frames), None),
+        State::AfterIs(_, _) => (false, not_none_or_not(token)),
+        State::AfterIsNot(_, _) => (false, not_none(token)),
+        State::AfterMethod(_, _, _) => (false, no_call(token)),
+        _ => (false, None),
+    }
+}
+
 /// Whether what has been read may end, and the construct outside the grammar that the token begins after it, if any.
 pub fn construct(
     alloc: Global,
@@ -154,15 +167,12 @@ pub fn construct(
     ensures { IfOk result (λ found. found ≡ (may_end state, construct state token.now)) }
 {
     match state {
-        State::Wants(frames) => Ok((is_lone_tuple(&frames), None)),
         State::Has(frames, value) => behind(alloc, frames, value, token),
         State::Compared(frames, chain) => behind_compared(alloc, frames, chain, token),
-        State::AfterIs(_frames, _chain) => Ok((false, not_none_or_not(token))),
-        State::AfterIsNot(_frames, _chain) => Ok((false, not_none(token))),
-        State::AfterMethod(_frames, _value, _name) => Ok((false, no_call(token))),
         other => {
+            let found = behind_open(&other, token);
             drop(other);
-            Ok((false, None))
+            Ok(found)
         }
     }
 }

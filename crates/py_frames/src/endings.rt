@@ -1,19 +1,19 @@
 //! What has been read, when it is to end.
-ghost use Rattle.std.specs.Prelude.{◌≡◌, [], Some, None, true};
-ghost use Rattle.py_frames.specs.declared.frames.Hole.TheVariants as h;
+ghost use Rattle.std.specs.Prelude.{◌≡◌, ◌&&◌, [], ◌∷◌, Some, None};
 ghost use Rattle.py_frames.specs.declared.endings.Colon.TheVariants.{Ends};
 ghost use Rattle.py_frames.specs.declared.frames.State.TheVariants.{Wants};
 ghost use Rattle.py_frames.specs.Gives.{Gives};
-ghost use Rattle.py_frames.specs.Steps.{with_both, colon_in};
+ghost use Rattle.py_frames.specs.Steps.{with_both, colon_in, colon_at_in};
 ghost use Rattle.py_frames.specs.Forced.{is_nil};
-ghost use Rattle.py_frames.specs.Values.{closes, finished, close};
-ghost use Rattle.py_frames.specs.Ends.{either_of, ended, ended_in, ended_after, ended_at, is_bracket, is_tuple, enclosed_or, outermost, is_narrow, is_one, is_undivided, is_begun, colon_or_end, ends_or_goes, shuts_or_goes};
+ghost use Rattle.py_frames.specs.Values.{closes, finished, close, shut, is_tuple};
+ghost use Rattle.py_frames.specs.Ends.{either_of, ended, ended_in, ended_after, ended_at_in, ended_at, is_bracket, enclosed_or, outermost, is_narrow, is_one, is_undivided, is_begun, colon_or_end, ends_or_goes, shuts_or_goes};
 
-use crate::brackets::colon;
-use crate::chains::{finished, put};
+use crate::brackets::{colon_in, refuse_in};
+use crate::chains::finished;
 use crate::closing::{close, closes, shut};
-use crate::empty_brackets::shut_start;
+use crate::empty_brackets::{refuse_open, shut_start_in};
 use crate::frames::{Chain, Frame, Hole, State, Value};
+use crate::kinds::is_tuple;
 use crate::nest::Nest;
 use crate::stop::Stop;
 use std::alloc::Global;
@@ -26,16 +26,6 @@ pub fn begun(alloc: Global) -> State
     State::Wants(Nest::none(alloc))
 }
 
-/// Whether it is a tuple.
-pub fn is_tuple(hole: &Hole) -> bool
-    ensures { result ≡ is_tuple hole.now }
-{
-    match hole {
-        Hole::Tuple { .. } => true,
-        _ => false,
-    }
-}
-
 /// Whether nothing is open.
 pub fn is_empty(frames: &Nest<Frame>) -> bool
     ensures { result ≡ is_nil frames.now }
@@ -46,6 +36,13 @@ pub fn is_empty(frames: &Nest<Frame>) -> bool
     }
 }
 
+/// Whether it is a tuple, with nothing round it.
+pub fn is_last(frame: &Frame, frames: &Nest<Frame>) -> bool
+    ensures { result ≡ (is_tuple frame.now.hole && is_nil frames.now) }
+{
+    is_tuple(&frame.hole) && is_empty(frames)
+}
+
 /// A tuple ends with its last.
 fn end_tuple(alloc: Global, frame: Frame, value: Value) -> Result<Value, Stop>
     ensures { Gives result (Some (close frame value)) }
@@ -54,39 +51,56 @@ fn end_tuple(alloc: Global, frame: Frame, value: Value) -> Result<Value, Stop>
     Ok(value)
 }
 
+/// The part in which this is the last, if it is a tuple that nothing is round.
+fn whole_in(alloc: Global, frames: Nest<Frame>, frame: Frame, value: Value) -> Result<Value, Stop>
+    ensures { Gives result (ended_in frame.hole frame frames value) }
+{
+    if is_last(&frame, &frames) {
+        drop(frames);
+        end_tuple(alloc, frame, value)
+    } else {
+        Err(refuse_in(frames, frame, value))
+    }
+}
+
 /// The last part, which may be that of a tuple.
 fn whole(alloc: Global, mut frames: Nest<Frame>, value: Value) -> Result<Value, Stop>
     ensures { Gives result (ended_after frames value) }
 {
-    let Some(frame) = frames.pop() else {
-        return Ok(value);
-    };
-    if is_tuple(&frame.hole) {
-        if is_empty(&frames) {
-            drop(frames);
-            return end_tuple(alloc, frame, value);
-        }
+    match frames.pop() {
+        None => Ok(value),
+        Some(frame) => whole_in(alloc, frames, frame, value),
     }
-    drop(frames);
-    drop(frame);
-    drop(value);
-    Err(Stop::Refused)
+}
+
+/// A tuple ends after a comma.
+fn shut_tuple(alloc: Global, frame: Frame) -> Result<Value, Stop>
+    ensures { Gives result (Some (shut frame)) }
+{
+    let value = shut(alloc, frame)?;
+    Ok(value)
+}
+
+/// After the last comma of a tuple that nothing is round.
+fn whole_at_in(alloc: Global, frames: Nest<Frame>, frame: Frame) -> Result<Value, Stop>
+    ensures { Gives result (ended_at_in frame.hole frame frames) }
+{
+    if is_last(&frame, &frames) {
+        drop(frames);
+        shut_tuple(alloc, frame)
+    } else {
+        Err(refuse_open(frames, frame))
+    }
 }
 
 /// After the last comma of a tuple.
 fn whole_at(alloc: Global, mut frames: Nest<Frame>) -> Result<Value, Stop>
     ensures { Gives result (ended_at frames) }
 {
-    let Some(frame) = frames.pop() else {
-        return Err(Stop::Refused);
-    };
-    if is_tuple(&frame.hole) {
-        if frames.top().is_none() {
-            return Ok(shut(alloc, frame)?);
-        }
+    match frames.pop() {
+        None => Err(Stop::Refused),
+        Some(frame) => whole_at_in(alloc, frames, frame),
     }
-    drop(frame);
-    Err(Stop::Refused)
 }
 
 /// As `end`, after a part that has ended.
@@ -135,58 +149,75 @@ fn ends_with_tuple(alloc: Global, frame: Frame, value: Value) -> Result<Colon, S
     Ok(Colon::Ends(value))
 }
 
-/// A tuple ends with its last, if nothing is round it.
-fn tuple_ends(alloc: Global, frames: Nest<Frame>, frame: Frame, value: Value) -> Result<Colon, Stop>
-    ensures { Gives result (either_of (ended_in (h.Tuple [] true) frame frames value) None) }
-{
-    if is_empty(&frames) {
-        drop(frames);
-        return ends_with_tuple(alloc, frame, value);
-    }
-    drop(frames);
-    drop(frame);
-    drop(value);
-    Err(Stop::Refused)
-}
-
 /// A part goes on after this one and a `:`.
-fn goes(alloc: Global, frames: Nest<Frame>, frame: Frame, value: Value) -> Result<Colon, Stop>
+fn goes(frames: Nest<Frame>, frame: Frame, value: Value) -> Result<Colon, Stop>
     ensures { Gives result (either_of None (colon_in frame.hole frame frames value)) }
 {
-    let frames = put(frames, frame)?;
-    let state = colon(frames, value, alloc)?;
+    let state = colon_in(frames, frame, value)?;
     Ok(Colon::Goes(state))
+}
+
+fn goes_or_ends_in(
+    alloc: Global,
+    frames: Nest<Frame>,
+    frame: Frame,
+    value: Value,
+) -> Result<Colon, Stop>
+    ensures { Gives result (ends_or_goes (frame ∷ frames) value) }
+{
+    if is_last(&frame, &frames) {
+        drop(frames);
+        ends_with_tuple(alloc, frame, value)
+    } else {
+        goes(frames, frame, value)
+    }
 }
 
 /// After a part that has ended.
 fn goes_or_ends(alloc: Global, mut frames: Nest<Frame>, value: Value) -> Result<Colon, Stop>
     ensures { Gives result (ends_or_goes frames value) }
 {
-    let Some(frame) = frames.pop() else {
-        return Ok(Colon::Ends(value));
-    };
-    if is_tuple(&frame.hole) {
-        return tuple_ends(alloc, frames, frame, value);
+    match frames.pop() {
+        None => Ok(Colon::Ends(value)),
+        Some(frame) => goes_or_ends_in(alloc, frames, frame, value),
     }
-    goes(alloc, frames, frame, value)
+}
+
+/// What has been read ends with a tuple that a comma ends.
+fn shuts_with_tuple(alloc: Global, frame: Frame) -> Result<Colon, Stop>
+    ensures { Gives result (Some (Ends (shut frame))) }
+{
+    let value = shut(alloc, frame)?;
+    Ok(Colon::Ends(value))
+}
+
+/// A part goes on after a `:`.
+fn goes_at(frames: Nest<Frame>, frame: Frame) -> Result<Colon, Stop>
+    ensures { Gives result (either_of None (colon_at_in frame.hole frame frames)) }
+{
+    let state = shut_start_in(frames, frame)?;
+    Ok(Colon::Goes(state))
+}
+
+fn goes_or_shuts_in(alloc: Global, frames: Nest<Frame>, frame: Frame) -> Result<Colon, Stop>
+    ensures { Gives result (shuts_or_goes (frame ∷ frames)) }
+{
+    if is_last(&frame, &frames) {
+        drop(frames);
+        shuts_with_tuple(alloc, frame)
+    } else {
+        goes_at(frames, frame)
+    }
 }
 
 /// Where an operand is to come.
 fn goes_or_shuts(alloc: Global, mut frames: Nest<Frame>) -> Result<Colon, Stop>
     ensures { Gives result (shuts_or_goes frames) }
 {
-    let Some(frame) = frames.pop() else {
-        return Err(Stop::Refused);
-    };
-    if is_tuple(&frame.hole) {
-        if frames.top().is_none() {
-            return Ok(Colon::Ends(shut(alloc, frame)?));
-        }
-        drop(frame);
-        return Err(Stop::Refused);
+    match frames.pop() {
+        None => Err(Stop::Refused),
+        Some(frame) => goes_or_shuts_in(alloc, frames, frame),
     }
-    let frames = put(frames, frame)?;
-    Ok(Colon::Goes(shut_start(frames)?))
 }
 
 /// As `colon_or_end`, after a part that has ended.

@@ -1,12 +1,12 @@
 //! What is forced of what has been read: the places of its parts, whatever comes.
-ghost use Rattle.std.specs.Prelude.{◌≡◌, true, false, [], ◌∷◌, ◌&&◌, IfOk};
-ghost use Rattle.py_frames.specs.Ends.{is_tuple};
+ghost use Rattle.std.specs.Prelude.{◌≡◌, true, false, [], ◌∷◌, IfOk};
 ghost use Rattle.py_frames.specs.Forced as machine;
-ghost use Rattle.py_frames.specs.Forced.{node, is_nil, is_operand, may_target, unless_below, last_as, forced_in, forced};
+ghost use Rattle.py_frames.specs.Forced.{node, is_operand, may_target, unless_below, last_as, forced_in, forced};
 
-use crate::closing::{is_index, places};
-use crate::endings::is_tuple;
+use crate::closing::places;
+use crate::endings::is_last;
 use crate::frames::{Chain, Frame, Hole, State, Value};
+use crate::kinds::is_index;
 use crate::nest::Nest;
 use crate::places::Places;
 use std::alloc::{AllocError, Global};
@@ -53,13 +53,6 @@ fn unless(below: bool, tight: Places) -> Places
     ensures { result ≡ unless_below below tight }
 {
     if below { tight.below() } else { tight }
-}
-
-/// Whether it is a tuple outside all brackets.
-fn is_last(frame: &Frame, left: &Nest<Frame>) -> bool
-    ensures { result ≡ (is_tuple frame.now.hole && is_nil left.now) }
-{
-    is_tuple(&frame.hole) && left.top().is_none()
 }
 
 /// That tuple, with this in it: as a list of targets, if it may be one.

@@ -8,7 +8,7 @@ use py_tree::{Expr, Op, Operand, Pair, Relation};
 #[derive(Drop)]
 pub struct Value {
     /// What has been read, as a tree.
-    pub tree: Expr,
+    pub tree: Boxed<Expr>,
     /// Where it begins. The greater of two places is the earlier.
     pub from: usize,
     /// The places of what is in it.
@@ -21,11 +21,11 @@ pub struct Value {
 #[derive(Drop)]
 pub enum Hole {
     /// `yes if _`
-    Picks(Expr),
+    Picks(Boxed<Expr>),
     /// `yes if test else _`
     Chooses {
-        yes: Expr,
-        test: Expr,
+        yes: Boxed<Expr>,
+        test: Boxed<Expr>,
     },
     /// `a or b or _`, and the same of `and`
     Logic {
@@ -36,14 +36,14 @@ pub enum Hole {
     Not,
     /// `a < b is None < _`
     Compare {
-        first: Expr,
+        first: Boxed<Expr>,
         rest: Items<Relation>,
         op: Op,
     },
     /// `a + b - _`, and the same of products
     Arithmetic {
         product: bool,
-        first: Expr,
+        first: Boxed<Expr>,
         rest: Items<Operand>,
         op: Op,
     },
@@ -62,20 +62,20 @@ pub enum Hole {
     Display(Items<Expr>),
     /// `f(a, _`
     Call {
-        callee: Expr,
+        callee: Boxed<Expr>,
         args: Items<Expr>,
     },
     /// `a.name(b, _`
     Method {
-        value: Expr,
+        value: Boxed<Expr>,
         name: Text,
         args: Items<Expr>,
     },
     /// `a[_`
-    Index(Expr),
+    Index(Boxed<Expr>),
     /// `a[b:_`
     Slice {
-        value: Expr,
+        value: Boxed<Expr>,
         start: Option<Boxed<Expr>>,
     },
     /// `{a: b, _`
@@ -83,7 +83,7 @@ pub enum Hole {
     /// `{a: b, c: _`
     Pair {
         before: Items<Pair>,
-        key: Expr,
+        key: Boxed<Expr>,
     },
 }
 
@@ -106,7 +106,7 @@ pub struct Chain {
     /// The places of what is in it.
     pub under: Places,
     /// Its first operand.
-    pub first: Expr,
+    pub first: Boxed<Expr>,
     /// What the operands are compared with, in turn.
     pub rest: Items<Relation>,
 }

@@ -9,6 +9,7 @@ mod empty_brackets;
 mod endings;
 mod forcing;
 mod frames;
+mod kinds;
 pub mod laws;
 mod nest;
 mod operands;

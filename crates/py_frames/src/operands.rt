@@ -1,23 +1,27 @@
 //! One more token where an operand is to come.
 ghost use Rattle.std.specs.Prelude.{◌≡◌, ◌∷◌, if◌then◌else◌, true, false, Some, None};
+ghost use Rattle.py_tree.specs.declared.expressions.Expr.TheVariants as e;
+ghost use Rattle.py_tree.specs.declared.expressions.Literal.TheVariants as literal;
 ghost use Rattle.py_token.specs.declared.kinds.Kind.TheVariants as t;
 ghost use Rattle.py_frames.specs.declared.frames.Hole.TheVariants as h;
 ghost use Rattle.py_frames.specs.declared.frames.State.TheVariants.{Wants, Has};
+ghost use Rattle.py_frames.specs.declared.stop.Stop.TheVariants.{Refused};
 ghost use Rattle.py_frames.specs.Gives.{Gives};
 ghost use Rattle.py_frames.specs.Values.{atom, opened};
 ghost use Rattle.py_frames.specs.Steps.{may_deny, operand};
 
-use crate::chains::put;
+use crate::chains::wants;
 use crate::closing::level;
 use crate::empty_brackets::{shut_brace, shut_bracket, shut_parenthesis, shut_start};
 use crate::frames::{Frame, Hole, State, Value};
 use crate::nest::Nest;
 use crate::places::Places;
 use crate::stop::Stop;
-use plain_data::{Items, SharedText};
+use plain_data::{Boxed, Items, SharedText, Text};
 use py_token::{Keyword, Kind, Symbol};
 use py_tree::{Expr, Literal};
 use std::alloc::Global;
+use std::mem::drop;
 
 fn atom(
     alloc: Global,
@@ -28,6 +32,7 @@ fn atom(
 ) -> Result<State, Stop>
     ensures { Gives result (Some (Has frames (atom at target tree))) }
 {
+    let tree = Boxed::new(alloc, tree)?;
     Ok(State::Has(
         frames,
         Value {
@@ -39,19 +44,47 @@ fn atom(
     ))
 }
 
+fn literal(alloc: Global, frames: Nest<Frame>, at: usize, literal: Literal) -> Result<State, Stop>
+    ensures { Gives result (Some (Has frames (atom at false (e.Literal literal)))) }
+{
+    atom(alloc, frames, at, false, Expr::Literal(literal))
+}
+
+fn name(alloc: Global, frames: Nest<Frame>, at: usize, name: &Text) -> Result<State, Stop>
+    ensures { Gives result (Some (Has frames (atom at true (e.Name name.now)))) }
+{
+    let name = name.copy(alloc)?;
+    atom(alloc, frames, at, true, Expr::Name(name))
+}
+
+fn text(alloc: Global, frames: Nest<Frame>, at: usize, text: &Text) -> Result<State, Stop>
+    ensures { Gives result (Some (Has frames (atom at false (e.Literal (literal.Text text.now))))) }
+{
+    let copy = text.copy(alloc)?;
+    let text = SharedText::new(alloc, copy)?;
+    literal(alloc, frames, at, Literal::Text(text))
+}
+
 fn open(alloc: Global, frames: Nest<Frame>, at: usize, hole: Hole) -> Result<State, Stop>
     ensures { Gives result (Some (Wants (opened at hole ∷ frames))) }
 {
     let under = Places::none(alloc);
-    let frames = put(
+    wants(
         frames,
         Frame {
             from: at,
             under,
             hole,
         },
-    )?;
-    Ok(State::Wants(frames))
+    )
+}
+
+/// No operand begins so.
+fn refuse(frames: Nest<Frame>) -> Stop
+    ensures { result ≡ Refused }
+{
+    drop(frames);
+    Stop::Refused
 }
 
 /// Whether a `not` may stand here.
@@ -70,7 +103,7 @@ fn deny(alloc: Global, frames: Nest<Frame>, at: usize) -> Result<State, Stop>
     if may_deny(&frames) {
         open(alloc, frames, at, Hole::Not)
     } else {
-        Err(Stop::Refused)
+        Err(refuse(frames))
     }
 }
 
@@ -78,17 +111,11 @@ fn word(alloc: Global, frames: Nest<Frame>, word: Keyword, at: usize) -> Result<
     ensures { Gives result (operand frames (t.Keyword word) at) }
 {
     match word {
-        Keyword::None => atom(alloc, frames, at, false, Expr::Literal(Literal::Nothing)),
-        Keyword::True => atom(alloc, frames, at, false, Expr::Literal(Literal::Bool(true))),
-        Keyword::False => atom(
-            alloc,
-            frames,
-            at,
-            false,
-            Expr::Literal(Literal::Bool(false)),
-        ),
+        Keyword::None => literal(alloc, frames, at, Literal::Nothing),
+        Keyword::True => literal(alloc, frames, at, Literal::Bool(true)),
+        Keyword::False => literal(alloc, frames, at, Literal::Bool(false)),
         Keyword::Not => deny(alloc, frames, at),
-        _ => Err(Stop::Refused),
+        _ => Err(refuse(frames)),
     }
 }
 
@@ -105,7 +132,7 @@ fn symbol(alloc: Global, frames: Nest<Frame>, symbol: Symbol, at: usize) -> Resu
         Symbol::CloseBracket => shut_bracket(alloc, frames),
         Symbol::CloseBrace => shut_brace(alloc, frames),
         Symbol::Colon => shut_start(frames),
-        _ => Err(Stop::Refused),
+        _ => Err(refuse(frames)),
     }
 }
 
@@ -114,23 +141,11 @@ pub fn operand(alloc: Global, frames: Nest<Frame>, token: &Kind, at: usize) -> R
     ensures { Gives result (operand frames token.now at) }
 {
     match token {
-        Kind::Name(name) => {
-            let name = name.copy(alloc)?;
-            atom(alloc, frames, at, true, Expr::Name(name))
-        }
-        Kind::Number(number) => atom(
-            alloc,
-            frames,
-            at,
-            false,
-            Expr::Literal(Literal::Number(*number)),
-        ),
-        Kind::Text(text) => {
-            let text = SharedText::new(alloc, text.copy(alloc)?)?;
-            atom(alloc, frames, at, false, Expr::Literal(Literal::Text(text)))
-        }
+        Kind::Name(word) => name(alloc, frames, at, word),
+        Kind::Number(number) => literal(alloc, frames, at, Literal::Number(*number)),
+        Kind::Text(word) => text(alloc, frames, at, word),
         Kind::Keyword(keyword) => word(alloc, frames, *keyword, at),
         Kind::Symbol(sign) => symbol(alloc, frames, *sign, at),
-        _ => Err(Stop::Refused),
+        _ => Err(refuse(frames)),
     }
 }

@@ -1,14 +1,17 @@
 //! What has been read, seen as targets: when a `=` comes.
 ghost use Rattle.std.specs.Prelude.{◌≡◌, ◌&&◌, ◌++◌, [], ◌∷◌, true, false, map, drop, IfOk};
 ghost use Rattle.py_tree.specs.declared.expressions.Target.{Target};
+ghost use Rattle.py_tree.specs.declared.expressions.Target.TheVariants as t;
 ghost use Rattle.py_frames.specs.Gives.{Gives};
 ghost use Rattle.py_frames.specs.Steps.{with_both};
 ghost use Rattle.py_frames.specs.Values.{closes, finished, beside};
-ghost use Rattle.py_frames.specs.Targets.{target_of, sight_if, sight_in, sight_after, sight_at, sight};
+ghost use Rattle.py_frames.specs.Targets.{target_of, sight_if, sight_in, sight_after, sight_at_in, sight_at, sight};
 
+use crate::brackets::refuse_in;
 use crate::chains::{finished, one};
 use crate::closing::{all_with, closes, join};
-use crate::endings::is_empty;
+use crate::empty_brackets::refuse_open;
+use crate::endings::is_last;
 use crate::frames::{Chain, Frame, Hole, State, Value};
 use crate::nest::Nest;
 use crate::places::Places;
@@ -29,21 +32,41 @@ pub struct Sight {
     pub under: Places,
 }
 
+/// What stands for the target of a part that is too deep.
+fn no_target(alloc: Global) -> Result<Target, AllocError>
+    ensures { IfOk result (λ target. target ≡ t.Name []) }
+{
+    let name = Text::new(alloc, "")?;
+    Ok(Target::Name(name))
+}
+
 #[tactic(auto, using(crate::proofs::Seen::name_target, crate::proofs::Seen::item_target))]
 fn target(alloc: Global, tree: Expr) -> Result<Target, AllocError>
     ensures { IfOk result (λ target. target ≡ target_of tree) }
 {
-    Ok(match tree {
-        Expr::Name(name) => Target::Name(name),
-        Expr::Index { value, at } => Target::Item {
+    match tree {
+        Expr::Name(name) => Ok(Target::Name(name)),
+        Expr::Index { value, at } => Ok(Target::Item {
             value: value.into_inner(),
             at: at.into_inner(),
-        },
+        }),
         other => {
             drop(other);
-            Target::Name(Text::new(alloc, "")?)
+            no_target(alloc)
         }
-    })
+    }
+}
+
+/// With one more target at the end.
+fn and_target(
+    alloc: Global,
+    mut targets: Items<Target>,
+    tree: Expr,
+) -> Result<Items<Target>, AllocError>
+    ensures { IfOk result (λ all. all ≡ targets ++ target_of tree ∷ []) }
+{
+    targets.push(target(alloc, tree)?)?;
+    Ok(targets)
 }
 
 fn all_targets(alloc: Global, trees: Items<Expr>) -> Result<Items<Target>, AllocError>
@@ -51,9 +74,21 @@ fn all_targets(alloc: Global, trees: Items<Expr>) -> Result<Items<Target>, Alloc
 {
     let mut targets = Items::new(alloc);
     for tree in trees.into_vec() {
-        targets.push(target(alloc, tree)?)?;
+        targets = and_target(alloc, targets, tree)?;
     }
     Ok(targets)
+}
+
+/// These trees as targets.
+fn sight_of(alloc: Global, divided: bool, trees: Items<Expr>, under: Places) -> Result<Sight, Stop>
+    ensures { Gives result (sight_if divided true trees under) }
+{
+    let targets = all_targets(alloc, trees)?;
+    Ok(Sight {
+        targets,
+        divided,
+        under,
+    })
 }
 
 fn saw(
@@ -65,15 +100,13 @@ fn saw(
 ) -> Result<Sight, Stop>
     ensures { Gives result (sight_if divided may trees under) }
 {
-    if !may {
-        return Err(Stop::Refused);
+    if may {
+        sight_of(alloc, divided, trees, under)
+    } else {
+        drop(trees);
+        drop(under);
+        Err(Stop::Refused)
     }
-    let targets = all_targets(alloc, trees)?;
-    Ok(Sight {
-        targets,
-        divided,
-        under,
-    })
 }
 
 /// The only target.
@@ -131,34 +164,37 @@ fn last_in(alloc: Global, frame: Frame, value: Value) -> Result<Sight, Stop>
     }
 }
 
+/// The last target, in this part.
+fn last_inside(
+    alloc: Global,
+    frames: Nest<Frame>,
+    frame: Frame,
+    value: Value,
+) -> Result<Sight, Stop>
+    ensures { Gives result (sight_in frame.hole frame frames value) }
+{
+    if is_last(&frame, &frames) {
+        drop(frames);
+        last_in(alloc, frame, value)
+    } else {
+        Err(refuse_in(frames, frame, value))
+    }
+}
+
 /// The last target.
 fn last(alloc: Global, mut frames: Nest<Frame>, value: Value) -> Result<Sight, Stop>
     ensures { Gives result (sight_after frames value) }
 {
-    let Some(frame) = frames.pop() else {
-        return only(alloc, value);
-    };
-    if is_empty(&frames) {
-        drop(frames);
-        return last_in(alloc, frame, value);
+    match frames.pop() {
+        None => only(alloc, value),
+        Some(frame) => last_inside(alloc, frames, frame, value),
     }
-    drop(frames);
-    drop(frame);
-    drop(value);
-    Err(Stop::Refused)
 }
 
-/// After a comma.
-fn last_at(alloc: Global, mut frames: Nest<Frame>) -> Result<Sight, Stop>
-    ensures { Gives result (sight_at frames) }
+/// After a comma, in this part and no other.
+fn last_at_in(alloc: Global, frame: Frame) -> Result<Sight, Stop>
+    ensures { Gives result (sight_at_in frame.hole frame []) }
 {
-    let Some(frame) = frames.pop() else {
-        return Err(Stop::Refused);
-    };
-    if frames.top().is_some() {
-        drop(frame);
-        return Err(Stop::Refused);
-    }
     let Frame {
         under: left,
         hole,
@@ -168,8 +204,31 @@ fn last_at(alloc: Global, mut frames: Nest<Frame>) -> Result<Sight, Stop>
         Hole::Tuple { before, targets } => saw(alloc, true, targets, before, left.below()),
         other => {
             drop(other);
+            drop(left);
             Err(Stop::Refused)
         }
+    }
+}
+
+/// After a comma, in this part.
+fn last_inside_at(alloc: Global, frames: Nest<Frame>, frame: Frame) -> Result<Sight, Stop>
+    ensures { Gives result (sight_at_in frame.hole frame frames) }
+{
+    if is_last(&frame, &frames) {
+        drop(frames);
+        last_at_in(alloc, frame)
+    } else {
+        Err(refuse_open(frames, frame))
+    }
+}
+
+/// After a comma.
+fn last_at(alloc: Global, mut frames: Nest<Frame>) -> Result<Sight, Stop>
+    ensures { Gives result (sight_at frames) }
+{
+    match frames.pop() {
+        None => Err(Stop::Refused),
+        Some(frame) => last_inside_at(alloc, frames, frame),
     }
 }
 

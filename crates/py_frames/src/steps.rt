@@ -1,23 +1,27 @@
 //! One more token.
 ghost use Rattle.std.specs.Prelude.{◌≡◌, [], ◌∷◌, Some, None, true, false};
 ghost use Rattle.py_frames.specs.declared.frames.Hole.TheVariants as h;
-ghost use Rattle.py_frames.specs.declared.frames.State.TheVariants.{Wants};
+ghost use Rattle.py_frames.specs.declared.frames.State.TheVariants.{Wants, Compared, AfterMethod};
+ghost use Rattle.py_frames.specs.declared.stop.Stop.TheVariants.{Refused};
 ghost use Rattle.py_token.specs.declared.kinds.Kind.TheVariants as t;
 ghost use Rattle.py_frames.specs.Gives.{Gives};
-ghost use Rattle.py_frames.specs.Values.{closes, begun_by};
-ghost use Rattle.py_frames.specs.Steps.{with_both, ends_with, close_parenthesis_in, close_bracket_in, close_brace_in, comma_after, colon_in, picks, else_in, if_after, chains, calculates, behind, link, linked, joins, after_compared, operator, is_what, is_not_what, not_what, dot_what, method_what, step};
+ghost use Rattle.py_frames.specs.Values.{closes, begun_by, related};
+ghost use Rattle.py_frames.specs.Values as values;
+ghost use Rattle.py_frames.specs.Steps.{with_both, ends_with, close_parenthesis_in, close_bracket_in, close_brace_in, comma_after, colon_in, picks, is_picking, if_after, with_test, else_in, chains, calculates, behind, link, linked, joins, after_compared, operator, is_what, is_not_what, not_what, dot_what, method_what, step};
 
-use crate::brackets::{close_brace, close_bracket, close_parenthesis, colon, comma};
-use crate::chains::{arithmetic, comparison, finished, logic, put, related, relating};
-use crate::closing::{closes, join, places};
+use crate::brackets::{close_brace, close_bracket, close_parenthesis, colon, comma, refuse};
+use crate::chains::{arithmetic, comparison, finished, logic, related, relating, wants, widened};
+use crate::closing::{closes, places};
 use crate::frames::{Chain, Frame, Hole, State, Value};
+use crate::kinds::is_pick;
 use crate::nest::Nest;
 use crate::operands::operand;
 use crate::stop::Stop;
-use plain_data::{Items, Text};
+use plain_data::{Boxed, Items, Text};
 use py_token::{Keyword, Kind, Symbol};
-use py_tree::{Op, Relation};
+use py_tree::{Expr, Op, Relation};
 use std::alloc::Global;
+use std::mem::drop;
 
 /// What a token makes of a comparison that goes on with it.
 #[derive(Clone, Copy, Debug, PartialEq, Eq)]
@@ -48,10 +52,7 @@ fn linked(link: Link, frames: Nest<Frame>, chain: Chain) -> Result<State, Stop>
     ensures { Gives result (Some (linked link frames chain)) }
 {
     match link {
-        Link::With(op) => {
-            let frames = put(frames, relating(chain, op))?;
-            Ok(State::Wants(frames))
-        }
+        Link::With(op) => wants(frames, relating(chain, op)),
         Link::Not => Ok(State::AfterNot(frames, chain)),
         Link::Is => Ok(State::AfterIs(frames, chain)),
     }
@@ -66,7 +67,7 @@ fn joins(alloc: Global, link: Link, frames: Nest<Frame>, value: Value) -> Result
 }
 
 /// `if` after what comes before it.
-fn pick(alloc: Global, frames: Nest<Frame>, value: Value) -> Result<State, Stop>
+fn pick(frames: Nest<Frame>, value: Value) -> Result<State, Stop>
     ensures { Gives result (Some (Wants (picks frames value))) }
 {
     let Value {
@@ -77,49 +78,65 @@ fn pick(alloc: Global, frames: Nest<Frame>, value: Value) -> Result<State, Stop>
     } = value;
     let under = places(from, under)?;
     let hole = Hole::Picks(tree);
-    let frames = put(frames, Frame { from, under, hole })?;
-    Ok(State::Wants(frames))
+    wants(frames, Frame { from, under, hole })
 }
 
-fn begin_choice(alloc: Global, frames: Nest<Frame>, value: Value) -> Result<State, Stop>
+/// Whether the test of a choice is innermost.
+fn is_picking(frames: &Nest<Frame>) -> bool
+    ensures { result ≡ is_picking frames.now }
+{
+    match frames.top() {
+        None => false,
+        Some(frame) => is_pick(&frame.hole),
+    }
+}
+
+/// `if` after what comes before it, if that may be.
+fn begin_choice(frames: Nest<Frame>, value: Value) -> Result<State, Stop>
     ensures { Gives result (if_after frames value) }
 {
-    if let Some(frame) = frames.top() {
-        if matches!(&frame.hole, Hole::Picks(_)) {
-            return Err(Stop::Refused);
-        }
+    if is_picking(&frames) {
+        Err(refuse(frames, value))
+    } else {
+        pick(frames, value)
     }
-    pick(alloc, frames, value)
 }
 
-/// `else` after the test.
-fn choose(mut frames: Nest<Frame>, value: Value) -> Result<State, Stop>
-    ensures { Gives result (ends_with frames value else_in) }
+/// After the test of a choice.
+fn with_test(hole: Hole, tree: Boxed<Expr>) -> Result<Hole, Stop>
+    ensures { Gives result (with_test hole tree) }
 {
-    let Some(
-        Frame {
-            from,
-            under: left,
-            hole,
-        },
-    ) = frames.pop()
-    else {
-        return Err(Stop::Refused);
-    };
+    match hole {
+        Hole::Picks(yes) => Ok(Hole::Chooses { yes, test: tree }),
+        other => {
+            drop(other);
+            drop(tree);
+            Err(Stop::Refused)
+        }
+    }
+}
+
+fn choose_in(frames: Nest<Frame>, frame: Frame, value: Value) -> Result<State, Stop>
+    ensures { Gives result (else_in frame.hole frame frames value) }
+{
     let Value {
         tree,
         from: inner,
         under: below,
         ..
     } = value;
-    match hole {
-        Hole::Picks(yes) => {
-            let under = join(left, inner, below)?;
-            let hole = Hole::Chooses { yes, test: tree };
-            let frames = put(frames, Frame { from, under, hole })?;
-            Ok(State::Wants(frames))
-        }
-        _other => Err(Stop::Refused),
+    let Frame { from, under, hole } = widened(frame, inner, below)?;
+    let hole = with_test(hole, tree)?;
+    wants(frames, Frame { from, under, hole })
+}
+
+/// `else` after the test.
+fn choose(mut frames: Nest<Frame>, value: Value) -> Result<State, Stop>
+    ensures { Gives result (ends_with frames value else_in) }
+{
+    match frames.pop() {
+        None => Err(refuse(frames, value)),
+        Some(frame) => choose_in(frames, frame, value),
     }
 }
 
@@ -149,7 +166,7 @@ fn choice_after(alloc: Global, frames: Nest<Frame>, value: Value) -> Result<Stat
     ensures { Gives result (with_both (closes 3 frames value) if_after) }
 {
     let (frames, value) = closes(alloc, 3, frames, value)?;
-    begin_choice(alloc, frames, value)
+    begin_choice(frames, value)
 }
 
 /// `else` after an expression.
@@ -197,7 +214,7 @@ fn colon_after(alloc: Global, frames: Nest<Frame>, value: Value) -> Result<State
     ensures { Gives result (with_both (closes 2 frames value) (λ gs w. ends_with gs w colon_in)) }
 {
     let (frames, value) = closes(alloc, 2, frames, value)?;
-    colon(frames, value, alloc)
+    colon(frames, value)
 }
 
 /// `and`, `or`, `if` or `else` after an expression.
@@ -214,7 +231,7 @@ fn behind_word(
         Keyword::Or => chain_after(alloc, 4, false, frames, value),
         Keyword::If => choice_after(alloc, frames, value),
         Keyword::Else => else_after(alloc, frames, value),
-        _ => Err(Stop::Refused),
+        _ => Err(refuse(frames, value)),
     }
 }
 
@@ -229,7 +246,7 @@ fn behind(alloc: Global, frames: Nest<Frame>, value: Value, token: &Kind) -> Res
         Kind::Symbol(Symbol::CloseBrace) => brace_after(alloc, frames, value),
         Kind::Symbol(Symbol::Comma) => comma_after(alloc, frames, value),
         Kind::Symbol(Symbol::Colon) => colon_after(alloc, frames, value),
-        _ => Err(Stop::Refused),
+        _ => Err(refuse(frames, value)),
     }
 }
 
@@ -262,8 +279,7 @@ fn begin_call(alloc: Global, frames: Nest<Frame>, value: Value) -> Result<State,
         callee: tree,
         args: Items::new(alloc),
     };
-    let frames = put(frames, Frame { from, under, hole })?;
-    Ok(State::Wants(frames))
+    wants(frames, Frame { from, under, hole })
 }
 
 fn begin_item(frames: Nest<Frame>, value: Value) -> Result<State, Stop>
@@ -277,8 +293,7 @@ fn begin_item(frames: Nest<Frame>, value: Value) -> Result<State, Stop>
     } = value;
     let under = places(from, under)?;
     let hole = Hole::Index(tree);
-    let frames = put(frames, Frame { from, under, hole })?;
-    Ok(State::Wants(frames))
+    wants(frames, Frame { from, under, hole })
 }
 
 /// After an operand.
@@ -301,6 +316,19 @@ fn operator(alloc: Global, frames: Nest<Frame>, value: Value, token: &Kind) -> R
     }
 }
 
+/// After a comparison that ends, if it is no relation.
+fn behind_chain(
+    alloc: Global,
+    frames: Nest<Frame>,
+    chain: Chain,
+    token: &Kind,
+) -> Result<State, Stop>
+    ensures { Gives result (behind frames (values.finished chain) token.now) }
+{
+    let value = finished(alloc, chain)?;
+    behind(alloc, frames, value, token)
+}
+
 /// After a comparison that ends with `None`.
 fn after_compared(
     alloc: Global,
@@ -312,22 +340,34 @@ fn after_compared(
 {
     match link_of(token) {
         Some(link) => linked(link, frames, chain),
-        None => {
-            let value = finished(alloc, chain)?;
-            behind(alloc, frames, value, token)
-        }
+        None => behind_chain(alloc, frames, chain, token),
     }
+}
+
+/// A comparison is let go, since it doesn't go on so.
+fn refuse_chain(frames: Nest<Frame>, chain: Chain) -> Stop
+    ensures { result ≡ Refused }
+{
+    drop(frames);
+    drop(chain);
+    Stop::Refused
+}
+
+/// A comparison ends with `None`.
+fn relate_none(frames: Nest<Frame>, chain: Chain, relation: Relation) -> Result<State, Stop>
+    ensures { Gives result (Some (Compared frames (related chain relation))) }
+{
+    let chain = related(chain, relation)?;
+    Ok(State::Compared(frames, chain))
 }
 
 fn is_what(frames: Nest<Frame>, chain: Chain, token: &Kind) -> Result<State, Stop>
     ensures { Gives result (is_what frames chain token.now) }
 {
     match token {
-        Kind::Keyword(Keyword::None) => {
-            Ok(State::Compared(frames, related(chain, Relation::IsNone)?))
-        }
+        Kind::Keyword(Keyword::None) => relate_none(frames, chain, Relation::IsNone),
         Kind::Keyword(Keyword::Not) => Ok(State::AfterIsNot(frames, chain)),
-        _ => Err(Stop::Refused),
+        _ => Err(refuse_chain(frames, chain)),
     }
 }
 
@@ -335,10 +375,8 @@ fn is_not_what(frames: Nest<Frame>, chain: Chain, token: &Kind) -> Result<State,
     ensures { Gives result (is_not_what frames chain token.now) }
 {
     match token {
-        Kind::Keyword(Keyword::None) => {
-            Ok(State::Compared(frames, related(chain, Relation::IsNotNone)?))
-        }
-        _ => Err(Stop::Refused),
+        Kind::Keyword(Keyword::None) => relate_none(frames, chain, Relation::IsNotNone),
+        _ => Err(refuse_chain(frames, chain)),
     }
 }
 
@@ -346,17 +384,29 @@ fn not_what(frames: Nest<Frame>, chain: Chain, token: &Kind) -> Result<State, St
     ensures { Gives result (not_what frames chain token.now) }
 {
     match token {
-        Kind::Keyword(Keyword::In) => { Ok(State::Wants(put(frames, relating(chain, Op::NotIn))?)) }
-        _ => Err(Stop::Refused),
+        Kind::Keyword(Keyword::In) => wants(frames, relating(chain, Op::NotIn)),
+        _ => Err(refuse_chain(frames, chain)),
     }
+}
+
+fn after_method(
+    alloc: Global,
+    frames: Nest<Frame>,
+    value: Value,
+    name: &Text,
+) -> Result<State, Stop>
+    ensures { Gives result (Some (AfterMethod frames value name.now)) }
+{
+    let name = name.copy(alloc)?;
+    Ok(State::AfterMethod(frames, value, name))
 }
 
 fn dot_what(alloc: Global, frames: Nest<Frame>, value: Value, token: &Kind) -> Result<State, Stop>
     ensures { Gives result (dot_what frames value token.now) }
 {
     match token {
-        Kind::Name(name) => Ok(State::AfterMethod(frames, value, name.copy(alloc)?)),
-        _ => Err(Stop::Refused),
+        Kind::Name(name) => after_method(alloc, frames, value, name),
+        _ => Err(refuse(frames, value)),
     }
 }
 
@@ -375,8 +425,7 @@ fn begin_method(alloc: Global, frames: Nest<Frame>, value: Value, name: Text) ->
         name,
         args: Items::new(alloc),
     };
-    let frames = put(frames, Frame { from, under, hole })?;
-    Ok(State::Wants(frames))
+    wants(frames, Frame { from, under, hole })
 }
 
 fn method_what(
@@ -390,7 +439,10 @@ fn method_what(
 {
     match token {
         Kind::Symbol(Symbol::OpenParenthesis) => begin_method(alloc, frames, value, name),
-        _ => Err(Stop::Refused),
+        _ => {
+            drop(name);
+            Err(refuse(frames, value))
+        }
     }
 }
 
