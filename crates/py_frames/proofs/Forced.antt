@@ -325,13 +325,12 @@ module _ (ts : Bool) where
   else-grows from under (h.Picks a) fs v = goes_on from under v fs
   else-grows from under _ fs v = tt
 
-  if_in-grows : (hole : Hole) (fs : List Frame) (v : Value) → Grows ts (Ended fs v) (m.if_in hole fs v)
-  if_in-grows (h.Picks a) fs v = tt
-  if_in-grows _ fs v = begins v fs
+  picks-grow : (b : Bool) (fs : List Frame) (v : Value) → Grows ts (Ended fs v) (if b then None else Some (Wants (m.picks fs v)))
+  picks-grow true fs v = tt
+  picks-grow false fs v = begins v fs
 
   if-grows : (fs : List Frame) (v : Value) → Grows ts (Ended fs v) (m.if_after fs v)
-  if-grows [] v = begins v []
-  if-grows (f ∷ fs) v = if_in-grows f.hole (f ∷ fs) v
+  if-grows fs v = picks-grow (m.is_picking fs) fs v
 
   abbrev Shuts : (Hole → Frame → List Frame → Option State) → Type 0
   Shuts act = (from : ℕ) (under : List ℕ) (hole : Hole) (fs : List Frame) → Grows ts (forced_in ts (framed from under hole ∷ fs) true [] []) (act hole (framed from under hole) fs)

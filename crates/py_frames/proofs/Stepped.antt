@@ -20,7 +20,7 @@ use Rattle.py_frames.specs.declared.frames.State.TheVariants.{Wants}
 use Rattle.py_frames.specs.declared.steps.Link.{Link}
 use Rattle.py_frames.specs.declared.steps.Link.TheVariants as k
 use Rattle.py_frames.specs.Values as v
-use Rattle.py_frames.specs.Values.{level, closes, begun_by, joined, logic_in, logic, arithmetic_in, arithmetic, compared_in, compared_from}
+use Rattle.py_frames.specs.Values.{is_pick, level, closes, begun_by, joined, logic_in, logic, arithmetic_in, arithmetic, compared_in, compared_from}
 use Rattle.py_frames.specs.Steps as m
 use Rattle.py_frames.specs.Steps.{ends_at, ends_with, may_deny, with_both, link, linked, step}
 use Rattle.py_frames.specs.Held.{value_expression, value_ors, value_ands, value_negation, value_compares, value_sums, value_products, value_signed, value_primary, chain_compares, frames_scaled, frames_added, frames_related, frames_and, frames_or, frames_test, frames_picked, frames_opened, above, around, held, held_if}
@@ -412,13 +412,16 @@ module _ (place : ℕ → ℕ) where
 
   -- ---- `if` and `else`
 
-  if-begins-in : (hole : Hole) (fs : List Frame) (x : Value) → level hole < 1 → m.if_in hole fs x ≡ Some (Wants (m.picks fs x))
-  if-begins-in (h.Picks a) fs x e = absurd (omega (arith, e))
-  if-begins-in _ fs x e = refl
+  no-pick : (hole : Hole) → level hole < 1 → is_pick hole ≡ false
+  no-pick (h.Picks a) e = absurd (omega (arith, e))
+  no-pick _ e = refl
+
+  not-picking : (fs : List Frame) → Below place 1 fs → m.is_picking fs ≡ false
+  not-picking [] e = refl
+  not-picking (f ∷ fs) e = no-pick f.hole e
 
   if-begins : (fs : List Frame) (x : Value) → Below place 1 fs → m.if_after fs x ≡ Some (Wants (m.picks fs x))
-  if-begins [] x e = refl
-  if-begins (f ∷ fs) x e = if-begins-in f.hole (f ∷ fs) x e
+  if-begins fs x e = ap (λ b. if b then None else Some (Wants (m.picks fs x))) (not-picking fs e)
 
   else-none-in : (hole : Hole) (f : Frame) (fs : List Frame) (x : Value) → level hole < 1 → m.else_in hole f fs x ≡ None
   else-none-in (h.Picks a) f fs x e = absurd (omega (arith, e))
