@@ -26,7 +26,7 @@ loop-number-preserved g c = record {
 pub returns-in_err-put_text-clause-err : goal.returns-in_err-put_text-clause-err
 returns-in_err-put_text-clause-err g c =
     let begun : List ℕ = c.args.held.now ++ four (length c.args.texts.now) in
-    on_err c.from_residual.result (subst (AddsFront (g.K.Sink.written c.args.sink.now) (g.K.Sink.written c.put_text.new.sink))
+    on_err c.from_residual-in_err-put_text.result (subst (AddsFront (g.K.Sink.written c.args.sink.now) (g.K.Sink.written c.put_text.new.sink))
     (append_assoc c.args.held.now (four (length c.args.texts.now)) (flat_map text_bytes c.args.texts.now))
     (put_item_front _ _ _ text_bytes begun c.args.texts.now c.loop-number.number c.text.result.now c.text.ensures c.loop-number.held c.loop-number.invariant.written c.in_err-put_text.ensures.err))
 
