@@ -83,20 +83,21 @@ fn read_spelled_text(alloc: Global, bytes: &[u8], spot: &mut Spot) -> Result<Sha
 fn numbered_text(
     table: &Items<SharedText>,
     at: usize,
-    number: usize,
+    number: u32,
     spot: &mut Spot,
 ) -> Result<SharedText, PartFault>
     ensures { Is (spec.numbered_text table.now at number spot.old) result spot.new }
 {
-    if number > spot.known {
+    let place = number as usize;
+    if place > spot.known {
         return Err(PartFault::BadRef(at));
     }
-    let Some(text) = table.get(number) else {
+    let Some(text) = table.get(place) else {
         return Err(PartFault::BadRef(at));
     };
     let shared = text.share()?;
-    if number == spot.known {
-        spot.known = number + 1;
+    if place == spot.known {
+        spot.known = place + 1;
     }
     Ok(shared)
 }
@@ -112,7 +113,7 @@ fn read_text_by_number(
 {
     let at = spot.at;
     let n = read_four(bytes, spot)?;
-    numbered_text(table, at, n as usize, spot)
+    numbered_text(table, at, n, spot)
 }
 
 /// A text, which is in its place or in a table.
