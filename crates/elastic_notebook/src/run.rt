@@ -63,8 +63,9 @@ use std::time::Clock;
 ///   and writes what comes before, with an error that names the place; `save` writes nothing.
 /// - 3: the source met a fault. `run`: what it gave before is served and written; else nothing is written.
 /// - 4: the sink met a fault. What is out is a prefix of what was to be written.
-/// - 5: memory ran out outside a cell, or as the words after `run` were read; `save`: or the first session died of it. `run`: what is
-///   out is a prefix of what was to be written; `serve`: it ran out for a link, and the others were served; else nothing is written.
+/// - 5: memory ran out outside a cell, or as the words after `run` were read; `save`: or the first session died of it. `run`, `save`:
+///   what is out is a prefix of what was to be written; `serve`: it ran out for a link, and the others were served; else nothing is
+///   written.
 /// - 6: `plan`: the weights sum to 2^63 or more. `save`: this, a part of the first session that can be neither copied nor
 ///   computed again, no session, or a dead one.
 /// - 7: `plan`, `restore`: the input was read to its end and is no checkpoint. The line names the first byte, version or cell

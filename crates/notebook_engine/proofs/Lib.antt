@@ -3,6 +3,7 @@ pub mod Passing
 pub mod Answered
 pub mod Served
 pub mod Packed
+pub mod Saved
 pub mod Like
 pub mod Copies
 pub mod Restored

@@ -14,6 +14,7 @@ mod notebook;
 mod packing;
 mod replies;
 mod saved_laws;
+mod saving;
 mod session;
 
 pub use notebook::Notebook;

@@ -1,4 +1,4 @@
-ghost use Rattle.std.specs.Prelude.{ℕ, ◌≡◌, List, IfOk};
+ghost use Rattle.std.specs.Prelude.{ℕ, ◌≡◌, List, IfOk, IfErr, Err};
 ghost use Rattle.graph_model.specs.declared.plan.Plan.{Plan};
 ghost use Rattle.graph_model.specs.Graphs.{IsFirstStuck};
 ghost use Rattle.session_core.specs.Meanings.{Served, IsPacked};
@@ -7,13 +7,13 @@ ghost use Rattle.notebook_meaning.specs.Cells.{cells_of};
 ghost use Rattle.notebook_meaning.specs.Notebooks.{HasObjectsOf, notebooks};
 ghost use Rattle.restore_run.specs.Usable.{IsUsableSession};
 ghost use Rattle.notebook_engine.specs.Holding.{StandsForAsks, IsImage};
-ghost use Rattle.notebook_engine.specs.Packing.{IsStuckFault};
+ghost use Rattle.notebook_engine.specs.Packing.{IsStuckFault, IsPlanOf};
 
 use crate::notebook::Notebook;
 use crate::session::Session;
 use checkpoint_bytes::write_checkpoint;
 use cut_network::{PlanFault, plan};
-use graph_model::{Graph, Weights};
+use graph_model::{Certified, Graph, Weights};
 use plan_model::check_weights;
 use restore_run::{RestoreFault, restore};
 use session_core::{PackFault, Packed, copies_of_texts};
@@ -43,22 +43,33 @@ fn ran_out(_fault: RestoreFault) -> AllocError
 }
 
 impl Session {
-    /// The session's checkpoint under a least-cost plan.
-    pub(crate) fn packed(&self, alloc: Global, weights: &Weights) -> Result<Packed, PackFault>
+    /// A least-cost plan of the session as it stands, or why there is none.
+    pub(crate) fn planned(&self, alloc: Global, weights: &Weights) -> Result<Certified, PackFault>
         requires { IsUsableSession self.now.kernel.state self.now.history }
-        ensures { (served : List Served) → StandsForAsks self.now served → Packs notebooks served weights.now result }
+        ensures plan { IfOk result (λ certified. IsPlanOf self.now.history.graph weights.now certified) }
+        ensures fault { IfErr result (λ fault. (served : List Served) → StandsForAsks self.now served → Packs notebooks served weights.now (Err fault)) }
     {
         let graph = self.history.graph();
         if let Err(fault) = check_weights(graph, weights) {
             return Err(PackFault::BadWeights(fault));
         }
-        let certified = match plan(alloc, graph, weights) {
+        match plan(alloc, graph, weights) {
+            Ok(certified) => Ok(certified),
+            Err(PlanFault::Stuck { version, cell }) => Err(stuck(alloc, graph, version, cell)),
+            Err(PlanFault::OutOfMemory) => Err(PackFault::OutOfMemory),
+        }
+    }
+
+    /// The session's checkpoint under a least-cost plan.
+    pub(crate) fn packed(&self, alloc: Global, weights: &Weights) -> Result<Packed, PackFault>
+        requires { IsUsableSession self.now.kernel.state self.now.history }
+        ensures { (served : List Served) → StandsForAsks self.now served → Packs notebooks served weights.now result }
+    {
+        let certified = match self.planned(alloc, weights) {
             Ok(certified) => certified,
-            Err(PlanFault::Stuck { version, cell }) => {
-                return Err(stuck(alloc, graph, version, cell));
-            }
-            Err(PlanFault::OutOfMemory) => return Err(PackFault::OutOfMemory),
+            Err(fault) => return Err(fault),
         };
+        let graph = self.history.graph();
         match write_checkpoint(alloc, self.kernel.state(), graph, &certified.plan) {
             Ok(bytes) => Ok(Packed { bytes, certified }),
             Err(_) => Err(PackFault::OutOfMemory),

@@ -1,2 +1,3 @@
 pub mod Deaths
+pub mod Saving
 pub mod Telling

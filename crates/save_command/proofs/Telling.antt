@@ -13,6 +13,7 @@ use Rattle.node_run.specs.Ends.{status_of}
 use Rattle.node_run.specs.Journals.{Answers, ServedSession, journals_of}
 use Rattle.node_run.specs.Streams.{HasRun}
 use Rattle.node_run.proofs.Ending.{are_journals}
+use Rattle.save_command.specs.Saving.{BeginsFirst}
 use Rattle.save_command.specs.Saved.{Took, Saves, SavesTold, WritesFirst}
 
 -- ---- statuses
@@ -103,17 +104,20 @@ saves_whole gives w status bytes rest a b errors runs told (inl (is, text, saves
   ended = λ end isnt e. absurd (not_said end isnt (subst (λ (n : ℕ). (n ≡ 0) ⊎ (n ≡ 6)) e is));
   short = λ e. absurd (unlike status 5 is e (inr refl));
 }
-saves_whole gives w status bytes rest a b errors runs told (inr (inl (is, text, saves, adds))) = record {
+saves_whole gives w status bytes rest a b errors runs told (inr (inl (is, begins))) = record {
   said = λ h. absurd (unlike status 4 h is (inl refl));
-  cut = λ e. took gives Whole bytes rest errors runs _ told (text, saves, adds);
+  cut = λ e. took gives Whole bytes rest errors runs (λ journals. BeginsFirst w journals a b) told begins;
   ended = λ end isnt e. absurd (not_four end (sym e ∙ is));
   short = λ e. absurd (omega (arith, e, is));
 }
-saves_whole gives w status bytes rest a b errors runs told (inr (inr (is, adds))) = record {
+saves_whole gives w status bytes rest a b errors runs told (inr (inr (is, out))) = record {
   said = λ h. absurd (unlike status 5 h is (inr refl));
   cut = λ e. absurd (omega (arith, e, is));
   ended = λ end isnt e. absurd (not_five end (sym e ∙ is));
-  short = λ e. adds;
+  short = λ e. elim out [
+    | inl adds ↦ inl adds
+    | inr begins ↦ inr (took gives Whole bytes rest errors runs (λ journals. BeginsFirst w journals a b) told begins)
+  ];
 }
 
 -- the input was read to its end, and this was written of the first session

@@ -8,10 +8,9 @@ use Rattle.notebook_meaning.specs.Notebooks.{notebooks}
 use Rattle.node_run.specs.declared.end.RunEnd.{RunEnd}
 use Rattle.node_run.specs.declared.end.RunEnd.TheVariants.{Whole}
 use Rattle.node_run.specs.Ends.{status_of}
-use Rattle.node_run.specs.Frames.{AddsFront}
 use Rattle.node_run.specs.Journals.{Answers, AreJournals}
 use Rattle.node_run.specs.Streams.{IsNodeOf}
-use Rattle.save_command.specs.Saving.{SavesFirst}
+use Rattle.save_command.specs.Saving.{SavesFirst, BeginsFirst}
 
 -- one host took these bytes and left the rest, and its sessions have journals of which this holds
 pub record Took (gives : Answers) (end : RunEnd) (taken left : List ℕ) (Holds : List (List Entry) → Type 0) : Type 0 where
@@ -25,12 +24,12 @@ pub record Took (gives : Answers) (end : RunEnd) (taken left : List ℕ) (Holds 
 pub record Saves (gives : Answers) (w : Weights) (status : ℕ) (taken left : List ℕ) (sink_old sink_new : Option (List ℕ)) : Type 0 where
   -- at 0 the checkpoint of the first session was written, and at 6 there is none
   pub said : ((status ≡ 0) ⊎ (status ≡ 6)) → Took gives Whole taken left (λ journals. (bytes : List ℕ) × SavesFirst w journals status bytes × Adds sink_old sink_new bytes)
-  -- at 4 the first bytes of it
-  pub cut : status ≡ 4 → Took gives Whole taken left (λ journals. (bytes : List ℕ) × SavesFirst w journals 0 bytes × AddsFront sink_old sink_new bytes)
+  -- at 4 the first bytes of its text
+  pub cut : status ≡ 4 → Took gives Whole taken left (λ journals. BeginsFirst w journals sink_old sink_new)
   -- at 2, 3 and 10 the input wasn't read to its end, or isn't frames alone, and nothing was written
   pub ended : (end : RunEnd) → (end ≢ Whole) → status ≡ status_of end → Took gives end taken left (λ journals. Adds sink_old sink_new [])
-  -- at 5 nothing was written
-  pub short : status ≡ 5 → Adds sink_old sink_new []
+  -- at 5 nothing was written, or the first bytes of its text
+  pub short : status ≡ 5 → Adds sink_old sink_new [] ⊎ Took gives Whole taken left (λ journals. BeginsFirst w journals sink_old sink_new)
 
 -- over a source that tells what it had and has left
 abbrev pub SavesTold : Answers → Weights → ℕ → Option (List ℕ) → Option (List ℕ) → Option (List ℕ) → Option (List ℕ) → Type 0
@@ -47,10 +46,10 @@ IsSaveStatus status = IsTrue (is_save_status status)
 
 -- ---- after the sessions were served
 
--- what was written of sessions with these journals: at 0 and 6 what is said of the first, at 4 the first bytes of its pack, at
--- 5 nothing
+-- what was written of sessions with these journals: at 0 and 6 what is said of the first, at 4 the first bytes of its text, at 5
+-- these or nothing
 abbrev pub WritesFirst : Weights → List (List Entry) → ℕ → Option (List ℕ) → Option (List ℕ) → Type 0
 WritesFirst w journals status sink_old sink_new =
     (((status ≡ 0) ⊎ (status ≡ 6)) × (bytes : List ℕ) × SavesFirst w journals status bytes × Adds sink_old sink_new bytes)
-    ⊎ (((status ≡ 4) × (bytes : List ℕ) × SavesFirst w journals 0 bytes × AddsFront sink_old sink_new bytes)
-    ⊎ ((status ≡ 5) × Adds sink_old sink_new []))
+    ⊎ (((status ≡ 4) × BeginsFirst w journals sink_old sink_new)
+    ⊎ ((status ≡ 5) × (Adds sink_old sink_new [] ⊎ BeginsFirst w journals sink_old sink_new)))

@@ -3,20 +3,20 @@ ghost use Rattle.nb_outside.specs.Counts.{HasRisen, HasRisenBy};
 ghost use Rattle.node_run.specs.Journals.{journals_of};
 ghost use Rattle.save_command.specs.Saved.{WritesFirst, SavesTold, IsSaveStatus};
 
-use crate::pack::{SaveFault, first_packed};
+use crate::first::{SaveFault, save_first};
 use command_words::status;
 use graph_model::Weights;
 use host_workers::Gate;
 use nb_outside::{Feeds, Sink, Source};
-use node_run::{RunEnd, run_sessions, status_of, write_all};
+use node_run::{RunEnd, run_sessions, status_of};
 use notebook_engine::Notebook;
 use session_core::Alone;
 use std::alloc::Global;
 use std::sync::Wait;
 use std::thread::Threads;
 
-/// Packs the first of these sessions under these weights, and writes its checkpoint. Gives the status.
-fn save_first<K: Sink>(
+/// Writes the checkpoint of the first of these sessions under a least-cost plan for these weights. Gives the status.
+fn status_of_first<K: Sink>(
     alloc: Global,
     sink: &mut K,
     runs: &[(u128, Alone<Notebook>)],
@@ -25,24 +25,23 @@ fn save_first<K: Sink>(
     ensures written { WritesFirst weights.now (journals_of runs.now) result (K.written sink.old) (K.written sink.new) }
     ensures sink_fault { result ≡ 4 → HasRisen (K.faults sink.old) (K.faults sink.new) }
 {
-    match first_packed(alloc, runs, weights) {
-        Ok(packed) => match write_all(sink, packed.bytes.as_slice()) {
-            Ok(()) => status::DONE,
-            Err(_) => status::SINK_FAULT,
-        },
+    match save_first(alloc, sink, runs, weights) {
+        Ok(()) => status::DONE,
         Err(SaveFault::OutOfMemory) => status::OUT_OF_MEMORY,
+        Err(SaveFault::Sink) => status::SINK_FAULT,
         Err(SaveFault::CantBeSaved) => status::NO_PLAN,
     }
 }
 
-/// Serves the source as `run` does with one host and one worker, and then writes, in place of frames, the checkpoint of the session that was opened
-/// first, under a least-cost plan for these weights. Gives the status:
+/// Serves the source as `run` does with one host and one worker, and then writes, in place of frames, the checkpoint of the session
+/// that was opened first, under a least-cost plan for these weights, cell by cell and version by version. Beside the sessions it holds
+/// no more than one part. Gives the status:
 ///
 /// - 0: the input was read to its end, and the checkpoint was written.
 /// - 2: the input has a length that no frame has, or ends within a frame. Nothing is written.
 /// - 3: the source met a fault. Nothing is written.
 /// - 4: the sink met a fault. What is out is a prefix of the checkpoint.
-/// - 5: memory ran out, now or at the death of the first session. Nothing is written.
+/// - 5: memory ran out, now or at the death of the first session. Nothing is written, or what is out is a prefix of the checkpoint.
 /// - 6: there is no session, or the first is dead for another cause, or it can't be packed: the weights aren't admitted, or a
 ///   version that holds a handle needs a cell that drew. Nothing is written.
 /// - 10: 4,294,967,295 reads each took a byte. Nothing is written.
@@ -72,7 +71,7 @@ where
         return status::OUT_OF_MEMORY;
     };
     match ran.end {
-        RunEnd::Whole => save_first(alloc, sink, ran.runs.as_slice(), weights),
+        RunEnd::Whole => status_of_first(alloc, sink, ran.runs.as_slice(), weights),
         end => status_of(end),
     }
 }

@@ -1,5 +1,5 @@
 //! The command that saves a session: a stream is served as one host does, and then the checkpoint of the session that was
-//! opened first is written, in place of frames.
+//! opened first is written, in place of frames, cell by cell and version by version.
 //!
 //! `specs/Saved` says what each status tells.
 //!
@@ -8,6 +8,6 @@
 #![tactic(auto)]
 
 mod command;
-mod pack;
+mod first;
 
 pub use command::save;

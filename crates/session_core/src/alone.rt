@@ -1,18 +1,16 @@
 ghost use Rattle.std.specs.Prelude.{◌≡◌, ◌<◌, ◌≤◌, List, ◌++◌, [], ◌∷◌, true, false, Option, IfOk, MatchOption};
 ghost use Rattle.nb_outside.specs.declared.feed.Drawn.{Drawn};
 ghost use Rattle.session_core.specs.Asks.{IsWork};
-ghost use Rattle.session_core.specs.Engines.{Packs};
 ghost use Rattle.session_core.specs.Legal.{progress_of, asked, IsLegal};
 ghost use Rattle.session_core.specs.Stepping.{GoesOn};
 ghost use Rattle.session_core.specs.Aloneness.{IsAlone};
 ghost use Rattle.session_core.specs.Feeding.{HasFed};
 
-use crate::engine::{Engine, PackFault, Packed};
+use crate::engine::Engine;
 use crate::entry::Entry;
 use crate::journal::Journal;
 use crate::request::{Channel, Header, Request};
 use crate::steps::{answer_dead, attempt, serve};
-use graph_model::Weights;
 use nb_outside::Feed;
 use std::alloc::{AllocError, Global};
 use std::marker::Model;
@@ -91,15 +89,15 @@ impl<E: Engine + Drop> Alone<E> {
         self.journal.entries()
     }
 
-    /// What the session is packed as under these weights, or why it isn't; `None` if it is dead.
-    pub fn pack(&self, alloc: Global, weights: &Weights) -> Option<Result<Packed, PackFault>>
+    /// The engine, which stands for what was served; `None` if the session is dead.
+    pub fn engine(&self) -> Option<&E>
         ensures { MatchOption result ((progress_of self.now.entries).dead ≡ true)
-            (λ packed. ((progress_of self.now.entries).dead ≡ false) × Packs E.meaning (progress_of self.now.entries).served weights.now packed) }
+            (λ engine. ((progress_of self.now.entries).dead ≡ false) × E.stands_for engine.now (progress_of self.now.entries).served) }
     {
         if self.dead {
             return None;
         }
-        Some(self.engine.pack(alloc, weights))
+        Some(&self.engine)
     }
 
     /// Makes room for `more` further entries. There is never room for fewer than before, and the entries are as before.

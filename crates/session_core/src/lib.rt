@@ -5,7 +5,7 @@
 //! or adopted. `laws` has what holds after every list of such events. docs/JOURNAL.md tells it in words.
 //!
 //! The contracts leave open when memory runs out. A body that always answers so would meet them, so the calls are also run: in
-//! `session_show`, and `Alone::pack` in the tests of the program. The contracts also leave open the words in which a fault is
+//! `session_show`, and `Alone::engine` in the tests of the program. The contracts also leave open the words in which a fault is
 //! shown.
 #![tactic(auto)]
 

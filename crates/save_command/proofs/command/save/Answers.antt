@@ -14,10 +14,10 @@ returns-in-Whole-clause-saved g c =
     let told = c.in-Ok.ensures.told in
     let left = g.S.Source.left c.run_sessions.new.source in
     let a = g.K.Sink.written c.args.sink.now in
-    let b = g.K.Sink.written c.save_first.new.sink in
-    told_whole (g.D.Feeds.gives c.args.feeds.now) c.args.weights.now c.save_first.result (g.S.Source.left c.args.source.now) left a b told.0 c.in-Ok.ran.errors c.in-Ok.ran.runs.items told.1
+    let b = g.K.Sink.written c.status_of_first.new.sink in
+    told_whole (g.D.Feeds.gives c.args.feeds.now) c.args.weights.now c.status_of_first.result (g.S.Source.left c.args.source.now) left a b told.0 c.in-Ok.ran.errors c.in-Ok.ran.runs.items told.1
     (subst (λ (end : RunEnd). HasRun notebooks 1 (g.D.Feeds.gives c.args.feeds.now) end told.0 left c.in-Ok.ran.errors c.in-Ok.ran.runs.items) c.in-Whole.is told.2)
-    (subst (λ (runs : List ServedSession). WritesFirst c.args.weights.now (journals_of runs) c.save_first.result a b) c.as_slice.ensures.value c.save_first.ensures.written)
+    (subst (λ (runs : List ServedSession). WritesFirst c.args.weights.now (journals_of runs) c.status_of_first.result a b) c.as_slice.ensures.value c.status_of_first.ensures.written)
 
 pub returns-clause-saved : goal.returns-clause-saved
 returns-clause-saved g c =

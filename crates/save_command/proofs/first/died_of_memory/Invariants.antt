@@ -1,5 +1,5 @@
 use Rattle.save_command.proofs.Deaths.{NoneBefore}
-use Rattle.save_command.proofs.pack.died_of_memory.Given as goal
+use Rattle.save_command.proofs.first.died_of_memory.Given as goal
 
 abbrev pub invariant-loop-entry : goal.invariant-loop-entry
 invariant-loop-entry l = NoneBefore l.entries l.entry-index
