@@ -203,6 +203,16 @@ def history(codes, session=None):
     return session, records, versions
 
 
+def parts_lines(codes):
+    """The lines of the parts after each cell: the names of each, and the number of its objects."""
+    session, made = new_session(), []
+    for number, code in enumerate(codes, 1):
+        run(session, code)
+        parts = [f" {', '.join(names)} {len(objects)}" for names, objects in parts_of(session.globals)]
+        made.append(f"after cell {number}" + ("" if not parts else ":" + ";".join(parts)))
+    return made
+
+
 def graph(codes):
     """The lines of the graph of a session."""
     return lines(*history(codes)[1:])

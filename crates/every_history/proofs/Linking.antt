@@ -15,7 +15,7 @@ use Rattle.linked_parts.specs.Labels.{name_at}
 use Rattle.linked_parts.proofs.Lists.{below_on}
 use Rattle.linked_parts.proofs.Names.{AreNames, are_names, one_position, linked_values}
 use Rattle.run_graph.proofs.Reached.{has_value, not_both}
-use Rattle.history_graph.proofs.Keys.{keys_ascend, in_keys}
+use Rattle.linked_parts.proofs.Keys.{keys_ascend, in_keys}
 use Rattle.every_history.proofs.Deciding.{Decided, some_in, sifted}
 
 -- ---- one label in place of another

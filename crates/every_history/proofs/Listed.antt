@@ -14,9 +14,9 @@ use Rattle.py_laws.proofs.Reached.{has_number, reached_live}
 use Rattle.graph_model.specs.declared.graph.Version.{Version}
 use Rattle.graph_model.specs.declared.graph.Graph.{Graph}
 use Rattle.graph_model.specs.Faults.{TextBelow, Ascends, least_name}
-use Rattle.linked_parts.specs.declared.parts.Part.{Part}
-use Rattle.linked_parts.specs.declared.parts.Parts.{Parts}
-use Rattle.linked_parts.specs.Parts.{IsPart, IsPartOf, ArePartsOf}
+use Rattle.part_table.specs.declared.part.Part.{Part}
+use Rattle.linked_parts.specs.PartList.{PartList}
+use Rattle.linked_parts.specs.Parts.{room_of, IsPart, IsPartOf, ArePartsOf}
 use Rattle.linked_parts.proofs.Lists.{none_in, first_in, cons_cases}
 use Rattle.part_bytes.specs.Parts.{order}
 use Rattle.part_bytes.proofs.Orders.{order_lists}
@@ -93,7 +93,7 @@ module _ (s : State) (closed : IsClosed s) where
       let reached = order_lists s names closed in
       let found = sifted Less (λ a b d l m. omega (arith, l, m)) (λ at. Contains (order s names) at) (has_number (order s names)) (numbers (length s.heap)) (numbers_ascend (length s.heap)) in
       let handle = told (some_in (IsHandleAt s.heap) found.0 handle_or_none) in (
-        record { names = names; objects = found.0; handle = handle.0 },
+        record { names = names; objects = found.0; handle = handle.0; room = room_of s found.0 },
         record {
           names = is;
           ascends = found.1;
@@ -102,6 +102,7 @@ module _ (s : State) (closed : IsClosed s) where
             λ r. (found.2 at).1 (in_numbers (length s.heap) at (reached_live s closed names at r), (reached at).1 r),
           );
           handle = handle.1;
+          room = refl;
         },
         refl,
       )
@@ -111,7 +112,7 @@ module _ (s : State) (closed : IsClosed s) where
 abbrev pub least : Version → Name
 least x = least_name x.names
 
-module _ (r : Run) (c : ℕ) (g k : Graph) (next : IsNext r c g k) (before : Parts) (parts : ArePartsOf (r.state c) before) (closed : IsClosed (r.state (suc c))) where
+module _ (r : Run) (c : ℕ) (g k : Graph) (next : IsNext r c g k) (before : PartList) (parts : ArePartsOf (r.state c) before) (closed : IsClosed (r.state (suc c))) where
   abbrev S : State
   S = r.state (suc c)
 

@@ -16,7 +16,7 @@ use Rattle.run_graph.specs.Histories.{Run, Looks, Binds, HoldsAfter, IsRead, IsU
 use Rattle.run_graph.proofs.Lists.{is_bound, has_name}
 use Rattle.run_graph.proofs.Growing.{in_of_get, get_of_in}
 use Rattle.history_graph.specs.Grown.{count_on}
-use Rattle.history_graph.proofs.Keys.{keys_ascend, in_keys}
+use Rattle.linked_parts.proofs.Keys.{keys_ascend, in_keys}
 use Rattle.history_graph.proofs.Listing.{count_ascends, count_to}
 use Rattle.every_history.proofs.Deciding.{Decided, both, either, some_in, sifted}
 use Rattle.every_history.proofs.Telling.{in_or_not}

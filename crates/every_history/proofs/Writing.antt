@@ -21,7 +21,7 @@ use Rattle.run_graph.specs.Growing.{Meets, IsAged, IsNew}
 use Rattle.run_graph.proofs.Kept.{in_part_value}
 use Rattle.run_graph.proofs.Lists.{is_bound, has_name}
 use Rattle.run_graph.proofs.Reached.{has_value, not_both}
-use Rattle.history_graph.proofs.Keys.{keys_ascend, in_keys}
+use Rattle.linked_parts.proofs.Keys.{keys_ascend, in_keys}
 use Rattle.history_graph.proofs.Ending.{same_names}
 use Rattle.every_history.proofs.Deciding.{Decided, told, some_in, gathered, partnered}
 use Rattle.every_history.proofs.Linking.{part_with}

@@ -14,9 +14,9 @@ use Rattle.graph_model.specs.declared.graph.CellRecord.{CellRecord}
 use Rattle.graph_model.specs.declared.graph.Version.{Version}
 use Rattle.graph_model.specs.declared.graph.Graph.{Graph}
 use Rattle.graph_model.specs.Faults.{TextBelow, least_name}
-use Rattle.linked_parts.specs.declared.parts.Part.{Part}
-use Rattle.linked_parts.specs.declared.parts.Parts.{Parts}
-use Rattle.linked_parts.specs.Parts.{HasValue, HasNone, IsPart, IsPartOf, ArePartsOf}
+use Rattle.part_table.specs.declared.part.Part.{Part}
+use Rattle.linked_parts.specs.PartList.{PartList}
+use Rattle.linked_parts.specs.Parts.{HasValue, HasNone, IsPart, IsPartOf, ArePartsIn, ArePartsOf}
 use Rattle.linked_parts.proofs.Lists.{below_on, never_below_itself}
 use Rattle.linked_parts.proofs.Names.{linked_values, reaches_value}
 use Rattle.run_graph.specs.Parts.{HasHandle}
@@ -34,13 +34,13 @@ use Rattle.history_graph.specs.Left.{Heads, AreHeads, part_size, IsOfPart, IsOfG
 use Rattle.history_graph.specs.Grown.{IsGrown}
 use Rattle.history_graph.specs.Ends.{IsCellOf, StandsAfter}
 use Rattle.history_graph.proofs.Bridge.{to_part, of_part, handle_held, part_renamed, handle_renamed}
-use Rattle.history_graph.proofs.Keys.{keys_ascend, in_keys}
+use Rattle.linked_parts.proofs.Keys.{keys_ascend, in_keys}
 use Rattle.history_graph.proofs.Leaving.{zip_back, zip_forth, zip_ascends, least_is}
 
 -- what the call found and made
 pub record Ended (h : History) (s : State) (code : List ℕ) (meter steps : ℕ) (marks : Marks) (k : Graph) : Type 0 where
-  pub now : Parts
-  pub are : ArePartsOf s now
+  pub now : PartList
+  pub are : ArePartsIn s now.list
   pub heads : Heads
   pub left : (t : State) → ArePartsOf t h.parts → AreHeads h.parts now marks s heads
   pub cell : CellRecord
@@ -64,7 +64,7 @@ pub same_names : (s : State) (ps qs : List Name) → IsPart s ps → IsPart s qs
 same_names s ps qs p q x c d = same_list TextBelow below_on never_below_itself ps qs p.ascends q.ascends (same_part s ps qs p q x c d) (same_part s qs ps q p x d c)
 
 -- a part of the state is one of its parts
-pub was_one : (s : State) (parts : Parts) → ArePartsOf s parts → (names : List Name) → IsPart s names → WasPart parts names
+pub was_one : (s : State) (parts : PartList) → ArePartsOf s parts → (names : List Name) → IsPart s names → WasPart parts names
 was_one s parts are names p =
     let x : Name = p.some.0 in
     let v : HasValue s x = (linked_values s x x ((p.linked x x p.some.1).0 p.some.1)).0 in

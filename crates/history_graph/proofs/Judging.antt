@@ -13,9 +13,9 @@ use Rattle.graph_model.specs.declared.plan.Tally.{Tally}
 use Rattle.graph_model.specs.declared.plan.Tally.TheVariants as tally
 use Rattle.graph_model.specs.declared.graph.Version.{Version}
 use Rattle.graph_model.specs.Faults.{TextBelow, least_name}
-use Rattle.linked_parts.specs.declared.parts.Part.{Part}
-use Rattle.linked_parts.specs.declared.parts.Parts.{Parts}
-use Rattle.linked_parts.specs.Parts.{IsPartOf, ArePartsOf}
+use Rattle.part_table.specs.declared.part.Part.{Part}
+use Rattle.linked_parts.specs.PartList.{PartList}
+use Rattle.linked_parts.specs.Parts.{IsPartOf, ArePartsIn}
 use Rattle.linked_parts.proofs.Lists.{below_on, never_below_itself, least_there}
 use Rattle.run_graph.specs.Parts.{HasHandle}
 use Rattle.run_graph.proofs.Growing.{in_of_get, get_of_in}
@@ -32,10 +32,10 @@ use Rattle.history_graph.specs.Room.{IsFirstWith}
 use Rattle.history_graph.proofs.Bridge.{handle_held}
 use Rattle.history_graph.proofs.Ending.{same_names}
 use Rattle.history_graph.proofs.Heading.{least_value}
-use Rattle.history_graph.proofs.Keys.{keys_ascend, in_keys, of_keys}
+use Rattle.linked_parts.proofs.Keys.{keys_ascend, in_keys, of_keys}
 use Rattle.history_graph.proofs.Leaving.{zip_forth}
 
-module _ (h : History) (s : State) (code : List ℕ) (marks : Marks) (now : Parts) (are : ArePartsOf s now) (heads : Heads) (left : AreHeads h.parts now marks s heads) where
+module _ (h : History) (s : State) (code : List ℕ) (marks : Marks) (now : PartList) (are : ArePartsIn s now.list) (heads : Heads) (left : AreHeads h.parts now marks s heads) where
   part_at : (n : ℕ) (p : Part) → slice_get now.list n ≡ Some p → IsPartOf s p
   part_at n p at = All-contains (IsPartOf s) now.list p are.parts (in_of_get now.list n p at)
 

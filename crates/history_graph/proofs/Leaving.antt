@@ -13,13 +13,14 @@ use Rattle.py_machine.specs.Marked.{Name}
 use Rattle.py_laws.proofs.Partners.{none_in, first_in, later_in}
 use Rattle.graph_model.specs.declared.graph.Version.{Version}
 use Rattle.graph_model.specs.Faults.{TextBelow, Ascends, least_name}
-use Rattle.linked_parts.specs.declared.parts.Part.{Part}
-use Rattle.linked_parts.specs.declared.parts.Parts.{Parts}
+use Rattle.part_table.specs.declared.part.Part.{Part}
+use Rattle.linked_parts.specs.PartList.{PartList}
 use Rattle.linked_parts.proofs.Lists.{cons_cases}
 use Rattle.history_graph.specs.declared.heads.Left.{Left}
 use Rattle.history_graph.specs.declared.heads.Left.TheVariants as left
 use Rattle.history_graph.specs.Left.{Heads, AreHeads, IsOfLeft, AreOfLeft}
-use Rattle.history_graph.proofs.Keys.{of_keys}
+use Rattle.history_graph.proofs.Heading.{get_front}
+use Rattle.linked_parts.proofs.Keys.{of_keys}
 
 -- ---- lists with a partner for each
 
@@ -54,12 +55,27 @@ module _ {A B : Type 0} (R : A → B → Type 0) where
   pub zip_more : (xs : List A) (i : ℕ) (x : A) (ys : List B) (y : B) → i < length xs → x ≡ get_or xs i x → AllZip R (take i xs) ys → R x y → AllZip R (take (i + 1) xs) (ys ++ y ∷ [])
   zip_more xs i x ys y l e z h = subst (λ zs. AllZip R zs (ys ++ y ∷ [])) (sym (take_more xs i x l)) (zip_push (take i xs) ys (get_or xs i x) y z (subst (λ w. R w y) e h))
 
-module _ (s : State) (now : Parts) (w : ℕ) (heads : Heads) (names : List Name) (i : ℕ) (name : Name) (l : i < length names) (at : name ≡ get_or names i name)
+module _ (s : State) (now : PartList) (w : ℕ) (heads : Heads) (names : List Name) (i : ℕ) (name : Name) (l : i < length names) (at : name ≡ get_or names i name)
     (news : List Version) (h : AreOfLeft s now w heads (take i names) news) where
   pub left_more : (one : Left) (x : Version) → finite.get heads name ≡ Some one → IsOfLeft s now w name (Some one) x → AreOfLeft s now w heads (take (i + 1) names) (news ++ x ∷ [])
   left_more one x e is =
       let R : Name → Version → Type 0 = λ n y. IsOfLeft s now w n (finite.get heads n) y in
       zip_more R names i name news x l at h (subst (λ o. IsOfLeft s now w name o x) (sym e) is)
+
+-- ---- with more parts after those that come
+
+left_on : (s : State) (news stay : List Part) (w : ℕ) (name : Name) (o : Option Left) (x : Version) → IsOfLeft s (record { list = news }) w name o x
+    → IsOfLeft s (record { list = news ++ stay }) w name o x
+left_on s news stay w name (Some (left.Part n)) x is = (is.0, get_front news stay n is.0 is.1, is.2)
+left_on s news stay w name (Some left.Gone) x is = is
+left_on s news stay w name None x is = is
+
+pub all_left_on : (s : State) (news stay : List Part) (w : ℕ) (heads : Heads) (names : List Name) (versions : List Version) → AreOfLeft s (record { list = news }) w heads names versions
+    → AreOfLeft s (record { list = news ++ stay }) w heads names versions
+all_left_on s news stay w heads [] [] z = z
+all_left_on s news stay w heads [] (y ∷ ys) z = absurd z
+all_left_on s news stay w heads (x ∷ xs) [] z = absurd z
+all_left_on s news stay w heads (x ∷ xs) (y ∷ ys) z = (left_on s news stay w x (finite.get heads x) y z.0, all_left_on s news stay w heads xs ys z.1)
 
 -- a name under which something was left has it
 pub no_head : (heads : Heads) (names : List Name) (name : Name) → names ≡ finite.keys heads → Contains names name → finite.get heads name ≡ None → ⊥
@@ -67,7 +83,7 @@ no_head heads names name e c none = false≢true (sym (ap is_some none) ∙ of_k
 
 -- ---- what each version is
 
-least_by : (s : State) (before now : Parts) (marks : Marks) (w : ℕ) (heads : Heads) → AreHeads before now marks s heads → (name : Name) (x : Version) (o : Option Left)
+least_by : (s : State) (before now : PartList) (marks : Marks) (w : ℕ) (heads : Heads) → AreHeads before now marks s heads → (name : Name) (x : Version) (o : Option Left)
     → finite.get heads name ≡ o → IsOfLeft s now w name o x → least_name x.names ≡ name
 least_by s before now marks w heads h name x (Some (left.Part n)) e is =
     let a = h.parts name n e in
@@ -76,7 +92,7 @@ least_by s before now marks w heads h name x (Some (left.Part n)) e is =
 least_by s before now marks w heads h name x (Some left.Gone) e is = ap least_name is.names
 least_by s before now marks w heads h name x None e is = absurd is
 
-pub least_is : (s : State) (before now : Parts) (marks : Marks) (w : ℕ) (heads : Heads) → AreHeads before now marks s heads → (name : Name) (x : Version)
+pub least_is : (s : State) (before now : PartList) (marks : Marks) (w : ℕ) (heads : Heads) → AreHeads before now marks s heads → (name : Name) (x : Version)
     → IsOfLeft s now w name (finite.get heads name) x → least_name x.names ≡ name
 least_is s before now marks w heads h name x is = least_by s before now marks w heads h name x (finite.get heads name) refl is
 
@@ -95,12 +111,12 @@ zip_ascends R h (x ∷ v ∷ xs) (y ∷ u ∷ ys) z a = (
 
 -- ---- the versions hold
 
-holds_by : (s : State) (now : Parts) (w : ℕ) (name : Name) (o : Option Left) (x : Version) → IsOfLeft s now w name o x → x.replaced ≡ 0
+holds_by : (s : State) (now : PartList) (w : ℕ) (name : Name) (o : Option Left) (x : Version) → IsOfLeft s now w name o x → x.replaced ≡ 0
 holds_by s now w name (Some (left.Part n)) x is = is.2.replaced
 holds_by s now w name (Some left.Gone) x is = is.replaced
 holds_by s now w name None x is = absurd is
 
-pub news_hold : (s : State) (now : Parts) (w : ℕ) (heads : Heads) (names : List Name) (news : List Version) → AreOfLeft s now w heads names news → All (λ (x : Version). x.replaced ≡ 0) news
+pub news_hold : (s : State) (now : PartList) (w : ℕ) (heads : Heads) (names : List Name) (news : List Version) → AreOfLeft s now w heads names news → All (λ (x : Version). x.replaced ≡ 0) news
 news_hold s now w heads names news made k d l =
     let x : Version = get_or news k d in
     let b = zip_back (λ name y. IsOfLeft s now w name (finite.get heads name) y) names news made x (Contains-get_or news k d l) in

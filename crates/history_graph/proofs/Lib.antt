@@ -1,7 +1,6 @@
 pub mod Adding
 pub mod Items
 pub mod Amounts
-pub mod Keys
 pub mod Counted
 pub mod Listing
 pub mod Reading

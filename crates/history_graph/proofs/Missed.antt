@@ -17,7 +17,7 @@ use Rattle.linked_parts.proofs.Lists.{cons_cases, below_on}
 use Rattle.history_graph.specs.Sets.{Names, Has, IsWithThose}
 use Rattle.history_graph.specs.Active.{AreActive}
 use Rattle.history_graph.specs.Touched.{IsHeldAmong, AreHeldAmong, AreHeld, Misses}
-use Rattle.history_graph.proofs.Keys.{keys_ascend, in_keys, of_keys}
+use Rattle.linked_parts.proofs.Keys.{keys_ascend, in_keys, of_keys}
 
 -- ---- which names a version that holds has
 

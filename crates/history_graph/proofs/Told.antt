@@ -1,5 +1,5 @@
 -- What the call that ends a cell answers.
-use Rattle.std.proofs.Common.{◌≡◌, ℕ, ◌+◌, ◌<◌, ◌≤◌, false, List, [], ◌∷◌, length, is_some, Option, Some, None, refl, sym, ap, subst, arith, length-append}
+use Rattle.std.proofs.Common.{◌≡◌, ℕ, ◌+◌, ◌<◌, ◌≤◌, false, List, [], ◌∷◌, ◌++◌, length, is_some, Option, Some, None, refl, sym, ap, subst, arith, length-append}
 use Rattle.std.specs.Prelude.{slice_get}
 use Rattle.std.specs.List.{AllZip}
 use Rattle.std.specs.FinMap as finite
@@ -12,9 +12,9 @@ use Rattle.graph_model.specs.declared.graph.Version.{Version}
 use Rattle.graph_model.specs.declared.graph.Graph.{Graph}
 use Rattle.graph_model.specs.declared.plan.Tally.{Tally}
 use Rattle.graph_model.specs.declared.plan.Tally.TheVariants as tally
-use Rattle.linked_parts.specs.declared.parts.Part.{Part}
-use Rattle.linked_parts.specs.declared.parts.Parts.{Parts}
-use Rattle.linked_parts.specs.Parts.{ArePartsOf}
+use Rattle.part_table.specs.declared.part.Part.{Part}
+use Rattle.linked_parts.specs.PartList.{PartList}
+use Rattle.linked_parts.specs.Parts.{ArePartsIn, ArePartsOf}
 use Rattle.part_bytes.specs.Texts.{part_text}
 use Rattle.history_graph.specs.declared.fault.HistoryFault.{HistoryFault}
 use Rattle.history_graph.specs.declared.fault.HistoryFault.TheVariants as fault
@@ -26,15 +26,22 @@ use Rattle.history_graph.specs.Grown.{IsGrown}
 use Rattle.history_graph.specs.Texts.{HasManyTexts}
 use Rattle.history_graph.specs.Room.{IsFirstOf, IsFirstWith}
 use Rattle.history_graph.specs.Tallies.{OnTally, IsFirstOver}
+use Rattle.history_graph.proofs.Heading.{get_front}
 use Rattle.history_graph.proofs.Judging.{bytes_over}
 
 -- a text of 2^32 bytes or more, of a part that the cell left
-abbrev pub IsLong : State → Parts → Heads → Tally → Type 0
+abbrev pub IsLong : State → PartList → Heads → Tally → Type 0
 IsLong s now heads t = (t ≡ tally.Bytes) × (name : Name) × (n : ℕ) × (p : Part) × (finite.get heads name ≡ Some (lefts.Part n)) × (slice_get now.list n ≡ Some p)
     × (p.handle ≡ false) × (4294967296 ≤ length (part_text s p.names))
 
-module _ (h : History) (s : State) (code : List ℕ) (marks : Marks) (now : Parts) (are : ArePartsOf s now) (heads : Heads) (left : (t : State) → ArePartsOf t h.parts → AreHeads h.parts now marks s heads)
+module _ (h : History) (s : State) (code : List ℕ) (marks : Marks) (now : PartList) (are : ArePartsIn s now.list) (heads : Heads) (left : (t : State) → ArePartsOf t h.parts → AreHeads h.parts now marks s heads)
     (room : IsFirstWith (length h.graph.cells) (length h.graph.versions) (length (finite.keys heads)) (length (finite.keys s.globals)) (HasManyTexts h.graph s code) None) where
+  -- the part is one of those that come
+  pub long_on : (news stay : List Part) → now ≡ record { list = news ++ stay } → (e : HistoryFault) → OnTally (IsLong s (record { list = news }) heads) e → OnTally (IsLong s now heads) e
+  long_on news stay is (fault.TooMany t) k =
+      (k.0, k.1, k.2, k.3, k.4, subst (λ (ps : PartList). slice_get ps.list k.2 ≡ Some k.3) (sym is) (get_front news stay k.2 k.3 k.5), k.6, k.7)
+  long_on news stay is fault.OutOfMemory k = tt
+
   pub long_over : (e : HistoryFault) → OnTally (IsLong s now heads) e → OnTally (λ t. (u : State) → ArePartsOf u h.parts → IsFirstOver h s code marks t) e
   long_over (fault.TooMany t) k = λ u before.
       subst (IsFirstOver h s code marks) (sym k.0) (bytes_over h s code marks now are heads (left u before) room k.1 k.2 k.3 k.4 k.5 k.6 k.7)
@@ -61,14 +68,14 @@ zip_length R [] (y ∷ ys) z = absurd z
 zip_length R (x ∷ xs) [] z = absurd z
 zip_length R (x ∷ xs) (y ∷ ys) z = let e = zip_length R xs ys z.1 in omega (arith, e)
 
-pub few_news : (s : State) (now : Parts) (w cells versions names : ℕ) (heads : Heads) (news : List Version) → IsFirstOf cells versions (length (finite.keys heads)) names None
+pub few_news : (s : State) (now : PartList) (w cells versions names : ℕ) (heads : Heads) (news : List Version) → IsFirstOf cells versions (length (finite.keys heads)) names None
     → AreOfLeft s now w heads (finite.keys heads) news → versions + length news < 4294967296
 few_news s now w cells versions names heads news room made =
     let e = zip_length (λ name x. IsOfLeft s now w name (finite.get heads name) x) (finite.keys heads) news made in
     let l = room.1 in
     omega (arith, e, l)
 
-pub few_then : (s : State) (now : Parts) (w names : ℕ) (heads : Heads) (cell : CellRecord) (news : List Version) (g k : Graph)
+pub few_then : (s : State) (now : PartList) (w names : ℕ) (heads : Heads) (cell : CellRecord) (news : List Version) (g k : Graph)
     → IsFirstOf (length g.cells) (length g.versions) (length (finite.keys heads)) names None → AreOfLeft s now w heads (finite.keys heads) news → IsGrown w cell news g k
     → (length k.cells < 4294967296) × (length k.versions < 4294967296)
 few_then s now w names heads cell news g k room made grown =

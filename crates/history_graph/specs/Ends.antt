@@ -8,6 +8,7 @@ use Rattle.py_machine.specs.Marked.{Name, IsIn}
 use Rattle.graph_model.specs.declared.graph.Version.{Version}
 use Rattle.graph_model.specs.declared.graph.Graph.{Graph}
 use Rattle.graph_model.specs.Graphs.{VersionAt}
+use Rattle.linked_parts.specs.PartList.{PartList}
 use Rattle.linked_parts.specs.Parts.{HasNone, IsPart, ArePartsOf}
 use Rattle.run_graph.specs.Parts.{HasHandle}
 use Rattle.run_graph.specs.Histories.{Run}
@@ -44,6 +45,9 @@ pub record LedTo (before : State) (units : ℕ) (noted : Marks) (after : State) 
   pub objects : (at : ℕ) → at < length before.heap → ¬ IsIn noted.changed at → slice_get after.heap at ≡ slice_get before.heap at
   pub bound : (x : Name) → IsIn noted.bound x → is_variable x ≡ true
   pub looked : (x : Name) → IsIn noted.looked x → is_identifier x ≡ true
+
+abbrev pub with_parts : Graph → PartList → History
+with_parts graph parts = record { graph = graph; parts = parts }
 
 -- the history is as cell c of the run left it
 pub record StandsAfter (r : Run) (c : ℕ) (h : History) : Type 0 where

@@ -1,5 +1,5 @@
 -- What a cell left: parts that it wrote, and names that it deleted.
-use Rattle.std.specs.Prelude.{◌≡◌, ℕ, ◌<◌, ◌⊎◌, true, false, cond, List, [], ◌∷◌, Contains, length, Option, Some, None, slice_get, ◌^◌}
+use Rattle.std.specs.Prelude.{◌≡◌, ℕ, ◌<◌, ◌⊎◌, true, false, cond, List, [], ◌∷◌, ◌++◌, Contains, length, Option, Some, None, slice_get, ◌^◌}
 use Rattle.std.specs.List.{AllZip}
 use Rattle.std.specs.FinMap as finite
 use Rattle.std.specs.FinMap.{FinMap}
@@ -10,13 +10,21 @@ use Rattle.py_machine.specs.declared.marks.Marks.{Marks}
 use Rattle.py_machine.specs.Marked.{Name, IsIn}
 use Rattle.graph_model.specs.declared.graph.Version.{Version}
 use Rattle.graph_model.specs.Faults.{least_name}
-use Rattle.linked_parts.specs.declared.parts.Part.{Part}
-use Rattle.linked_parts.specs.declared.parts.Parts.{Parts}
+use Rattle.part_table.specs.declared.part.Part.{Part}
+use Rattle.linked_parts.specs.PartList.{PartList}
+use Rattle.linked_parts.specs.Changing.{Changing}
 use Rattle.linked_parts.specs.Parts.{HasNone}
 use Rattle.part_bytes.specs.Texts.{part_text}
 use Rattle.history_graph.specs.declared.heads.Left.{Left}
 use Rattle.history_graph.specs.declared.heads.Left.TheVariants as left
 use Rattle.history_graph.specs.Written.{Writes, Keeps}
+
+-- the parts that come with a change, and those with the parts that stay
+abbrev pub news_of : Changing → PartList
+news_of change = record { list = change.news }
+
+abbrev pub parts_then : Changing → PartList
+parts_then change = record { list = change.news ++ change.stay }
 
 -- what a cell left, by the least names
 abbrev pub Heads : Type 0
@@ -27,7 +35,7 @@ abbrev pub IsGone : State → Marks → Name → Type 0
 IsGone s marks x = IsIn marks.bound x × HasNone s x
 
 -- of the first parts those that the cell wrote
-pub record ArePartHeads (before now : Parts) (marks : Marks) (count : ℕ) (heads : Heads) : Type 0 where
+pub record ArePartHeads (before now : PartList) (marks : Marks) (count : ℕ) (heads : Heads) : Type 0 where
   pub parts : (name : Name) (n : ℕ) → finite.get heads name ≡ Some (left.Part n) → (p : Part) × (n < count) × (slice_get now.list n ≡ Some p) × (least_name p.names ≡ name) × Writes before marks p
   pub gone : (name : Name) → ¬ (finite.get heads name ≡ Some left.Gone)
   pub all : (n : ℕ) (p : Part) → n < count → slice_get now.list n ≡ Some p → Keeps before marks p ⊎ (finite.get heads (least_name p.names) ≡ Some (left.Part n))
@@ -39,14 +47,14 @@ AddsGone s names old now = (x : Name) →
     ⊎ ((¬ (Contains names x × HasNone s x)) × (finite.get now x ≡ finite.get old x))
 
 -- the parts that the cell wrote and the names that it deleted, and nothing else
-pub record AreHeads (before now : Parts) (marks : Marks) (s : State) (heads : Heads) : Type 0 where
+pub record AreHeads (before now : PartList) (marks : Marks) (s : State) (heads : Heads) : Type 0 where
   pub parts : (name : Name) (n : ℕ) → finite.get heads name ≡ Some (left.Part n) → (p : Part) × (slice_get now.list n ≡ Some p) × (least_name p.names ≡ name) × Writes before marks p
   pub gone : (name : Name) → finite.get heads name ≡ Some left.Gone → IsGone s marks name
   pub all_parts : (n : ℕ) (p : Part) → slice_get now.list n ≡ Some p → Keeps before marks p ⊎ (finite.get heads (least_name p.names) ≡ Some (left.Part n))
   pub all_gone : (name : Name) → IsGone s marks name → finite.get heads name ≡ Some left.Gone
 
 -- each number is that of a part
-abbrev pub AreWithin : Parts → Heads → Type 0
+abbrev pub AreWithin : PartList → Heads → Type 0
 AreWithin now heads = (name : Name) (n : ℕ) → finite.get heads name ≡ Some (left.Part n) → n < length now.list
 
 -- the length of the text of a part, or 0 if it holds a handle
@@ -73,11 +81,11 @@ pub record IsOfGone (w : ℕ) (name : Name) (x : Version) : Type 0 where
   pub size : x.size ≡ 0
 
 -- the version of what it left
-abbrev pub IsOfLeft : State → Parts → ℕ → Name → Option Left → Version → Type 0
+abbrev pub IsOfLeft : State → PartList → ℕ → Name → Option Left → Version → Type 0
 IsOfLeft s now w name (Some (left.Part n)) x = (p : Part) × (slice_get now.list n ≡ Some p) × IsOfPart s w p x
 IsOfLeft s now w name (Some left.Gone) x = IsOfGone w name x
 IsOfLeft s now w name None x = ⊥
 
 -- a version for each of the names
-abbrev pub AreOfLeft : State → Parts → ℕ → Heads → List Name → List Version → Type 0
+abbrev pub AreOfLeft : State → PartList → ℕ → Heads → List Name → List Version → Type 0
 AreOfLeft s now w heads names news = AllZip (λ name x. IsOfLeft s now w name (finite.get heads name) x) names news

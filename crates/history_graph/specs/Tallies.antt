@@ -7,8 +7,8 @@ use Rattle.py_machine.specs.Marked.{Name}
 use Rattle.graph_model.specs.declared.plan.Tally.{Tally}
 use Rattle.graph_model.specs.declared.plan.Tally.TheVariants as tally
 use Rattle.graph_model.specs.Faults.{TextBelow, Ascends, least_name}
-use Rattle.linked_parts.specs.declared.parts.Part.{Part}
-use Rattle.linked_parts.specs.declared.parts.Parts.{Parts}
+use Rattle.part_table.specs.declared.part.Part.{Part}
+use Rattle.linked_parts.specs.PartList.{PartList}
 use Rattle.linked_parts.specs.Parts.{IsPartOf}
 use Rattle.part_bytes.specs.Texts.{part_text}
 use Rattle.history_graph.specs.declared.fault.HistoryFault.{HistoryFault}
@@ -33,7 +33,7 @@ rank tally.Texts = 4
 rank tally.Bytes = 5
 
 -- it is the least name of a part that the cell wrote, or a name that it deleted
-abbrev pub IsHead : Parts → State → Marks → Name → Type 0
+abbrev pub IsHead : PartList → State → Marks → Name → Type 0
 IsHead before s marks x = ((p : Part) × IsPartOf s p × Writes before marks p × (least_name p.names ≡ x)) ⊎ IsGone s marks x
 
 -- after a cell with this code that ended in this state with these marks: the number of cells, of versions, of names with a

@@ -1,41 +1,28 @@
 -- Which parts a cell wrote, by its marks and the parts before it.
-use Rattle.std.specs.Prelude.{◌≡◌, ℕ, ◌<◌, ◌⊎◌, Bool, true, false, List, Contains, Some, is_some, slice_get}
-use Rattle.std.specs.FinMap as finite
-use Rattle.std.specs.FinMap.{FinMap}
-use Rattle.std.specs.Ordering.{nat_cmp}
-use Rattle.std.specs.Cmp.Lexicographic.{slice_cmp}
+use Rattle.std.specs.Prelude.{◌≡◌, ℕ, ◌⊎◌, Bool, true, false, List, Contains}
 use Rattle.py_machine.specs.declared.marks.Marks.{Marks}
 use Rattle.py_machine.specs.Marked.{Name, IsIn}
-use Rattle.graph_model.specs.Faults.{least_name}
-use Rattle.linked_parts.specs.declared.parts.Part.{Part}
-use Rattle.linked_parts.specs.declared.parts.Parts.{Parts}
+use Rattle.part_table.specs.declared.part.Part.{Part}
+use Rattle.linked_parts.specs.PartList.{PartList}
 
 -- these names were a part
-abbrev pub WasPart : Parts → List Name → Type 0
+abbrev pub WasPart : PartList → List Name → Type 0
 WasPart before names = (q : Part) × Contains before.list q × (q.names ≡ names)
 
 -- a name of the part was bound or deleted, or an object of it was changed, or its names weren't a part
-abbrev pub Writes : Parts → Marks → Part → Type 0
+abbrev pub Writes : PartList → Marks → Part → Type 0
 Writes before marks p =
     ((x : Name) × Contains p.names x × IsIn marks.bound x)
     ⊎ ((at : ℕ) × Contains p.objects at × IsIn marks.changed at)
     ⊎ (¬ WasPart before p.names)
 
 -- nothing of this
-pub record Keeps (before : Parts) (marks : Marks) (p : Part) : Type 0 where
+pub record Keeps (before : PartList) (marks : Marks) (p : Part) : Type 0 where
   pub names_stay : (x : Name) → Contains p.names x → ¬ IsIn marks.bound x
   pub objects_stay : (at : ℕ) → Contains p.objects at → ¬ IsIn marks.changed at
   pub was : WasPart before p.names
 
 -- it wrote it or it kept it
-abbrev pub IsSorted : Parts → Marks → Part → Bool → Type 0
+abbrev pub IsSorted : PartList → Marks → Part → Bool → Type 0
 IsSorted before marks p true = Writes before marks p
 IsSorted before marks p false = Keeps before marks p
-
-abbrev pub Numbered : Type 0
-Numbered = FinMap (slice_cmp nat_cmp) ℕ
-
--- the first parts, as many as the count, by their least names
-pub record IsByLeast (parts : Parts) (count : ℕ) (index : Numbered) : Type 0 where
-  pub found : (name : Name) (n : ℕ) → finite.get index name ≡ Some n → (q : Part) × (slice_get parts.list n ≡ Some q) × (least_name q.names ≡ name)
-  pub has : (n : ℕ) (q : Part) → n < count → slice_get parts.list n ≡ Some q → is_some (finite.get index (least_name q.names)) ≡ true

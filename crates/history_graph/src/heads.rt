@@ -1,11 +1,12 @@
-ghost use Rattle.std.specs.Prelude.{◌≡◌, length, IfOk, OnOk};
-ghost use Rattle.py_heap.specs.declared.state.State.{State};
-ghost use Rattle.linked_parts.specs.Parts.{ArePartsOf};
-ghost use Rattle.history_graph.specs.Written.{IsByLeast};
-ghost use Rattle.history_graph.specs.Left.{ArePartHeads, AddsGone, AreHeads, AreWithin};
+ghost use Rattle.std.specs.Prelude.{◌≡◌, length, Contains, IfOk, OnOk};
+ghost use Rattle.graph_model.specs.Faults.{Ascends};
+ghost use Rattle.part_table.specs.declared.part.Part.{Part};
+ghost use Rattle.linked_parts.specs.Parts.{LeastBelow, ArePartsIn};
+ghost use Rattle.history_graph.specs.Written.{Keeps};
+ghost use Rattle.history_graph.specs.Left.{news_of, parts_then, ArePartHeads, AddsGone, AreHeads, AreWithin};
 
-use crate::written::{by_least, first_name, is_written};
-use linked_parts::Parts;
+use crate::written::{first_name, is_written};
+use linked_parts::Change;
 use plain_data::{Text, TextMap};
 use py_heap::State;
 use py_machine::Marks;
@@ -20,22 +21,17 @@ pub(crate) enum Left {
     Gone,
 }
 
-/// Of the parts those that a cell with these marks wrote, by their least names.
-fn part_heads(
-    alloc: Global,
-    before: &Parts,
-    now: &Parts,
-    marks: &Marks,
-) -> Result<TextMap<Left>, AllocError>
-    ensures heads { IfOk result (λ heads. (s t : State) → ArePartsOf s before.now → ArePartsOf t now.now → ArePartHeads before.now now.now marks.now (length now.now.list) heads) }
-    ensures within { IfOk result (λ heads. AreWithin now.now heads) }
+/// Of the parts that come those that a cell with these marks wrote, by their least names.
+fn part_heads(alloc: Global, change: &Change, marks: &Marks) -> Result<TextMap<Left>, AllocError>
+    requires { Ascends LeastBelow change.now.news }
+    ensures heads { IfOk result (λ heads. ArePartHeads change.now.before (news_of change.now) marks.now (length change.now.news) heads) }
+    ensures within { IfOk result (λ heads. AreWithin (news_of change.now) heads) }
 {
-    let index = by_least(alloc, before)?;
-    let list = now.list.as_slice();
+    let news = change.news();
     let mut heads = TextMap::new(alloc);
-    for n in 0..list.len() {
-        let part = &list[n];
-        if is_written(before, &index, marks, part) {
+    for n in 0..news.len() {
+        let part = &news[n];
+        if is_written(change, marks, part) {
             let name = first_name(alloc, part.names.as_slice())?;
             heads.bind(name, Left::Part(n))?;
         }
@@ -60,19 +56,21 @@ fn add_gone(
     Ok(())
 }
 
-/// What a cell with these marks left: the parts that it wrote, by their least names, and the names that it deleted.
+/// What a cell with these marks left: the parts that it wrote, by their least names, and the names that it deleted. It looks at the parts
+/// that come and at the names that the cell bound.
 pub(crate) fn heads_of(
     alloc: Global,
     state: &State,
-    before: &Parts,
-    now: &Parts,
+    change: &Change,
     marks: &Marks,
 ) -> Result<TextMap<Left>, AllocError>
-    requires { ArePartsOf state.now now.now }
-    ensures heads { IfOk result (λ heads. (s : State) → ArePartsOf s before.now → AreHeads before.now now.now marks.now state.now heads) }
-    ensures within { IfOk result (λ heads. AreWithin now.now heads) }
+    requires parts { ArePartsIn state.now (parts_then change.now).list }
+    requires ascends { Ascends LeastBelow change.now.news }
+    requires stay { (p : Part) → Contains change.now.stay p → Keeps change.now.before marks.now p }
+    ensures heads { IfOk result (AreHeads change.now.before (parts_then change.now) marks.now state.now) }
+    ensures within { IfOk result (AreWithin (news_of change.now)) }
 {
-    let mut heads = part_heads(alloc, before, now, marks)?;
+    let mut heads = part_heads(alloc, change, marks)?;
     let bound = marks.bound.names(alloc)?;
     add_gone(alloc, state, bound.as_slice(), &mut heads)?;
     Ok(heads)

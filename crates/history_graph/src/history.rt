@@ -1,60 +1,28 @@
 ghost use Rattle.std.specs.Prelude.{◌≡◌, ◌<◌, ◌^◌, [], Err, IfOk, OnOk, IfErr, length};
-ghost use Rattle.std.specs.FinMap as finite;
 ghost use Rattle.py_heap.specs.declared.state.State.{State};
 ghost use Rattle.py_heap.specs.References.{IsClosed};
 ghost use Rattle.py_heap.specs.States.{empty};
 ghost use Rattle.graph_model.specs.declared.plan.Tally.{Tally};
 ghost use Rattle.linked_parts.specs.Parts.{ArePartsOf};
+ghost use Rattle.linked_parts.specs.After.{IsAfter};
 ghost use Rattle.history_graph.specs.Tallies.{OnTally, IsOver, IsFirstOver};
-ghost use Rattle.history_graph.specs.Texts.{HasManyTexts};
-ghost use Rattle.history_graph.specs.Room.{IsFirstWith};
 ghost use Rattle.history_graph.specs.Touched.{Records};
 ghost use Rattle.history_graph.specs.Ends.{Makes, LedTo};
 ghost use Rattle.history_graph.specs.Usable.{IsUsableHistory};
 
 use crate::active::ActiveGraph;
+use crate::cell_end::end_with;
 use crate::fault::HistoryFault;
-use crate::heads::heads_of;
-use crate::record::record_of;
-use crate::room::first_over;
-use crate::texts::are_many;
-use crate::versions::versions_of;
-use graph_model::{Graph, Tally};
-use linked_parts::{Parts, parts_of};
-use plain_data::Items;
+use graph_model::Graph;
+use linked_parts::Parts;
 use py_heap::State;
 use py_machine::Marks;
 use std::alloc::{AllocError, Global};
 use std::marker::Model;
-
-/// The first of the numbers of cells, of versions, of names and of distinct texts that is 2^32 or more, with a cell of this code
-/// that leaves `news` versions and ends in this state, whose parts these are.
-fn over(
-    alloc: Global,
-    kept: &ActiveGraph,
-    state: &State,
-    parts: &Parts,
-    code: &str,
-    news: usize,
-) -> Result<Option<Tally>, AllocError>
-    requires closed { IsClosed state.now }
-    requires parts { ArePartsOf state.now parts.now }
-    ensures { IfOk result (λ over. IsFirstWith (length kept.now.cells) (length kept.now.versions) news (length (finite.keys state.now.globals)) (HasManyTexts kept.now state.now code.now) over) }
-{
-    let names = state.names(alloc)?;
-    let graph = kept.graph();
-    let first = first_over(graph.cells.len(), graph.versions.len(), news, names.len());
-    if first.is_some() {
-        return Ok(first);
-    }
-    if are_many(alloc, graph, state, parts, names.as_slice(), code)? {
-        return Ok(Some(Tally::Texts));
-    }
-    Ok(None)
-}
+use std::mem::replace;
 
 /// The graph of the cells of a session so far, and the parts of its state.
-#[derive(Debug, Drop)]
+#[derive(Drop)]
 pub struct History {
     graph: ActiveGraph,
     parts: Parts,
@@ -76,9 +44,7 @@ impl History {
     {
         History {
             graph: ActiveGraph::new(alloc),
-            parts: Parts {
-                list: Items::new(alloc),
-            },
+            parts: Parts::new(alloc),
         }
     }
 
@@ -100,6 +66,13 @@ impl History {
         self.graph.graph()
     }
 
+    /// The parts of the state. Takes no memory.
+    pub fn parts(&self) -> &Parts
+        ensures { result.now ≡ self.now.parts }
+    {
+        &self.parts
+    }
+
     /// Adds a cell that ended in this state, with its code, the meter as it began, its steps and its marks: its record, and
     /// a version of each part that it wrote and of each name that it deleted. After `OutOfMemory` nothing is changed; after
     /// `TooMany` a history is only dropped.
@@ -110,9 +83,10 @@ impl History {
     /// source of a function, the name of a handle); and of the bytes of a part that the cell wrote and that holds no handle.
     /// Texts are counted one by one only if the slots that could have them are that many.
     ///
-    /// It goes over the versions that hold and their names, and over the names and objects of the state; each name is looked
-    /// for in an ordered map. So the cost is that of finding the parts, and beside it near-linear in the names of the session
-    /// and in what the cell touched. It doesn't grow with the number of cells, nor with that of replaced versions.
+    /// The parts must be those of a state from which a cell with these marks led to this one.
+    ///
+    /// It goes over the versions that hold and their names, and beside that over what the cell touched alone: over the names that it
+    /// looked up or bound and those that were in a part with one of them, and over what these reach.
     pub fn end_cell(
         &mut self,
         alloc: Global,
@@ -122,7 +96,8 @@ impl History {
         steps: u32,
         marks: &Marks,
     ) -> Result<(), HistoryFault>
-        requires { IsClosed state.now }
+        requires closed { IsClosed state.now }
+        requires after { (before : State) × IsClosed before × ArePartsOf before self.old.parts × IsAfter before marks.now state.now }
         ensures next { OnOk result (Makes state.now code.now meter steps marks.now self.old self.new) }
         ensures recorded { OnOk result (Records self.old.graph code.now meter steps marks.now self.new.graph) }
         ensures parts { OnOk result (ArePartsOf state.now self.new.parts) }
@@ -133,19 +108,30 @@ impl History {
         ensures stays { OnOk result ((before : State) → IsUsableHistory before self.old → LedTo before meter marks.now state.now → IsUsableHistory state.now self.new) }
         ensures memory { result ≡ Err HistoryFault.OutOfMemory → self.new ≡ self.old }
     {
-        let parts = parts_of(alloc, state)?;
-        let heads = heads_of(alloc, state, &self.parts, &parts, marks)?;
-        let names = heads.names(alloc)?;
-        if let Some(tally) = over(alloc, &self.graph, state, &parts, code, names.len())? {
-            return Err(HistoryFault::TooMany(tally));
+        let parts = replace(&mut self.parts, Parts::new(alloc));
+        match parts.change(alloc, state, marks) {
+            Ok(change) => {
+                let ended = end_with(
+                    alloc,
+                    &mut self.graph,
+                    state,
+                    &change,
+                    code,
+                    meter,
+                    steps,
+                    marks,
+                );
+                if ended.is_ok() {
+                    self.parts = change.commit(alloc);
+                } else {
+                    self.parts = change.cancel();
+                }
+                ended
+            }
+            Err(parts) => {
+                self.parts = parts;
+                Err(HistoryFault::OutOfMemory)
+            }
         }
-        let active = self.graph.take_active(alloc)?;
-        let graph = self.graph.graph();
-        let cell = record_of(alloc, graph, active.as_slice(), code, meter, steps, marks)?;
-        let writer = graph.cells.len() as u32 + 1;
-        let news = versions_of(alloc, state, &parts, &heads, names.as_slice(), writer)?;
-        self.graph.grow(alloc, active, cell, news, writer)?;
-        self.parts = parts;
-        Ok(())
     }
 }

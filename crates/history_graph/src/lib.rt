@@ -7,6 +7,7 @@
 #![tactic(auto)]
 
 mod active;
+mod cell_end;
 mod fault;
 mod growth;
 mod heads;
@@ -27,4 +28,3 @@ pub use laws::{
     a_checked_graph_stays_one, a_history_stays_one, checked_graphs_have_cells, histories_have_cells,
 };
 pub use sets::{add_names, is_in};
-pub use written::by_least;

@@ -1,14 +1,13 @@
-ghost use Rattle.std.specs.Prelude.{ℕ, ◌≡◌, ◌<◌, ◌≤◌, ◌^◌, ◌⊎◌, ◌↔◌, List, Contains, IsTrue, IfOk, OnOk, length};
-ghost use Rattle.std.specs.FinMap as finite;
+ghost use Rattle.std.specs.Prelude.{ℕ, ◌≡◌, ◌<◌, ◌^◌, ◌⊎◌, ◌↔◌, List, Contains, IsTrue, IfOk, OnOk, length};
 ghost use Rattle.py_value.specs.declared.key.Key.TheVariants as key;
 ghost use Rattle.py_value.specs.declared.value.Value.TheVariants as value;
 ghost use Rattle.py_heap.specs.References.{IsClosed};
-ghost use Rattle.linked_parts.specs.declared.parts.Part.{Part};
-ghost use Rattle.linked_parts.specs.Parts.{ArePartsOf};
-ghost use Rattle.history_graph.specs.Texts.{IsOfPair, HasText, IsNamed, HasTextAt, HasTextIn, IsTextIn, IsCodeOf, IsNumberOfTexts, HasManyTexts, OneHas, IsWithAll, AreAtMost};
+ghost use Rattle.linked_parts.specs.Parts.{ArePartsIn};
+ghost use Rattle.history_graph.specs.Left.{parts_then};
+ghost use Rattle.history_graph.specs.Texts.{IsOfPair, HasText, IsNamed, HasTextAt, IsTextIn, IsCodeOf, IsNumberOfTexts, HasManyTexts, OneHas, IsWithAll, AreAtMost};
 
 use graph_model::{CellRecord, Graph};
-use linked_parts::{Part, Parts};
+use linked_parts::Change;
 use plain_data::{Text, TextMap};
 use py_heap::{Dict, Object, State};
 use py_value::{Key, Value};
@@ -16,54 +15,15 @@ use std::alloc::{AllocError, Global};
 
 // ---- how many there are at the most
 
-/// How many texts an object has at the most: a list or a tuple one for each item, a dict two for each pair, anything else one.
-fn room_in(object: &Object) -> usize
-    ensures { result < 2 ^ 32 → AreAtMost (HasText object.now) result }
-{
-    match object {
-        Object::List(items) => items.len(),
-        Object::Tuple(items) => items.len(),
-        Object::Dict(dict) => dict.len().saturating_add(dict.len()),
-        Object::Function(_) => 1,
-        Object::Handle { .. } => 1,
-    }
-}
-
-/// How many texts the objects at these addresses have at the most.
-fn room_at(state: &State, addresses: &[u32]) -> usize
-    requires { (at : ℕ) → Contains addresses.now at → at < length state.now.heap }
-    ensures { result < 2 ^ 32 → AreAtMost (OneHas (HasTextAt state.now) addresses.now) result }
-{
-    let mut total = 0usize;
-    for at in addresses {
-        total = total.saturating_add(room_in(state.get(*at)));
-    }
-    total
-}
-
-/// How many texts the objects of the parts have at the most.
-fn room_in_parts(state: &State, parts: &[Part]) -> usize
-    requires { (p : Part) → Contains parts.now p → (at : ℕ) → Contains p.objects at → at < length state.now.heap }
-    ensures { result < 2 ^ 32 → AreAtMost (OneHas (HasTextIn state.now) parts.now) result }
-{
-    let mut total = 0usize;
-    for part in parts {
-        total = total.saturating_add(room_at(state, part.objects.as_slice()));
-    }
-    total
-}
-
-/// How many texts there are at the most, of the codes and in the state: one for each cell, for this code and for each name, and
-/// what the objects have. Takes no memory, and goes once over the objects of the parts without a look at what they hold.
-pub(crate) fn room_for_texts(graph: &Graph, state: &State, parts: &Parts, names: &[Text]) -> usize
-    requires closed { IsClosed state.now }
-    requires parts { ArePartsOf state.now parts.now }
-    requires names { names.now ≡ finite.keys state.now.globals }
+/// How many texts there are at the most, of the codes and in the state, with the parts of this change: one for each cell, for this code
+/// and for each name, and what the objects have room for. Takes no memory, and of the parts it looks at those that come.
+fn room_for_texts(graph: &Graph, state: &State, change: &Change) -> u128
+    requires { ArePartsIn state.now (parts_then change.now).list }
     ensures { result < 2 ^ 32 → (code : List ℕ) → AreAtMost (λ t. IsCodeOf graph.now code t ⊎ IsTextIn state.now t) result }
 {
-    let codes = graph.cells.len().saturating_add(1);
-    let objects = room_in_parts(state, parts.list.as_slice());
-    codes.saturating_add(names.len()).saturating_add(objects)
+    let codes = graph.cells.len() as u128 + 1;
+    let names = state.name_count() as u128;
+    change.room().saturating_add(codes + names)
 }
 
 // ---- how many there are
@@ -162,22 +122,6 @@ fn add_objects(
     Ok(())
 }
 
-/// Puts the texts of the objects of the parts into the set.
-fn add_parts(
-    alloc: Global,
-    texts: &mut TextMap<()>,
-    state: &State,
-    parts: &[Part],
-) -> Result<(), AllocError>
-    requires { (p : Part) → Contains parts.now p → (at : ℕ) → Contains p.objects at → at < length state.now.heap }
-    ensures { OnOk result (IsWithAll texts.old (OneHas (HasTextIn state.now) parts.now) texts.new) }
-{
-    for part in parts {
-        add_objects(alloc, texts, state, part.objects.as_slice())?;
-    }
-    Ok(())
-}
-
 /// Puts the values of the names into the set, as far as they are texts.
 fn add_named(
     alloc: Global,
@@ -205,47 +149,36 @@ fn add_codes(alloc: Global, texts: &mut TextMap<()>, cells: &[CellRecord]) -> Re
     Ok(())
 }
 
-/// How many distinct texts there are, of the codes, with this one, and in the state.
-pub(crate) fn count_texts(
-    alloc: Global,
-    graph: &Graph,
-    state: &State,
-    parts: &Parts,
-    names: &[Text],
-    code: &str,
-) -> Result<usize, AllocError>
-    requires closed { IsClosed state.now }
-    requires parts { ArePartsOf state.now parts.now }
-    requires names { names.now ≡ finite.keys state.now.globals }
+/// How many distinct texts there are, of the codes, with this one, and in the state. Goes over all cells, names and objects.
+fn count_texts(alloc: Global, graph: &Graph, state: &State, code: &str) -> Result<usize, AllocError>
+    requires { IsClosed state.now }
     ensures { IfOk result (IsNumberOfTexts graph.now state.now code.now) }
 {
+    let names = state.names(alloc)?;
+    let found = state.reach(alloc, names.as_slice())?;
     let mut texts = TextMap::new(alloc);
     add_text(alloc, &mut texts, code)?;
     add_codes(alloc, &mut texts, graph.cells.as_slice())?;
-    add_named(alloc, &mut texts, state, names)?;
-    add_parts(alloc, &mut texts, state, parts.list.as_slice())?;
-    let all = texts.names(alloc)?;
-    Ok(all.len())
+    add_named(alloc, &mut texts, state, names.as_slice())?;
+    add_objects(alloc, &mut texts, state, found.as_slice())?;
+    Ok(texts.len())
 }
 
-/// Whether the texts number 2^32 or more. They are counted only if the slots for them are that many.
+/// Whether the texts number 2^32 or more, with the parts of this change. They are counted only if the slots for them are that many.
 pub(crate) fn are_many(
     alloc: Global,
     graph: &Graph,
     state: &State,
-    parts: &Parts,
-    names: &[Text],
+    change: &Change,
     code: &str,
 ) -> Result<bool, AllocError>
     requires closed { IsClosed state.now }
-    requires parts { ArePartsOf state.now parts.now }
-    requires names { names.now ≡ finite.keys state.now.globals }
+    requires parts { ArePartsIn state.now (parts_then change.now).list }
     ensures { IfOk result (λ many. IsTrue many ↔ HasManyTexts graph.now state.now code.now) }
 {
-    let most = u32::MAX as usize;
-    if room_for_texts(graph, state, parts, names) <= most {
+    if room_for_texts(graph, state, change) <= u32::MAX as u128 {
         return Ok(false);
     }
-    let count = count_texts(alloc, graph, state, parts, names, code)?;
-    Ok(count > most)
+    let count = count_texts(alloc, graph, state, code)?;
+    Ok(count > u32::MAX as usize)
 }

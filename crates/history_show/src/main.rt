@@ -27,6 +27,11 @@
 //!
 //!       not restored: cell 1 draws again
 //!
+//! - `parts`, of any value. Then the parts after each cell are printed alone: the names of each, and the number of its objects. A line
+//!   says too if the parts that are found in the whole state are others.
+//!
+//!       after cell 2: a, b 3; c 0
+//!
 //! A line may also be an object with `read`, the bytes of a checkpoint in hexadecimal digits. Then one line says what they are read as,
 //! or the first byte, version or cell by which they are no checkpoint:
 //!
@@ -35,6 +40,7 @@
 #![tactic(auto)]
 
 mod given;
+mod parts;
 mod plans;
 mod reading;
 mod words;
@@ -43,6 +49,7 @@ use anyhow::{Result, bail};
 use given::{bytes_of, feed_of, weights_of};
 use nb_outside::MemFeed;
 use notebook_engine::Notebook;
+use parts::put_parts;
 use plain_data::Text;
 use plans::put_checkpoint;
 use reading::read_text;
@@ -70,12 +77,14 @@ fn run_cell(alloc: Global, notebook: &mut Notebook, feed: &mut MemFeed, code: &s
     }
 }
 
-/// Runs these cells in a notebook, if there are any.
+/// Runs these cells in a notebook, if there are any. If parts are asked for, the line of those after each is added to the text.
 fn run_cells(
     alloc: Global,
     notebook: &mut Notebook,
     feed: &mut MemFeed,
     cells: Option<&Value>,
+    asked: bool,
+    parts: &mut Text,
 ) -> Result<()> {
     let Some(cells) = cells else {
         return Ok(());
@@ -83,11 +92,16 @@ fn run_cells(
     let Some(cells) = cells.as_array() else {
         bail!("the cells are no array of codes")
     };
+    let mut cell = 0u32;
     for code in cells.as_slice() {
         let Some(code) = code.as_str() else {
             bail!("a code is no text")
         };
         run_cell(alloc, notebook, feed, code)?;
+        cell = cell.saturating_add(1);
+        if asked {
+            put_parts(alloc, parts, cell, notebook)?;
+        }
     }
     Ok(())
 }
@@ -98,11 +112,16 @@ fn shown_after(
     mut notebook: Notebook,
     mut feed: MemFeed,
     cells: Option<&Value>,
-    weights: Option<&Value>,
+    line: &Value,
 ) -> Result<Text> {
-    run_cells(alloc, &mut notebook, &mut feed, cells)?;
+    let asked = line.get("parts").is_some();
+    let mut parts = Text::new(alloc, "")?;
+    run_cells(alloc, &mut notebook, &mut feed, cells, asked, &mut parts)?;
+    if asked {
+        return Ok(parts);
+    }
     let mut text = graph_text(alloc, notebook.graph())?;
-    if let Some(weights) = weights {
+    if let Some(weights) = line.get("weights") {
         let weights = weights_of(weights)?;
         put_checkpoint(alloc, &mut text, &notebook, &weights)?;
     }
@@ -116,7 +135,6 @@ fn shown(alloc: Global, line: &Value) -> Result<Text> {
     }
     let feed = feed_of(alloc, line)?;
     let cells = line.get("cells");
-    let weights = line.get("weights");
     let Some(checkpoint) = line.get("checkpoint") else {
         let cells = cells.unwrap_or(line);
         return shown_after(
@@ -124,12 +142,12 @@ fn shown(alloc: Global, line: &Value) -> Result<Text> {
             Notebook::opened(alloc, 0),
             feed,
             Some(cells),
-            weights,
+            line,
         );
     };
     let bytes = bytes_of(alloc, checkpoint)?;
     match restore(alloc, bytes.as_slice(), 0) {
-        Ok(restored) => shown_after(alloc, Notebook::of(alloc, restored), feed, cells, weights),
+        Ok(restored) => shown_after(alloc, Notebook::of(alloc, restored), feed, cells, line),
         Err(RestoreFault::OutOfMemory) => bail!("out of memory"),
         Err(fault) => Ok(Text::from_string(format!(in alloc; "not restored: {fault}\n")?)),
     }

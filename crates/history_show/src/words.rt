@@ -11,7 +11,7 @@ pub fn put(alloc: Global, text: &mut Text, words: &str, number: u32) -> Result<(
 }
 
 /// Adds names, with a comma between.
-fn put_names(text: &mut Text, names: &[Text]) -> Result<(), AllocError> {
+pub fn put_names(text: &mut Text, names: &[Text]) -> Result<(), AllocError> {
     let mut between = " ";
     for name in names {
         text.push_str(between)?;

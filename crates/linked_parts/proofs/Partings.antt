@@ -12,12 +12,11 @@ use Rattle.py_heap.specs.Reaching as reaching
 use Rattle.py_machine.specs.Marked.{Name}
 use Rattle.graph_model.specs.Faults.{TextBelow, Ascends, least_name}
 use Rattle.graph_model.proofs.Ascending.{ascends-push}
-use Rattle.linked_parts.specs.declared.parts.Part.{Part}
-use Rattle.linked_parts.specs.Parts.{Reaches, Linked, IsPart, IsPartOf, LeastBelow, ArePartsOf}
-use Rattle.linked_parts.specs.Labels.{name_at, IsOwner, IsLabelling, AreOwners, AreUnder, AreOwnedUnder}
-use Rattle.linked_parts.proofs.Lists.{first_in, one_in, below_on, never_below_itself, least_in, least_there}
+use Rattle.part_table.specs.declared.part.Part.{Part}
+use Rattle.linked_parts.specs.Parts.{Reaches, Linked, room_of, IsPart, IsPartOf, LeastBelow, ArePartsOf}
+use Rattle.linked_parts.specs.Labels.{name_at, IsOwner, IsLabelling, AreOwners, AreFound, AreUnder, AreOwnedUnder}
+use Rattle.linked_parts.proofs.Lists.{first_in, one_in, none_in, below_on, never_below_itself, least_in, least_there}
 use Rattle.linked_parts.proofs.Names.{AreNames, linked_values}
-use Rattle.linked_parts.proofs.Searching.{owner_within}
 
 -- ---- the names with one label
 
@@ -105,8 +104,8 @@ pub reach_of_one : (s : State) (own : List Name) (at : ℕ) → Reach s own at �
 reach_of_one s own _ (reaching.named x at c r) = (x, c, reaching.named x at (first_in x []) r)
 reach_of_one s own _ (reaching.held from at r c) = let w = reach_of_one s own from r in (w.0, w.1, reaching.held from at w.2 c)
 
-module _ (s : State) (names : List Name) (labels : List ℕ) (owners : List (Option ℕ)) (o : AreOwners s names labels owners) (root : ℕ) (own : List Name)
-    (u : AreUnder names labels root (length names) own) (objects : List ℕ) (w : AreOwnedUnder labels owners (length owners) root objects) where
+module _ (s : State) (names : List Name) (labels : List ℕ) (owners : List (Option ℕ)) (o : AreOwners s names labels owners) (found : List ℕ) (f : AreFound owners found)
+    (root : ℕ) (own : List Name) (u : AreUnder names labels root (length names) own) (objects : List ℕ) (w : AreOwnedUnder labels owners found root objects) where
   pub own_objects : (at : ℕ) → Contains objects at ↔ Reach s own at
   own_objects at = (
     (λ h.
@@ -116,76 +115,89 @@ module _ (s : State) (names : List Name) (labels : List ℕ) (owners : List (Opt
         let x = reach_of_one s own at r in
         let j = u.listed x.0 x.1 in
         let m = o.met j.0 at j.1 (subst (λ z. Reaches s z at) (sym j.3) x.2) in
-        (w.members at).1 (m.0, owner_within owners at m.0 m.1, m.1, m.2 ∙ j.2)),
+        (w.members at).1 (m.0, (f.members at).1 (m.0, m.1), m.1, m.2 ∙ j.2)),
   )
 
-  pub own_part_of : IsPart s own → (part : Part) → part.names ≡ own → part.objects ≡ objects → (IsTrue part.handle ↔ ((at : ℕ) × Contains objects at × IsHandleAt s.heap at)) → IsPartOf s part
-  own_part_of is part e f handle = record {
+  pub own_part_of : IsPart s own → (part : Part) → part.names ≡ own → part.objects ≡ objects → (IsTrue part.handle ↔ ((at : ℕ) × Contains objects at × IsHandleAt s.heap at))
+      → part.room ≡ room_of s objects → IsPartOf s part
+  own_part_of is part e same handle room = record {
     names = subst (IsPart s) (sym e) is;
-    ascends = subst (Ascends (λ m n. m < n)) (sym f) w.ascends;
-    objects = subst (λ (xs : List ℕ). (at : ℕ) → Contains xs at ↔ Reach s part.names at) (sym f) (subst (λ ns. (at : ℕ) → Contains objects at ↔ Reach s ns at) (sym e) own_objects);
-    handle = subst (λ (xs : List ℕ). IsTrue part.handle ↔ ((at : ℕ) × Contains xs at × IsHandleAt s.heap at)) (sym f) handle;
+    ascends = subst (Ascends (λ m n. m < n)) (sym same) w.ascends;
+    objects = subst (λ (xs : List ℕ). (at : ℕ) → Contains xs at ↔ Reach s part.names at) (sym same)
+        (subst (λ ns. (at : ℕ) → Contains objects at ↔ Reach s ns at) (sym e) own_objects);
+    handle = subst (λ (xs : List ℕ). IsTrue part.handle ↔ ((at : ℕ) × Contains xs at × IsHandleAt s.heap at)) (sym same) handle;
+    room = subst (λ (xs : List ℕ). part.room ≡ room_of s xs) (sym same) room;
   }
 
 -- ---- the objects under each label, one object after the other
 
-pub owned_skip : (labels : List ℕ) (owners : List (Option ℕ)) (count label : ℕ) (objects : List ℕ) → AreOwnedUnder labels owners count label objects
-    → ((k : ℕ) → IsOwner owners count k → slice_index labels k ≢ label) → AreOwnedUnder labels owners (count + 1) label objects
-owned_skip labels owners count label objects w none = record {
-  ascends = w.ascends;
-  members = λ at. (
-    (λ h. let k = (w.members at).0 h in (k.0, omega (arith, k.1), k.2, k.3)),
-    (λ k. elim (cases_eq at count) [
-      | inl e ↦ absurd (none k.0 (subst (λ (z : ℕ). IsOwner owners z k.0) e k.2) k.3)
-      | inr other ↦ (w.members at).1 (k.0, let l : at < count + 1 = k.1 in omega arith, k.2, k.3)
-    ]),
-  );
-}
-
-pub owned_push : (labels : List ℕ) (owners : List (Option ℕ)) (count label : ℕ) (objects : List ℕ) → AreOwnedUnder labels owners count label objects
-    → (owner : ℕ) → IsOwner owners count owner → slice_index labels owner ≡ label → AreOwnedUnder labels owners (count + 1) label (objects ++ count ∷ [])
-owned_push labels owners count label objects w owner is e = record {
-  ascends = ascends-push (λ m n. m < n) objects count w.ascends (λ at h. ((w.members at).0 h).1);
-  members = λ at. (
-    (λ h. elim (Contains-push_cases objects count at h) [
-      | inl c ↦ let k = (w.members at).0 c in (k.0, omega (arith, k.1), k.2, k.3)
-      | inr here ↦ (owner, omega (arith, here), subst (λ (z : ℕ). IsOwner owners z owner) here is, e)
-    ]),
-    (λ k. elim (cases_eq at count) [
-      | inl here ↦ subst (Contains (objects ++ count ∷ [])) (sym here) (Contains-push objects count)
-      | inr other ↦ Contains-append_left objects (count ∷ []) at ((w.members at).1 (k.0, let l : at < count + 1 = k.1 in omega arith, k.2, k.3))
-    ]),
-  );
-}
-
--- for each label the objects that have it, of the first as many as the count
-pub record AreListed (labels : List ℕ) (owners : List (Option ℕ)) (count : ℕ) (lists : List (List ℕ)) : Type 0 where
-  pub size : length lists ≡ length labels
-  pub each : (label : ℕ) → label < length labels → AreOwnedUnder labels owners count label (get_or lists label [])
-
-module _ (labels : List ℕ) (owners : List (Option ℕ)) (count : ℕ) (old : List (List ℕ)) (a : AreListed labels owners count old) where
-  pub listed_free : get_or owners count None ≡ None → AreListed labels owners (count + 1) old
-  listed_free free = record {
-    size = a.size;
-    each = λ label l. owned_skip labels owners count label (get_or old label []) (a.each label l) (λ k e. absurd (none-some k (sym free ∙ e)));
+module _ (labels : List ℕ) (owners : List (Option ℕ)) (among : List ℕ) (at label : ℕ) (objects : List ℕ) (w : AreOwnedUnder labels owners among label objects) where
+  pub owned_skip : ((k : ℕ) → IsOwner owners at k → slice_index labels k ≢ label) → AreOwnedUnder labels owners (among ++ at ∷ []) label objects
+  owned_skip none = record {
+    ascends = w.ascends;
+    members = λ b. (
+      (λ h. let k = (w.members b).0 h in (k.0, Contains-append_left among (at ∷ []) b k.1, k.2, k.3)),
+      (λ k. elim (Contains-push_cases among at b k.1) [
+        | inl c ↦ (w.members b).1 (k.0, c, k.2, k.3)
+        | inr here ↦ absurd (none k.0 (subst (λ (z : ℕ). IsOwner owners z k.0) (sym here) k.2) k.3)
+      ]),
+    );
   }
 
-  pub listed_more : (owner : ℕ) (now : List (List ℕ)) → IsOwner owners count owner → slice_index labels owner < length labels
-      → now ≡ set old (slice_index labels owner) (get_or old (slice_index labels owner) [] ++ count ∷ []) → AreListed labels owners (count + 1) now
-  listed_more owner now is label_in e =
+  pub owned_push : ((b : ℕ) → Contains among b → b < at) → (owner : ℕ) → IsOwner owners at owner → slice_index labels owner ≡ label
+      → AreOwnedUnder labels owners (among ++ at ∷ []) label (objects ++ at ∷ [])
+  owned_push last owner is e = record {
+    ascends = ascends-push (λ m n. m < n) objects at w.ascends (λ b h. last b ((w.members b).0 h).1);
+    members = λ b. (
+      (λ h. elim (Contains-push_cases objects at b h) [
+        | inl c ↦ let k = (w.members b).0 c in (k.0, Contains-append_left among (at ∷ []) b k.1, k.2, k.3)
+        | inr here ↦ (owner, subst (Contains (among ++ at ∷ [])) here (Contains-push among at), subst (λ (z : ℕ). IsOwner owners z owner) here is, e)
+      ]),
+      (λ k. elim (Contains-push_cases among at b k.1) [
+        | inl c ↦ Contains-append_left objects (at ∷ []) b ((w.members b).1 (k.0, c, k.2, k.3))
+        | inr here ↦ subst (Contains (objects ++ at ∷ [])) here (Contains-push objects at)
+      ]),
+    );
+  }
+
+-- for each label those of the objects that have it
+pub record AreListed (labels : List ℕ) (owners : List (Option ℕ)) (among : List ℕ) (lists : List (List ℕ)) : Type 0 where
+  pub size : length lists ≡ length labels
+  pub each : (label : ℕ) → label < length labels → AreOwnedUnder labels owners among label (get_or lists label [])
+
+pub listed_at_first : (labels : List ℕ) (owners : List (Option ℕ)) (lists : List (List ℕ)) → length lists ≡ length labels
+    → ((label : ℕ) → label < length labels → get_or lists label [] ≡ []) → AreListed labels owners [] lists
+listed_at_first labels owners lists size none = record {
+  size = size;
+  each = λ label l. subst (AreOwnedUnder labels owners [] label) (sym (none label l)) (record {
+    ascends = tt;
+    members = λ b. ((λ h. absurd (none_in b h)), (λ k. absurd (none_in b k.1)));
+  });
+}
+
+module _ (labels : List ℕ) (owners : List (Option ℕ)) (among : List ℕ) (at : ℕ) (old : List (List ℕ)) (a : AreListed labels owners among old) where
+  pub listed_free : get_or owners at None ≡ None → AreListed labels owners (among ++ at ∷ []) old
+  listed_free free = record {
+    size = a.size;
+    each = λ label l. owned_skip labels owners among at label (get_or old label []) (a.each label l) (λ k e. absurd (none-some k (sym free ∙ e)));
+  }
+
+  pub listed_more : ((b : ℕ) → Contains among b → b < at) → (owner : ℕ) (now : List (List ℕ)) → IsOwner owners at owner → slice_index labels owner < length labels
+      → now ≡ set old (slice_index labels owner) (get_or old (slice_index labels owner) [] ++ at ∷ []) → AreListed labels owners (among ++ at ∷ []) now
+  listed_more last owner now is label_in e =
       let label : ℕ = slice_index labels owner in
-      let more : List ℕ = get_or old label [] ++ count ∷ [] in
+      let more : List ℕ = get_or old label [] ++ at ∷ [] in
       record {
         size = ap (λ (ls : List (List ℕ)). length ls) e ∙ (length-set old label more ∙ a.size);
         each = λ l l_in. elim (cases_eq l label) [
           | inl same ↦
               let here : get_or now l [] ≡ more =
               ap (λ (ls : List (List ℕ)). get_or ls l []) e ∙ (ap (λ (z : ℕ). get_or (set old label more) z []) same ∙ get_or-set_same old label more [] (omega (arith, a.size, label_in))) in
-              subst (AreOwnedUnder labels owners (count + 1) l) (sym here) (subst (λ z. AreOwnedUnder labels owners (count + 1) z more) (sym same)
-              (owned_push labels owners count label (get_or old label []) (a.each label label_in) owner is refl))
+              subst (AreOwnedUnder labels owners (among ++ at ∷ []) l) (sym here) (subst (λ z. AreOwnedUnder labels owners (among ++ at ∷ []) z more) (sym same)
+              (owned_push labels owners among at label (get_or old label []) (a.each label label_in) last owner is refl))
           | inr other ↦
               let here : get_or now l [] ≡ get_or old l [] = ap (λ (ls : List (List ℕ)). get_or ls l []) e ∙ get_or-set_other old label l more [] other in
-              subst (AreOwnedUnder labels owners (count + 1) l) (sym here) (owned_skip labels owners count l (get_or old l []) (a.each l l_in)
+              subst (AreOwnedUnder labels owners (among ++ at ∷ []) l) (sym here) (owned_skip labels owners among at l (get_or old l []) (a.each l l_in)
               (λ k f same. other (sym same ∙ ap (slice_index labels) (same_Some k owner (sym f ∙ is)))))
         ];
       }

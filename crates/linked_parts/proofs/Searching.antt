@@ -5,7 +5,7 @@ use Rattle.std.specs.List.{count_by}
 use Rattle.std.specs.FinMap as finite
 use Rattle.std.proofs.lemmas.Bool.{cases_eq, cases_lt}
 use Rattle.std.proofs.lemmas.Option.{none-some, same_Some}
-use Rattle.std.proofs.lemmas.List.{length-set, length_push, length-replicate, get_or-set_same, get_or-set_other, get_or-replicate, get_or_past, get_or_append_left, get_or_push, get_or_default}
+use Rattle.std.proofs.lemmas.List.{length-set, length_push, length-replicate, get_or-set_same, get_or-set_other, get_or-replicate, get_or_past, get_or_append_left, get_or_push}
 use Rattle.std.proofs.lemmas.List.Elements.{Contains-append_left, Contains-push}
 use Rattle.std.proofs.lemmas.List.Sums.{sum_by-set}
 use Rattle.std.proofs.lemmas.List.Folds.{sum_by-replicate}
@@ -13,10 +13,12 @@ use Rattle.py_heap.specs.declared.state.State.{State}
 use Rattle.py_heap.specs.References.{IsClosed}
 use Rattle.py_heap.specs.Reaching.{name_refs, refs_at}
 use Rattle.py_heap.specs.Reaching as reaching
+use Rattle.py_heap.specs.Places.{IsNextIn}
 use Rattle.py_heap.proofs.Reached.{reached_live}
 use Rattle.linked_parts.specs.declared.search.Search.{Search}
 use Rattle.linked_parts.specs.Parts.{Reaches, Linked, itself, shared, back, on}
 use Rattle.linked_parts.specs.Labels.{name_count, nth_name, IsForest, Joined, alone, parent, turned, chained, IsOwner, IsMet, BecomesOwner, IsJoinedWithOwner, Meets, Owns, IsSearch}
+use Rattle.linked_parts.proofs.Lists.{first_in, one_in, none_in}
 use Rattle.linked_parts.proofs.Names.{are_names}
 
 -- an object that has an owner is one of the objects
@@ -235,24 +237,24 @@ value_more s count old now keeps h g each = record {
   opened = g.opened;
 }
 
--- ---- what an object refers to, one reference after the other
+-- ---- what an object refers to, one place after the other
 
--- the owner of the next object has met as many of these as the count
-pub record IsOpening (s : State) (count : ℕ) (now : Search) (next owner at : ℕ) (refs : List ℕ) (index : ℕ) : Type 0 where
+-- the owner of the next object has met what that object names at the places before this one
+pub record IsOpening (s : State) (count : ℕ) (now : Search) (next owner at : ℕ) (refs : ℕ → List ℕ) (place : ℕ) : Type 0 where
   pub search : IsSearch s count now
   pub opened : now.opened ≡ next
   pub more : next < length now.found
   pub here : slice_index now.found next ≡ at
   pub owns : IsOwner now.owners at owner
-  pub met : (i : ℕ) → i < index → IsMet now owner (get_or refs i 0)
+  pub met : (k a : ℕ) → k < place → Contains (refs k) a → IsMet now owner a
 
-module _ (s : State) (count : ℕ) (old : Search) (next owner at : ℕ) (refs : List ℕ) (index : ℕ) (closed : IsClosed s) (o : IsOpening s count old next owner at refs index)
-    (c : Contains (refs_at s at) (get_or refs index 0)) where
-  abbrev to : ℕ
-  to = get_or refs index 0
+module _ (s : State) (count : ℕ) (old : Search) (next owner at : ℕ) (refs : ℕ → List ℕ) (place : ℕ) (closed : IsClosed s) (o : IsOpening s count old next owner at refs place)
+    (within : (k a : ℕ) → Contains (refs k) a → Contains (refs_at s at) a) (to on_place : ℕ) (n : IsNextIn refs place (Some (to, on_place))) where
+  names_to : Contains (refs_at s at) to
+  names_to = within n.0 to (subst (λ (ns : List ℕ). Contains ns to) (sym n.3) (first_in to []))
 
   reached_to : Reaches s (nth_name s owner) to
-  reached_to = reaching.held at to (o.search.owned at owner o.owns).reaches c
+  reached_to = reaching.held at to (o.search.owned at owner o.owns).reaches names_to
 
   pub owner_in : owner < name_count s
   owner_in = (o.search.owned at owner o.owns).within
@@ -260,7 +262,7 @@ module _ (s : State) (count : ℕ) (old : Search) (next owner at : ℕ) (refs : 
   pub to_in : to < length s.heap
   to_in = reached_live s closed (nth_name s owner ∷ []) to reached_to
 
-  pub opening_more : (now : Search) → Meets owner to old now → IsOpening s count now next owner at refs (index + 1)
+  pub opening_more : (now : Search) → Meets owner to old now → IsOpening s count now next owner at refs on_place
   opening_more now w =
       let a = on_after s count old now o.search owner to owner_in reached_to to_in w in
       record {
@@ -269,15 +271,18 @@ module _ (s : State) (count : ℕ) (old : Search) (next owner at : ℕ) (refs : 
         more = let l = a.longer in let m = o.more in omega (arith, l, m);
         here = a.found next o.more ∙ o.here;
         owns = a.owners at owner o.owns;
-        met = λ i l. elim (cases_eq i index) [
-          | inl e ↦ subst (λ z. IsMet now owner (get_or refs z 0)) (sym e) a.met
-          | inr other ↦ a.keeps owner (get_or refs i 0) (o.met i (omega arith))
+        met = λ k b l h. elim (cases_eq k n.0) [
+          | inl e ↦ subst (IsMet now owner) (one_in to b (subst (λ (ns : List ℕ). Contains ns b) (ap refs e ∙ n.3) h)) a.met
+          | inr other ↦ elim (cases_lt k place) [
+            | inl low ↦ a.keeps owner b (o.met k b low h)
+            | inr high ↦ absurd (none_in b (subst (λ (ns : List ℕ). Contains ns b) (n.4 k (omega (arith, high)) (omega (arith, l, n.1, other))) h))
+          ]
         ];
       }
 
-pub opening_all : (s : State) (count : ℕ) (now : Search) (next owner at : ℕ) (refs : List ℕ) (index : ℕ) → IsOpening s count now next owner at refs index
-    → length refs ≤ index → refs ≡ refs_at s at → IsSearch s count (record now { opened = next + 1 })
-opening_all s count now next owner at refs index o l is =
+pub opening_all : (s : State) (count : ℕ) (now : Search) (next owner at : ℕ) (refs : ℕ → List ℕ) (place : ℕ) → IsOpening s count now next owner at refs place
+    → IsNextIn refs place None → ((a : ℕ) → Contains (refs_at s at) a → (k : ℕ) × Contains (refs k) a) → IsSearch s count (record now { opened = next + 1 })
+opening_all s count now next owner at refs place o none all =
     let g = o.search in
     record {
       size = g.size;
@@ -293,9 +298,11 @@ opening_all s count now next owner at refs index o l is =
         | inl same ↦
             let there : slice_index now.found p ≡ at = ap (slice_index now.found) same ∙ o.here in
             let is_owner : owner ≡ k = same_Some owner k (sym o.owns ∙ subst (λ (z : ℕ). IsOwner now.owners z k) there e) in
-            let h : Contains refs a = subst (λ (ns : List ℕ). Contains ns a) (sym is) (subst (λ z. Contains (refs_at s z) a) there c) in
-            let read : get_or refs h.0 0 ≡ a = get_or_default refs h.0 0 a h.1 ∙ h.2 in
-            let m : IsMet now owner a = subst (λ z. IsMet now owner z) read (o.met h.0 (let h_in : h.0 < length refs = h.1 in omega (arith, h_in, l))) in
+            let h = all a (subst (λ z. Contains (refs_at s z) a) there c) in
+            let m : IsMet now owner a = elim (cases_lt h.0 place) [
+              | inl low ↦ o.met h.0 a low h.1
+              | inr past ↦ absurd (none_in a (subst (λ (ns : List ℕ). Contains ns a) (none h.0 (omega (arith, past))) h.1))
+            ] in
             subst (λ z. IsMet now z a) is_owner m
         | inr other ↦ g.opened p k a (let m = o.opened in omega (arith, m, p_in, other)) e c
       ];

@@ -1,7 +1,7 @@
 -- Labels of names, as linked names are found. Names have numbers by their order. Each has a parent among those that are linked
 -- with it, and each object that was found has an owner, a name that reaches it.
 use Rattle.std.specs.Prelude.{◌≡◌, ◌≢◌, ℕ, ◌+◌, ◌^◌, ◌<◌, ◌≤◌, ◌⊎◌, ◌↔◌, List, [], ◌∷◌, ◌++◌, Contains, Option, Some, None, is_some, length, slice_index, slice_index_or, slice_set}
-use Rattle.std.specs.List.{count_by}
+use Rattle.std.specs.List.{AllPairs, count_by}
 use Rattle.std.specs.FinMap as finite
 use Rattle.py_heap.specs.declared.state.State.{State}
 use Rattle.py_heap.specs.Reaching.{name_refs, refs_at}
@@ -125,10 +125,19 @@ pub record AreOwners (s : State) (names : List Name) (labels : List ℕ) (owners
   pub met : (k at : ℕ) → k < length names → Reaches s (name_at names k) at
       → (owner : ℕ) × IsOwner owners at owner × (slice_index labels owner ≡ slice_index labels k)
 
--- the objects are those whose owner has this label, of the first as many as the count; ascending
-pub record AreOwnedUnder (labels : List ℕ) (owners : List (Option ℕ)) (count label : ℕ) (objects : List ℕ) : Type 0 where
+-- no object has an owner
+abbrev pub IsBlank : List (Option ℕ) → Type 0
+IsBlank owners = (at : ℕ) → slice_index_or owners at None ≡ None
+
+-- the objects with an owner, ascending
+pub record AreFound (owners : List (Option ℕ)) (found : List ℕ) : Type 0 where
+  pub ascends : AllPairs (λ m n. m < n) found
+  pub members : (at : ℕ) → Contains found at ↔ ((k : ℕ) × IsOwner owners at k)
+
+-- the objects are those of some whose owner has this label; ascending
+pub record AreOwnedUnder (labels : List ℕ) (owners : List (Option ℕ)) (among : List ℕ) (label : ℕ) (objects : List ℕ) : Type 0 where
   pub ascends : Ascends (λ m n. m < n) objects
-  pub members : (at : ℕ) → Contains objects at ↔ ((k : ℕ) × (at < count) × IsOwner owners at k × (slice_index labels k ≡ label))
+  pub members : (at : ℕ) → Contains objects at ↔ ((k : ℕ) × Contains among at × IsOwner owners at k × (slice_index labels k ≡ label))
 
 -- of the first names, as many as the count, those with this label, in their order
 pub record AreUnder (names : List Name) (labels : List ℕ) (root count : ℕ) (own : List Name) : Type 0 where

@@ -41,7 +41,7 @@ use Rattle.history_graph.specs.declared.history.History.{History}
 use Rattle.history_graph.specs.Texts.{IsTextIn, IsCodeOf}
 use Rattle.history_graph.specs.Tallies.{IsHead, IsOver, IsFirstOver}
 use Rattle.history_graph.proofs.Bridge.{handle_held}
-use Rattle.history_graph.proofs.Keys.{keys_ascend, in_keys, of_keys}
+use Rattle.linked_parts.proofs.Keys.{keys_ascend, in_keys, of_keys}
 use Rattle.history_graph.proofs.Standing.{history_has_cells}
 use Rattle.every_history.proofs.Histories.{next}
 use Rattle.every_history.proofs.Listed.{heads, heads_ascend, heads_are, versions_with, version_of, part_of_version}

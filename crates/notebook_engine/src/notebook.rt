@@ -3,6 +3,7 @@ ghost use Rattle.restore_run.specs.Usable.{IsUsableSession};
 
 use crate::session::Session;
 use graph_model::Graph;
+use linked_parts::Parts;
 use py_heap::State;
 use py_reader::Trees;
 use restore_run::Restored;
@@ -67,5 +68,13 @@ impl Notebook {
         ensures usable { IsUsableSession self.now.kernel.state self.now.history }
     {
         self.session.history.graph()
+    }
+
+    /// The parts of its state. Takes no memory.
+    pub fn parts(&self) -> &Parts
+        ensures parts { result.now ≡ self.now.history.parts }
+        ensures usable { IsUsableSession self.now.kernel.state self.now.history }
+    {
+        self.session.history.parts()
     }
 }

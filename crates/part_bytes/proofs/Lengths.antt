@@ -1,12 +1,13 @@
 -- How long the bytes of a part are. An address is as long as the number of its object.
-use Rattle.std.proofs.Common.{◌≡◌, ℕ, ℤ, ◌+◌, ◌<◌, ◌≤◌, Bool, true, false, List, [], ◌∷◌, ◌++◌, length, get_or, take, map, Option, Some, None, refl, sym, ap, ◌∙◌, subst, arith}
+use Rattle.std.proofs.Common.{◌≡◌, ◌≢◌, ℕ, ℤ, ◌+◌, ◌<◌, ◌≤◌, Bool, true, false, List, [], ◌∷◌, ◌++◌, length, get_or, take, map, Option, Some, None, refl, sym, ap, ◌∙◌, subst, arith}
 use Rattle.std.specs.Prelude.{SomeIff, option_to_list, slice_get}
 use Rattle.std.specs.Option.{option_map}
-use Rattle.std.specs.List.{flat_map}
+use Rattle.std.specs.List.{flat_map, AllPairs}
 use Rattle.std.specs.Int.{w128, cast_unsigned}
 use Rattle.std.specs.FinMap as finite
 use Rattle.std.proofs.lemmas.Grind.{flat_map-append}
 use Rattle.std.proofs.lemmas.List.{length-append, take_all, take_more}
+use Rattle.std.proofs.lemmas.List.Concat.{length-flat_map}
 use Rattle.std.proofs.lemmas.List.Folds.{length-flat_map-take}
 use Rattle.byteorder.specs.Numbers.{length-bytes_high_first}
 use Rattle.py_value.specs.declared.key.Key.{Key}
@@ -16,9 +17,13 @@ use Rattle.py_value.specs.Keys.{value_of}
 use Rattle.py_heap.specs.declared.heap.Object.{Object}
 use Rattle.py_heap.specs.declared.heap.Object.TheVariants as object
 use Rattle.py_heap.specs.declared.state.State.{State}
+use Rattle.py_heap.specs.References.{IsClosed}
+use Rattle.py_heap.specs.Reaching.{IsListOf}
 use Rattle.part_bytes.specs.Lengths.{held_at, object_at}
 use Rattle.part_bytes.specs.Parts.{order, number_in, numbered, numbered_pair, numbered_object, held_of, objects_of}
 use Rattle.part_bytes.specs.Texts.{four, sixteen, name_bytes, text_bytes, value_bytes, held_bytes, pair_bytes, object_bytes, part_text}
+use Rattle.part_bytes.proofs.Orders.{order_apart, order_lists}
+use Rattle.part_bytes.proofs.Sums.{sums_alike}
 
 pub length-four : (n : ℕ) → length (four n) ≡ 4
 unfolding four
@@ -167,8 +172,11 @@ length-part_text s names =
       length-objects_by number s (order s names),
     )
 
--- the objects in the list that is their order
-pub length-part_by : (s : State) (names : List (List ℕ)) (found : List ℕ) → found ≡ order s names
+-- the objects that the names reach, in any order
+pub length-part_by : (s : State) (names : List (List ℕ)) (found : List ℕ) → IsClosed s → IsListOf s names found → AllPairs (λ a b. a ≢ b) found
     → length (part_text s names) ≡ 8 + length (flat_map name_bytes names) + length (flat_map (held_at s) names) + length (flat_map (object_at s) found)
-length-part_by s names found is =
-    length-part_text s names ∙ ap (λ (ns : List ℕ). 8 + length (flat_map name_bytes names) + length (flat_map (held_at s) names) + length (flat_map (object_at s) ns)) (sym is)
+length-part_by s names found closed reached once =
+    let f : ℕ → ℕ = λ at. length (object_at s at) in
+    let same = sums_alike f found (order s names) once (order_apart s names closed)
+    (λ at h. (order_lists s names closed at).1 ((reached at).0 h)) (λ at h. (reached at).1 ((order_lists s names closed at).0 h)) in
+    omega (arith, length-part_text s names, length-flat_map (object_at s) found, length-flat_map (object_at s) (order s names), same)

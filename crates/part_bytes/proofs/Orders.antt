@@ -111,6 +111,10 @@ module _ (s : State) (names : List (List ℕ)) where
       (λ r. contains_of_has (order s names) at (whole s names (order s names) met_is_in at r)),
     )
 
+    pub order_apart : AllPairs (λ a b. a ≢ b) (order s names)
+    unfolding order
+    order_apart = found_apart (length s.heap)
+
     pub order_alone : (found : List ℕ) → ((at : ℕ) → Contains found at → Reach s names at) → found ≡ firsts (met s names found) → found ≡ order s names
     order_alone found sound first = one_list s names found (order s names) sound order_reached first order_first
 

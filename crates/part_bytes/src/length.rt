@@ -1,16 +1,15 @@
-ghost use Rattle.std.specs.Prelude.{◌≡◌, ◌+◌, ◌<◌, ◌^◌, length, IfOk, SomeIff};
-ghost use Rattle.std.specs.List.{flat_map};
+ghost use Rattle.std.specs.Prelude.{◌≡◌, ◌≢◌, ◌+◌, ◌<◌, ◌^◌, length, SomeIff};
+ghost use Rattle.std.specs.List.{flat_map, AllPairs};
 ghost use Rattle.py_value.specs.Keys.{value_of};
 ghost use Rattle.py_heap.specs.References.{AreLive, IsClosed};
+ghost use Rattle.py_heap.specs.Reaching.{IsListOf};
 ghost use Rattle.part_bytes.specs.Lengths.{Adds, held_at, object_at};
-ghost use Rattle.part_bytes.specs.Parts.{order};
 ghost use Rattle.part_bytes.specs.Texts as spec;
 ghost use Rattle.part_bytes.specs.Texts.{part_text};
 
 use plain_data::{Items, Text};
 use py_heap::{Dict, Function, Object, State};
 use py_value::{Key, Value};
-use std::alloc::{AllocError, Global};
 
 /// The byte that says what is next.
 const TAG: usize = 1;
@@ -169,29 +168,21 @@ fn add_all_held(mut total: u32, state: &State, names: &[Text]) -> Option<u32>
     Some(total)
 }
 
-/// The length of a part whose objects are at these addresses, in their order.
-fn len_of(state: &State, names: &[Text], found: &[u32]) -> Option<u32>
-    requires order { found.now ≡ order state.now names.now }
-    requires live { AreLive state.now.heap found.now }
+/// The length in bytes of the text of the part of a state with these names, which reach just these objects, and None if it is 2^32 or
+/// more. The objects may be in any order.
+///
+/// The text isn't made: a text that a list refers to a thousand times is counted a thousand times and copied never. This takes
+/// time for each name, item and pair of the part, however long its texts are, and no memory. Of a handle the text has nothing, as in
+/// `write_part`. That call refuses a name of more than 255 bytes and a count of 2^32 or more; this one counts them, with the one
+/// byte and the four bytes that the length of a name and a count take.
+pub fn part_len(state: &State, names: &[Text], objects: &[u32]) -> Option<u32>
+    requires closed { IsClosed state.now }
+    requires reached { IsListOf state.now names.now objects.now }
+    requires once { AllPairs (λ a b. a ≢ b) objects.now }
     ensures { SomeIff result (length (part_text state.now names.now) < 2 ^ 32) (length (part_text state.now names.now)) }
 {
     let named = add_names(COUNT as u32, names)?;
     let held = add_all_held(named, state, names)?;
     let counted = add(held, COUNT)?;
-    add_objects(counted, state, found)
-}
-
-/// The length in bytes of the text of the part of a state with these names, and None if it is 2^32 or more.
-///
-/// The text isn't made: a text that a list refers to a thousand times is counted a thousand times and copied never. This takes
-/// time for each object of the state and for each name, item and pair of the part, however long its texts are, and memory for a
-/// mark at each object of the state and for the addresses that the names reach. Of a handle the text has nothing, as in
-/// `write_part`. That call refuses a name of more than 255 bytes and a count of 2^32 or more; this one counts them, with the one
-/// byte and the four bytes that the length of a name and a count take.
-pub fn part_len(alloc: Global, state: &State, names: &[Text]) -> Result<Option<u32>, AllocError>
-    requires { IsClosed state.now }
-    ensures { IfOk result (λ found. SomeIff found (length (part_text state.now names.now) < 2 ^ 32) (length (part_text state.now names.now))) }
-{
-    let found = state.reach(alloc, names)?;
-    Ok(len_of(state, names, found.as_slice()))
+    add_objects(counted, state, objects)
 }

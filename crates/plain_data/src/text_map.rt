@@ -1,4 +1,4 @@
-ghost use Rattle.std.specs.Prelude.{◌≡◌, IfOk, OnOk, OnErr, IsSome, ◌↔◌, IsTrue};
+ghost use Rattle.std.specs.Prelude.{◌≡◌, length, IfOk, OnOk, OnErr, IsSome, ◌↔◌, IsTrue};
 ghost use Rattle.std.specs.Option.{option_copied};
 ghost use Rattle.std.specs.FinMap as finite;
 
@@ -44,6 +44,13 @@ impl<V: Drop> TextMap<V> {
         self.map.get(name)
     }
 
+    /// How many names have a value.
+    pub fn len(&self) -> usize
+        ensures { result ≡ length (finite.keys self.now) }
+    {
+        self.map.len()
+    }
+
     /// The names that have a value, ascending by their bytes.
     pub fn names(&self, alloc: Global) -> Result<Items<Text>, AllocError>
         ensures { IfOk result (λ names. names ≡ finite.keys self.now) }
@@ -74,6 +81,18 @@ impl<V: Drop> TextMap<V> {
             return Ok(());
         }
         self.bind(name.copy(alloc)?, value)
+    }
+
+    /// Gives another value to a name that has one. Takes no memory.
+    pub fn set(&mut self, name: &Text, value: V)
+        requires { IsSome (finite.get self.old name.now) }
+        ensures { self.new ≡ finite.insert self.old name.now value }
+    {
+        if let Some(held) = self.map.get_mut(name) {
+            *held = value;
+            return;
+        }
+        unreachable!()
     }
 
     /// Takes a name's value away, and says whether it had one.

@@ -2,6 +2,7 @@ pub mod Pairs
 pub mod Numbers
 pub mod Searching
 pub mod Reached
+pub mod Placing
 pub mod Closed
 pub mod OneOrder
 pub mod Validity

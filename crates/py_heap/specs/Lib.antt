@@ -4,6 +4,7 @@ pub mod Sequences
 pub mod States
 pub mod References
 pub mod Reaching
+pub mod Places
 pub mod Searches
 pub mod Valid
 pub mod Numbering

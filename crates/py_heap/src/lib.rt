@@ -12,6 +12,7 @@ mod heap;
 mod laws;
 mod meter;
 mod objects;
+mod places;
 mod reach;
 mod search;
 mod state;

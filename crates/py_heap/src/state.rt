@@ -88,6 +88,13 @@ impl State {
         self.globals.names(alloc)
     }
 
+    /// How many names have a value.
+    pub fn name_count(&self) -> usize
+        ensures { result ≡ length (finite.keys self.now.globals) }
+    {
+        self.globals.len()
+    }
+
     /// Gives a name a value, in place of one that it has: then the name isn't copied. After an error nothing is changed.
     pub fn bind(&mut self, alloc: Global, name: &Text, value: Value) -> Result<(), AllocError>
         ensures ok { OnOk result (self.new ≡ spec.with_name self.old name.now value) }

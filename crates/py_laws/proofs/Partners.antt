@@ -59,12 +59,12 @@ module _ (ps : ℕ → ℕ → Type 0) where
     | inr k ↦ let b = pairs_partner vs ws m.1 a k in (b.0, b.1, Contains-append_right (pair_refs w) (flat_map pair_refs ws) b.0 b.2)
   ]
 
-  name_partner : (o u : Option Value) → BothOrNone (ValuesMatch ps) o u → (a : ℕ) → Contains (held_refs value_refs o) a → Partner (held_refs value_refs u) a
+  pub name_partner : (o u : Option Value) → BothOrNone (ValuesMatch ps) o u → (a : ℕ) → Contains (held_refs value_refs o) a → Partner (held_refs value_refs u) a
   name_partner (Some v) (Some w) m a h = value_partner v w m a h
   name_partner (Some v) None m a h = absurd m
   name_partner None u m a h = absurd (none_in a h)
 
-  object_partner : (o u : Option Object) → Both (ObjectsMatch ps) o u → (a : ℕ) → Contains (held_refs object_refs o) a → Partner (held_refs object_refs u) a
+  pub object_partner : (o u : Option Object) → Both (ObjectsMatch ps) o u → (a : ℕ) → Contains (held_refs object_refs o) a → Partner (held_refs object_refs u) a
   object_partner (Some (object.List vs)) (Some (object.List ws)) m a h = items_partner vs ws m a h
   object_partner (Some (object.Tuple vs)) (Some (object.Tuple ws)) m a h = items_partner vs ws m a h
   object_partner (Some (object.Dict vs)) (Some (object.Dict ws)) m a h = pairs_partner vs ws m a h

@@ -36,7 +36,7 @@ use Rattle.replay_laws.specs.Walks.{done_again, Passes, begins, goes_on}
 use Rattle.replay_laws.proofs.OneWalk.{walked_twins, asks_too}
 use Rattle.replay_laws.proofs.Canonical.{tidied_equal}
 use Rattle.state_judge.specs.Agreeing.{IsUnlike, IsFirstLoose}
-use Rattle.restore_run.proofs.OneParts.{one_list}
+use Rattle.linked_parts.proofs.Unique.{one_list}
 use Rattle.restore_run.specs.declared.fault.RestoreFault.{RestoreFault}
 use Rattle.restore_run.specs.declared.fault.RestoreFault.TheVariants as fault
 use Rattle.restore_run.specs.declared.restored.Restored.{Restored}

@@ -6,6 +6,7 @@ pub mod Holding
 pub mod Standing
 pub mod Checking
 pub mod Fencing
+pub mod Meeting
 pub mod Marking
 pub mod Repeating
 pub mod Runs

@@ -109,7 +109,7 @@ pub fn sameness_keeps_handles()
 
 /// From a closed state every cell ends in one that its marks tell of, whatever its body and under all draws. A name that isn't
 /// marked as bound has its value still, and an old object that isn't marked as changed is as it was. What was changed, and
-/// what the names looked up or bound reach at the end, was reached from the names looked up, or is new.
+/// what that and the names looked up or bound reach at the end, was reached from the names looked up, or is new.
 pub fn marks_tell_what_a_cell_leaves()
     ensures { (body : List Stmt) (s : State) (draws : List Drawn) → IsClosed s
         → IsAfter s (outcome body s draws).1.marks (end_state body s draws) }

@@ -24,7 +24,7 @@ use Rattle.run_graph.proofs.Runs.{is_run}
 use Rattle.run_graph.proofs.Kept.{in_part_value, same_part, kept_not_written}
 use Rattle.run_graph.proofs.Only.{same_list}
 use Rattle.history_graph.proofs.Amounts.{no_longer}
-use Rattle.history_graph.proofs.Keys.{in_keys}
+use Rattle.linked_parts.proofs.Keys.{in_keys}
 use Rattle.part_bytes.specs.Sizing.{have_values, size_of}
 use Rattle.replay_laws.proofs.Sizing.{no_size, one_has_none}
 use Rattle.every_history.specs.Reading.{read}

@@ -18,8 +18,8 @@ use Rattle.graph_model.specs.declared.graph.Graph.{Graph}
 use Rattle.graph_model.specs.Graphs.{VersionAt, IsActive}
 use Rattle.graph_model.specs.Faults.{TextBelow, Ascends}
 use Rattle.graph_model.proofs.Lookups.{same_version, version_within}
-use Rattle.linked_parts.specs.declared.parts.Part.{Part}
-use Rattle.linked_parts.specs.declared.parts.Parts.{Parts}
+use Rattle.part_table.specs.declared.part.Part.{Part}
+use Rattle.linked_parts.specs.PartList.{PartList}
 use Rattle.linked_parts.specs.Parts.{HasValue, IsPart, IsPartOf, ArePartsOf}
 use Rattle.linked_parts.proofs.Lists.{below_on, never_below_itself, least_in}
 use Rattle.linked_parts.proofs.Names.{linked_values}
@@ -28,7 +28,7 @@ use Rattle.part_bytes.specs.Texts.{part_text}
 use Rattle.history_graph.specs.Written.{WasPart, Numbered, IsByLeast}
 use Rattle.history_graph.specs.Sets.{Names, Has, IsWith}
 use Rattle.history_graph.proofs.Bridge.{handle_held}
-use Rattle.history_graph.proofs.Keys.{keys_ascend, in_keys, of_keys}
+use Rattle.linked_parts.proofs.Keys.{keys_ascend, in_keys, of_keys}
 use Rattle.history_graph.proofs.Ending.{was_one}
 use Rattle.history_graph.proofs.Least.{was_found}
 use Rattle.part_bytes.specs.Sizing.{holds_handle, have_values, size_of}
@@ -97,12 +97,12 @@ module _ (s : State) (p : Part) (closed : IsClosed s) (is : IsPartOf s p) where
       λ said. size ∙ (ap (λ (ns : List Name). size_of ns s) names ∙ sym said.size),
     )
 
-pub no_part_said : (s : State) (parts : Parts) (x : Version) → ArePartsOf s parts → ¬ WasPart parts x.names → ¬ IsAsSaid x s
+pub no_part_said : (s : State) (parts : PartList) (x : Version) → ArePartsOf s parts → ¬ WasPart parts x.names → ¬ IsAsSaid x s
 no_part_said s parts x are none said = none (was_one s parts are x.names said.part)
 
 -- ---- the part with some names
 
-module _ (s : State) (parts : Parts) (are : ArePartsOf s parts) (index : Numbered) (h : IsByLeast parts (length parts.list) index) (names : List Name) (least : Name) (more : List Name) (e : names ≡ least ∷ more) where
+module _ (s : State) (parts : PartList) (are : ArePartsOf s parts) (index : Numbered) (h : IsByLeast parts (length parts.list) index) (names : List Name) (least : Name) (more : List Name) (e : names ≡ least ∷ more) where
   none_there : (n : ℕ) → ((q : Part) → slice_get parts.list n ≡ Some q → ¬ (q.names ≡ names)) → IsTrue false ↔ ((q : Part) × (slice_get parts.list n ≡ Some q) × (q.names ≡ names))
   none_there n none = (λ t. absurd (false≢true t), λ (q, at, f). absurd (none q at f))
 

@@ -15,8 +15,8 @@ use Rattle.graph_model.specs.declared.graph.Graph.{Graph}
 use Rattle.graph_model.specs.Graphs.{VersionAt, IsActive}
 use Rattle.graph_model.specs.Faults.{Never, IsGraph}
 use Rattle.graph_model.proofs.Lookups.{same_version, version_within}
-use Rattle.linked_parts.specs.declared.parts.Part.{Part}
-use Rattle.linked_parts.specs.declared.parts.Parts.{Parts}
+use Rattle.part_table.specs.declared.part.Part.{Part}
+use Rattle.linked_parts.specs.PartList.{PartList}
 use Rattle.linked_parts.specs.Parts.{HasValue, HasNone, IsPartOf, ArePartsOf}
 use Rattle.linked_parts.proofs.Lists.{cons_cases}
 use Rattle.run_graph.proofs.Growing.{in_of_get}
@@ -64,7 +64,7 @@ same_flags false false = inl refl
 same_flags true false = inr (λ e. false≢true (sym e))
 same_flags false true = inr false≢true
 
-module _ (s : State) (parts : Parts) (closed : IsClosed s) (are : ArePartsOf s parts) where
+module _ (s : State) (parts : PartList) (closed : IsClosed s) (are : ArePartsOf s parts) where
   said_of : (x : Version) → ((IsAsSaid x s → ⊥) → ⊥) → IsAsSaid x s
   said_of x h = elim (had_part x.names parts.list) [
     | inr none ↦ absurd (h (no_part_said s parts x are none))
@@ -143,7 +143,7 @@ none_sized s (x ∷ xs) some none = no_size (x ∷ xs) s (inr (ap (λ o. is_some
 none_held : (s : State) (name : Name) → ¬ HasValue s name → HasNone s name
 none_held s name out = elim (has_value s name) [ inl v ↦ absurd (out v) | inr none ↦ none ]
 
-module _ (g : Graph) (s : State) (parts : Parts) (closed : IsClosed s) (are : ArePartsOf s parts) (like : Never (IsUnlike g s)) (none_loose : (name : Name) → ¬ IsLoose g s name) (plain : All IsPlainIfAbsent g.versions)
+module _ (g : Graph) (s : State) (parts : PartList) (closed : IsClosed s) (are : ArePartsOf s parts) (like : Never (IsUnlike g s)) (none_loose : (name : Name) → ¬ IsLoose g s name) (plain : All IsPlainIfAbsent g.versions)
     (good : IsGraph g) where
   said : (v : ℕ) (x : Version) → IsActive g v x → x.absent ≡ false → IsAsSaid x s
   said v x a e = said_of s parts closed are x (λ k. like v (x, a, inr (e, k)))

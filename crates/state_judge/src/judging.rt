@@ -1,21 +1,23 @@
-ghost use Rattle.std.specs.Prelude.{ℕ, ◌≡◌, ◌↔◌, ◌<◌, ◌^◌, List, Contains, IsTrue, length, SomeIff, MatchOption, MatchResult, IfOk, IfErr, OnOk, Ok};
+ghost use Rattle.std.specs.Prelude.{ℕ, ◌≡◌, ◌≢◌, ◌↔◌, ◌<◌, ◌^◌, List, Contains, IsTrue, Some, length, slice_get, SomeIff, MatchOption, IfOk, IfErr, OnOk};
+ghost use Rattle.std.specs.List.{AllPairs};
+ghost use Rattle.part_table.specs.declared.part.Part.{Part};
 ghost use Rattle.flow_model.specs.First.{IsFirst};
 ghost use Rattle.py_heap.specs.declared.state.State.{State};
 ghost use Rattle.py_heap.specs.References.{IsClosed};
 ghost use Rattle.graph_model.specs.declared.graph.Version.{Version};
 ghost use Rattle.graph_model.specs.Graphs.{IsActive};
 ghost use Rattle.graph_model.specs.Faults.{Never};
-ghost use Rattle.linked_parts.specs.Parts.{HasValue, IsPartOf, ArePartsOf};
-ghost use Rattle.history_graph.specs.Written.{WasPart, IsByLeast};
+ghost use Rattle.linked_parts.specs.Parts.{HasValue, ArePartsOf};
+ghost use Rattle.history_graph.specs.Written.{WasPart};
 ghost use Rattle.history_graph.specs.Sets.{Has};
 ghost use Rattle.part_bytes.specs.Sizing.{size_of};
 ghost use Rattle.state_judge.specs.Agreeing.{IsAsSaid, Disagrees, IsUnlike, IsLoose, IsFirstLoose, IsStateJudged};
 
 use graph_model::{Graph, Version};
-use history_graph::{add_names, by_least, is_in};
-use linked_parts::{Part, Parts};
+use history_graph::{add_names, is_in};
+use linked_parts::Parts;
 use part_bytes::part_len;
-use plain_data::{Text, TextMap};
+use plain_data::{Items, Text, TextMap};
 use py_heap::State;
 use std::alloc::{AllocError, Global};
 
@@ -48,34 +50,50 @@ fn are_same(xs: &[Text], ys: &[Text]) -> bool
     xs == ys
 }
 
-/// The part with these names. The index has the numbers of the parts by their least names.
-fn part_with<'a>(parts: &'a Parts, index: &TextMap<usize>, names: &[Text]) -> Option<&'a Part>
-    requires { IsByLeast parts.now (length parts.now.list) index.now }
+/// The number of the part with these names, counted from 0.
+fn part_with(parts: &Parts, names: &[Text]) -> Option<usize>
     ensures { (s : State) → ArePartsOf s parts.now
-        → MatchOption result (¬ WasPart parts.now names.now) (λ p. Contains parts.now.list p.now × (p.now.names ≡ names.now)) }
+        → MatchOption result (¬ WasPart parts.now names.now) (λ n. (p : Part) × (slice_get parts.now.list n ≡ Some p) × (p.names ≡ names.now)) }
 {
     let [least, ..] = names else {
         return None;
     };
-    let Some(n) = index.look(least) else {
-        return None;
-    };
-    match parts.list.get(*n) {
-        Some(part) if are_same(part.names.as_slice(), names) => Some(part),
+    match parts.find(least) {
+        Some(n) if are_same(parts.names(n), names) => Some(n),
         _ => None,
     }
 }
 
-/// The length of the text of a part, or 0 if a handle is in it; None if that is 2^32 or more.
-fn size_of_part(alloc: Global, state: &State, part: &Part) -> Result<Option<u32>, AllocError>
-    requires closed { IsClosed state.now }
-    requires part { IsPartOf state.now part.now }
-    ensures { IfOk result (λ size. SomeIff size (size_of part.now.names state.now < 2 ^ 32) (size_of part.now.names state.now)) }
+/// The addresses of the objects of a part.
+fn objects_of(alloc: Global, parts: &Parts, part: usize) -> Result<Items<u32>, AllocError>
+    requires { part < length parts.now.list }
+    ensures each { IfOk result (λ objects. (p : Part) → slice_get parts.now.list part ≡ Some p → (at : ℕ) → Contains objects at ↔ Contains p.objects at) }
+    ensures once { IfOk result (AllPairs (λ a b. a ≢ b)) }
 {
-    if part.handle {
+    let mut objects = Items::new(alloc);
+    for at in parts.objects(part) {
+        objects.push(at)?;
+    }
+    Ok(objects)
+}
+
+/// The length of the text of a part, or 0 if a handle is in it; None if that is 2^32 or more.
+fn size_of_part(
+    alloc: Global,
+    state: &State,
+    parts: &Parts,
+    part: usize,
+) -> Result<Option<u32>, AllocError>
+    requires closed { IsClosed state.now }
+    requires parts { ArePartsOf state.now parts.now }
+    requires within { part < length parts.now.list }
+    ensures { IfOk result (λ size. (p : Part) → slice_get parts.now.list part ≡ Some p → SomeIff size (size_of p.names state.now < 2 ^ 32) (size_of p.names state.now)) }
+{
+    if parts.handle(part) {
         return Ok(Some(0));
     }
-    part_len(alloc, state, part.names.as_slice())
+    let objects = objects_of(alloc, parts, part)?;
+    Ok(part_len(state, parts.names(part), objects.as_slice()))
 }
 
 /// Whether a size that was found is the version's.
@@ -90,16 +108,22 @@ fn has_size(found: Option<u32>, version: &Version) -> bool
 }
 
 /// Whether a part has the version's handle and size.
-fn is_like(alloc: Global, state: &State, part: &Part, version: &Version) -> Result<bool, AllocError>
+fn is_like(
+    alloc: Global,
+    state: &State,
+    parts: &Parts,
+    part: usize,
+    version: &Version,
+) -> Result<bool, AllocError>
     requires closed { IsClosed state.now }
-    requires part { IsPartOf state.now part.now }
-    requires names { part.now.names ≡ version.now.names }
+    requires parts { ArePartsOf state.now parts.now }
+    requires part { (p : Part) × (slice_get parts.now.list part ≡ Some p) × (p.names ≡ version.now.names) }
     ensures { IfOk result (λ like. IsTrue like ↔ IsAsSaid version.now state.now) }
 {
-    if part.handle != version.handle {
+    if parts.handle(part) != version.handle {
         return Ok(false);
     }
-    let found = size_of_part(alloc, state, part)?;
+    let found = size_of_part(alloc, state, parts, part)?;
     Ok(has_size(found, version))
 }
 
@@ -108,16 +132,14 @@ fn is_as_said(
     alloc: Global,
     state: &State,
     parts: &Parts,
-    index: &TextMap<usize>,
     version: &Version,
 ) -> Result<bool, AllocError>
     requires closed { IsClosed state.now }
     requires parts { ArePartsOf state.now parts.now }
-    requires index { IsByLeast parts.now (length parts.now.list) index.now }
     ensures { IfOk result (λ said. IsTrue said ↔ IsAsSaid version.now state.now) }
 {
-    match part_with(parts, index, version.names.as_slice()) {
-        Some(part) => is_like(alloc, state, part, version),
+    match part_with(parts, version.names.as_slice()) {
+        Some(part) => is_like(alloc, state, parts, part, version),
         None => Ok(false),
     }
 }
@@ -139,18 +161,16 @@ fn disagrees(
     alloc: Global,
     state: &State,
     parts: &Parts,
-    index: &TextMap<usize>,
     version: &Version,
 ) -> Result<bool, AllocError>
     requires closed { IsClosed state.now }
     requires parts { ArePartsOf state.now parts.now }
-    requires index { IsByLeast parts.now (length parts.now.list) index.now }
     ensures { IfOk result (λ other. IsTrue other ↔ Disagrees version.now state.now) }
 {
     if version.absent {
         return Ok(has_value(state, version.names.as_slice()));
     }
-    let said = is_as_said(alloc, state, parts, index, version)?;
+    let said = is_as_said(alloc, state, parts, version)?;
     Ok(!said)
 }
 
@@ -166,11 +186,10 @@ fn first_unlike(
     requires few { length graph.now.versions < 2 ^ 32 }
     ensures { IfOk result (λ found. MatchOption found (Never (IsUnlike graph.now state.now)) (IsFirst (IsUnlike graph.now state.now))) }
 {
-    let index = by_least(alloc, parts)?;
     let versions = graph.versions.as_slice();
     for i in 0..versions.len() {
         let version = &versions[i];
-        if version.replaced == 0 && disagrees(alloc, state, parts, &index, version)? {
+        if version.replaced == 0 && disagrees(alloc, state, parts, version)? {
             return Ok(Some(i as u32 + 1));
         }
     }

@@ -1,10 +1,8 @@
-use Rattle.py_heap.specs.declared.state.State.{State}
-use Rattle.linked_parts.specs.Parts.{ArePartsOf}
-use Rattle.history_graph.specs.Left.{ArePartHeads, AreWithin}
+use Rattle.history_graph.specs.Left.{news_of, ArePartHeads, AreWithin}
 use Rattle.history_graph.proofs.heads.part_heads.Given as goal
 
 abbrev pub invariant-loop-n : goal.invariant-loop-n
 invariant-loop-n l = record {
-  heads : (s t : State) → ArePartsOf s l.before → ArePartsOf t l.now → ArePartHeads l.before l.now l.marks l.n l.heads;
-  within : AreWithin l.now l.heads;
+  heads : ArePartHeads l.change.before (news_of l.change) l.marks l.n l.heads;
+  within : AreWithin (news_of l.change) l.heads;
 }

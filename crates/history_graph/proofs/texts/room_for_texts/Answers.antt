@@ -1,21 +1,20 @@
-use Rattle.std.proofs.Common.{List, subst, arith}
-use Rattle.std.specs.Prelude.{Contains}
-use Rattle.linked_parts.specs.declared.parts.Part.{Part}
-use Rattle.history_graph.specs.Texts.{HasTextIn, OneHas, AreAtMost}
-use Rattle.history_graph.proofs.Counted.{parts_live, most_texts}
+use Rattle.std.proofs.Common.{◌≡◌, ◌+◌, arith}
+use Rattle.std.proofs.lemmas.List.Sums.{sum_by-append}
+use Rattle.part_table.specs.declared.part.Part.{Part}
+use Rattle.part_table.specs.Tables.{room_in}
+use Rattle.history_graph.specs.Left.{parts_then}
+use Rattle.history_graph.proofs.Counted.{most_texts}
 use Rattle.history_graph.proofs.texts.room_for_texts.Goals as goal
-
-pub room_in_parts-objects-requires : goal.room_in_parts-objects-requires
-room_in_parts-objects-requires c = λ p k. parts_live c.args.state.now c.args.parts.now c.requires.parts c.requires.closed p (subst (λ (ps : List Part). Contains ps p) c.as_slice.ensures k)
 
 pub returns : goal.returns
 returns c = λ few code.
     let g = c.args.graph.now in
     let s = c.args.state.now in
-    let objects = c.room_in_parts-objects.result in
+    let change = c.args.change.now in
+    let both : room_in (parts_then change).list ≡ room_in change.news + room_in change.stay = sum_by-append (λ (p : Part). p.room) change.news change.stay in
+    let all = c.room.ensures.room in
+    let less = c.room.ensures.stay in
     let cells = c.len.ensures in
-    let a = c.saturating_add-codes.ensures in
-    let b = c.saturating_add.ensures in
-    let e = c.saturating_add-2.ensures in
-    most_texts s c.args.parts.now c.requires.parts g c.args.names.now c.requires.names objects c.saturating_add-2.result
-    (subst (λ (ps : List Part). AreAtMost (OneHas (HasTextIn s) ps) objects) c.as_slice.ensures (c.room_in_parts-objects.ensures (omega (arith, few, e)))) (omega (arith, few, cells, a, b, e)) code
+    let names = c.name_count.ensures in
+    let sum = c.saturating_add.ensures in
+    most_texts s (parts_then change).list c.requires g c.saturating_add.result (omega (arith, few, both, all, less, sum)) (omega (arith, few, both, all, less, cells, names, sum)) code

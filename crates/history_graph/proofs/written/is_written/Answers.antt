@@ -8,10 +8,11 @@ use Rattle.history_graph.proofs.Least.{sorted_by}
 use Rattle.history_graph.proofs.written.is_written.Goals as goal
 
 pub returns : goal.returns
-returns c = λ s are.
+returns c =
+    let before = c.args.change.now.before in
     let marks = c.args.marks.now in
     let p = c.args.part.now in
-    sorted_by c.args.parts.now marks p c.was_part.result
-    (subst (λ (ns : List (List ℕ)). IsTrue c.was_part.result ↔ WasPart c.args.parts.now ns) c.as_slice-3.ensures (c.was_part.ensures s are))
+    sorted_by before marks p c.had.result
+    (subst (λ (ns : List (List ℕ)). IsTrue c.had.result ↔ WasPart before ns) c.as_slice-3.ensures c.had.ensures)
     (subst (λ (ns : List (List ℕ)). ¬ HasOneOf marks.bound ns) c.as_slice.ensures (iff_false c.has_one_of.ensures c.if-has_one_of.false))
     (subst (λ (ns : List ℕ). ¬ ((at : ℕ) × Contains ns at × IsIn marks.changed at)) c.as_slice-2.ensures (iff_false c.has_changed.ensures c.if-has_changed.false))
