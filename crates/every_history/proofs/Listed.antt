@@ -14,7 +14,7 @@ use Rattle.py_laws.proofs.Reached.{has_number, reached_live}
 use Rattle.graph_model.specs.declared.graph.Version.{Version}
 use Rattle.graph_model.specs.declared.graph.Graph.{Graph}
 use Rattle.graph_model.specs.Faults.{TextBelow, Ascends, least_name}
-use Rattle.part_table.specs.declared.part.Part.{Part}
+use Rattle.linked_parts.specs.declared.part.Part.{Part}
 use Rattle.linked_parts.specs.PartList.{PartList}
 use Rattle.linked_parts.specs.Parts.{room_of, IsPart, IsPartOf, ArePartsOf}
 use Rattle.linked_parts.proofs.Lists.{none_in, first_in, cons_cases}

@@ -7,7 +7,7 @@ use Rattle.py_heap.specs.declared.heap.Object.TheVariants as object
 use Rattle.py_heap.specs.declared.state.State.{State}
 use Rattle.py_heap.specs.Objects.{is_handle}
 use Rattle.py_machine.specs.Marked.{Name}
-use Rattle.part_table.specs.declared.part.Part.{Part}
+use Rattle.linked_parts.specs.declared.part.Part.{Part}
 use Rattle.linked_parts.specs.Parts as linked
 use Rattle.run_graph.specs.Parts as run
 

@@ -19,9 +19,8 @@ use Rattle.py_laws.proofs.Members.{no_name}
 use Rattle.graph_model.specs.declared.graph.CellRecord.{CellRecord}
 use Rattle.graph_model.specs.declared.graph.Graph.{Graph}
 use Rattle.graph_model.specs.Faults.{TextBelow}
-use Rattle.part_table.specs.declared.part.Part.{Part}
-use Rattle.part_table.specs.Tables.{room_in}
-use Rattle.linked_parts.specs.Parts.{text_room, held_room, room_at, IsPartOf, ArePartsIn}
+use Rattle.linked_parts.specs.declared.part.Part.{Part}
+use Rattle.linked_parts.specs.Parts.{room_in, text_room, held_room, room_at, IsPartOf, ArePartsIn}
 use Rattle.linked_parts.proofs.Lists.{cons_cases, none_in, below_on, never_below_itself}
 use Rattle.linked_parts.proofs.Names.{reaches_value}
 use Rattle.run_graph.proofs.Only.{same_list}

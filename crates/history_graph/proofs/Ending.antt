@@ -14,7 +14,7 @@ use Rattle.graph_model.specs.declared.graph.CellRecord.{CellRecord}
 use Rattle.graph_model.specs.declared.graph.Version.{Version}
 use Rattle.graph_model.specs.declared.graph.Graph.{Graph}
 use Rattle.graph_model.specs.Faults.{TextBelow, least_name}
-use Rattle.part_table.specs.declared.part.Part.{Part}
+use Rattle.linked_parts.specs.declared.part.Part.{Part}
 use Rattle.linked_parts.specs.PartList.{PartList}
 use Rattle.linked_parts.specs.Parts.{HasValue, HasNone, IsPart, IsPartOf, ArePartsIn, ArePartsOf}
 use Rattle.linked_parts.proofs.Lists.{below_on, never_below_itself}

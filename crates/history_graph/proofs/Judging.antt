@@ -13,7 +13,7 @@ use Rattle.graph_model.specs.declared.plan.Tally.{Tally}
 use Rattle.graph_model.specs.declared.plan.Tally.TheVariants as tally
 use Rattle.graph_model.specs.declared.graph.Version.{Version}
 use Rattle.graph_model.specs.Faults.{TextBelow, least_name}
-use Rattle.part_table.specs.declared.part.Part.{Part}
+use Rattle.linked_parts.specs.declared.part.Part.{Part}
 use Rattle.linked_parts.specs.PartList.{PartList}
 use Rattle.linked_parts.specs.Parts.{IsPartOf, ArePartsIn}
 use Rattle.linked_parts.proofs.Lists.{below_on, never_below_itself, least_there}

@@ -13,7 +13,7 @@ use Rattle.py_machine.specs.Marked.{Name}
 use Rattle.py_laws.proofs.Partners.{none_in, first_in, later_in}
 use Rattle.graph_model.specs.declared.graph.Version.{Version}
 use Rattle.graph_model.specs.Faults.{TextBelow, Ascends, least_name}
-use Rattle.part_table.specs.declared.part.Part.{Part}
+use Rattle.linked_parts.specs.declared.part.Part.{Part}
 use Rattle.linked_parts.specs.PartList.{PartList}
 use Rattle.linked_parts.proofs.Lists.{cons_cases}
 use Rattle.history_graph.specs.declared.heads.Left.{Left}

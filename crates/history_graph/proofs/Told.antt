@@ -12,7 +12,7 @@ use Rattle.graph_model.specs.declared.graph.Version.{Version}
 use Rattle.graph_model.specs.declared.graph.Graph.{Graph}
 use Rattle.graph_model.specs.declared.plan.Tally.{Tally}
 use Rattle.graph_model.specs.declared.plan.Tally.TheVariants as tally
-use Rattle.part_table.specs.declared.part.Part.{Part}
+use Rattle.linked_parts.specs.declared.part.Part.{Part}
 use Rattle.linked_parts.specs.PartList.{PartList}
 use Rattle.linked_parts.specs.Parts.{ArePartsIn, ArePartsOf}
 use Rattle.part_bytes.specs.Texts.{part_text}

@@ -10,7 +10,7 @@ use Rattle.py_machine.specs.declared.marks.Marks.{Marks}
 use Rattle.py_machine.specs.Marked.{Name, IsIn}
 use Rattle.graph_model.specs.declared.graph.Version.{Version}
 use Rattle.graph_model.specs.Faults.{least_name}
-use Rattle.part_table.specs.declared.part.Part.{Part}
+use Rattle.linked_parts.specs.declared.part.Part.{Part}
 use Rattle.linked_parts.specs.PartList.{PartList}
 use Rattle.linked_parts.specs.Changing.{Changing}
 use Rattle.linked_parts.specs.Parts.{HasNone}

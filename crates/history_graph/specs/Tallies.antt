@@ -7,7 +7,7 @@ use Rattle.py_machine.specs.Marked.{Name}
 use Rattle.graph_model.specs.declared.plan.Tally.{Tally}
 use Rattle.graph_model.specs.declared.plan.Tally.TheVariants as tally
 use Rattle.graph_model.specs.Faults.{TextBelow, Ascends, least_name}
-use Rattle.part_table.specs.declared.part.Part.{Part}
+use Rattle.linked_parts.specs.declared.part.Part.{Part}
 use Rattle.linked_parts.specs.PartList.{PartList}
 use Rattle.linked_parts.specs.Parts.{IsPartOf}
 use Rattle.part_bytes.specs.Texts.{part_text}

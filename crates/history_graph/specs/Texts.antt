@@ -12,7 +12,7 @@ use Rattle.py_machine.specs.Marked.{Name}
 use Rattle.graph_model.specs.declared.graph.CellRecord.{CellRecord}
 use Rattle.graph_model.specs.declared.graph.Graph.{Graph}
 use Rattle.graph_model.specs.Faults.{TextBelow, Ascends}
-use Rattle.part_table.specs.declared.part.Part.{Part}
+use Rattle.linked_parts.specs.declared.part.Part.{Part}
 use Rattle.linked_parts.specs.Parts.{Reaches}
 use Rattle.history_graph.specs.Sets.{Names, Has}
 

@@ -4,7 +4,7 @@ ghost use Rattle.py_heap.specs.declared.state.State.{State};
 ghost use Rattle.py_heap.specs.References.{IsClosed};
 ghost use Rattle.graph_model.specs.declared.plan.Tally.{Tally};
 ghost use Rattle.graph_model.specs.Faults.{Ascends};
-ghost use Rattle.part_table.specs.declared.part.Part.{Part};
+ghost use Rattle.linked_parts.specs.declared.part.Part.{Part};
 ghost use Rattle.linked_parts.specs.Parts.{LeastBelow, ArePartsIn, ArePartsOf};
 ghost use Rattle.checkpoint_bytes.specs.Sessions.{TellsOf};
 ghost use Rattle.history_graph.specs.Written.{Keeps};

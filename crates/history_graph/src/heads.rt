@@ -1,6 +1,6 @@
 ghost use Rattle.std.specs.Prelude.{◌≡◌, length, Contains, IfOk, OnOk};
 ghost use Rattle.graph_model.specs.Faults.{Ascends};
-ghost use Rattle.part_table.specs.declared.part.Part.{Part};
+ghost use Rattle.linked_parts.specs.declared.part.Part.{Part};
 ghost use Rattle.linked_parts.specs.Parts.{LeastBelow, ArePartsIn};
 ghost use Rattle.history_graph.specs.Written.{Keeps};
 ghost use Rattle.history_graph.specs.Left.{news_of, parts_then, ArePartHeads, AddsGone, AreHeads, AreWithin};

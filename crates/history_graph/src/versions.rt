@@ -2,7 +2,7 @@ ghost use Rattle.std.specs.Prelude.{ℕ, ◌≡◌, ◌<◌, ◌≤◌, ◌^◌,
 ghost use Rattle.std.specs.FinMap as finite;
 ghost use Rattle.py_heap.specs.References.{IsClosed};
 ghost use Rattle.graph_model.specs.declared.plan.Tally.TheVariants as tally;
-ghost use Rattle.part_table.specs.declared.part.Part.{Part};
+ghost use Rattle.linked_parts.specs.declared.part.Part.{Part};
 ghost use Rattle.linked_parts.specs.Parts.{IsPartOf};
 ghost use Rattle.part_bytes.specs.Texts.{part_text};
 ghost use Rattle.history_graph.specs.declared.heads.Left.TheVariants as lefts;

@@ -15,9 +15,8 @@ use Rattle.py_machine.specs.declared.marks.Marks.{Marks}
 use Rattle.py_machine.specs.Marked.{Name, with_member, IsIn}
 use Rattle.py_machine.proofs.Sets.{names_antisymmetric}
 use Rattle.py_machine.proofs.Sets as sets
-use Rattle.part_table.specs.declared.part.Part.{Part}
-use Rattle.part_table.specs.Tables.{HasNameAt}
-use Rattle.linked_parts.specs.Parts.{HasValue, HasNone}
+use Rattle.linked_parts.specs.declared.part.Part.{Part}
+use Rattle.linked_parts.specs.Parts.{HasNameAt, HasValue, HasNone}
 use Rattle.linked_parts.specs.After.{IsMarked}
 use Rattle.linked_parts.specs.Marking.{Names, AddsValued, AddsPlaces, IsMarkedAt, IsNear}
 use Rattle.linked_parts.proofs.Lists.{none_in}

@@ -9,11 +9,10 @@ use Rattle.py_heap.specs.References.{IsClosed}
 use Rattle.py_machine.specs.declared.marks.Marks.{Marks}
 use Rattle.py_machine.specs.Marked.{Name}
 use Rattle.graph_model.specs.Faults.{TextBelow, Ascends, least_name}
-use Rattle.part_table.specs.declared.part.Part.{Part}
-use Rattle.part_table.specs.Tables.{HasNameAt}
-use Rattle.part_table.specs.Changes.{AreApart, IsOrderly, IsElsewhere, MayCome}
+use Rattle.linked_parts.specs.declared.part.Part.{Part}
+use Rattle.linked_parts.specs.Parts.{HasNameAt, HasValue, Linked, shared, IsPartOf, LeastBelow, ArePartsIn, ArePartsOf}
+use Rattle.linked_parts.specs.Changes.{AreApart, IsOrderly, IsElsewhere, MayCome}
 use Rattle.linked_parts.specs.PartList.{PartList}
-use Rattle.linked_parts.specs.Parts.{HasValue, Linked, shared, IsPartOf, LeastBelow, ArePartsIn, ArePartsOf}
 use Rattle.linked_parts.specs.After.{IsMarked, IsAfter}
 use Rattle.linked_parts.specs.Touched.{IsTouched, IsSpared}
 use Rattle.linked_parts.specs.Marking.{IsMarkedAt, IsNear}

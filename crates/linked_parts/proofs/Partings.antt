@@ -12,7 +12,7 @@ use Rattle.py_heap.specs.Reaching as reaching
 use Rattle.py_machine.specs.Marked.{Name}
 use Rattle.graph_model.specs.Faults.{TextBelow, Ascends, least_name}
 use Rattle.graph_model.proofs.Ascending.{ascends-push}
-use Rattle.part_table.specs.declared.part.Part.{Part}
+use Rattle.linked_parts.specs.declared.part.Part.{Part}
 use Rattle.linked_parts.specs.Parts.{Reaches, Linked, room_of, IsPart, IsPartOf, LeastBelow, ArePartsOf}
 use Rattle.linked_parts.specs.Labels.{name_at, IsOwner, IsLabelling, AreOwners, AreFound, AreUnder, AreOwnedUnder}
 use Rattle.linked_parts.proofs.Lists.{first_in, one_in, none_in, below_on, never_below_itself, least_in, least_there}

@@ -1,6 +1,6 @@
 -- A change of parts, as contracts see it.
 use Rattle.std.specs.Prelude.{List}
-use Rattle.part_table.specs.declared.part.Part.{Part}
+use Rattle.linked_parts.specs.declared.part.Part.{Part}
 use Rattle.linked_parts.specs.PartList.{PartList}
 
 -- the parts before, those of them that stay, and those that come

@@ -5,9 +5,8 @@ use Rattle.std.specs.Cmp.Lexicographic.{slice_cmp}
 use Rattle.py_heap.specs.declared.state.State.{State}
 use Rattle.py_machine.specs.declared.marks.Marks.{Marks}
 use Rattle.py_machine.specs.Marked.{Name, SetOf, IsIn}
-use Rattle.part_table.specs.declared.part.Part.{Part}
-use Rattle.part_table.specs.Tables.{HasNameAt}
-use Rattle.linked_parts.specs.Parts.{HasValue}
+use Rattle.linked_parts.specs.declared.part.Part.{Part}
+use Rattle.linked_parts.specs.Parts.{HasNameAt, HasValue}
 use Rattle.linked_parts.specs.After.{IsMarked}
 
 abbrev pub Names : Type 0

@@ -10,7 +10,7 @@ use Rattle.py_heap.specs.Objects.{IsHandleAt}
 use Rattle.py_heap.specs.Reaching.{Reach}
 use Rattle.py_machine.specs.Marked.{Name}
 use Rattle.graph_model.specs.Faults.{TextBelow, Ascends, least_name}
-use Rattle.part_table.specs.declared.part.Part.{Part}
+use Rattle.linked_parts.specs.declared.part.Part.{Part}
 use Rattle.linked_parts.specs.PartList.{PartList}
 
 -- the name has a value
@@ -84,6 +84,10 @@ pub record ArePartsIn (s : State) (parts : List Part) : Type 0 where
   pub parts : All (IsPartOf s) parts
   pub whole : (x : Name) → HasValue s x → (p : Part) × Contains parts p × Contains p.names x
 
--- the part with this number has the name
-abbrev pub HasNameAt : PartList → ℕ → Name → Type 0
-HasNameAt parts n x = (p : Part) × (slice_get parts.list n ≡ Some p) × Contains p.names x
+-- the part at this place has the name
+abbrev pub HasNameAt : List Part → ℕ → Name → Type 0
+HasNameAt parts n x = (p : Part) × (slice_get parts n ≡ Some p) × Contains p.names x
+
+-- the room of the parts together
+abbrev pub room_in : List Part → ℕ
+room_in parts = sum_by (λ (p : Part). p.room) parts

@@ -2,10 +2,9 @@ ghost use Rattle.std.specs.Prelude.{ℕ, ◌≡◌, ◌+◌, ◌-◌, ◌^◌, �
 ghost use Rattle.py_heap.specs.declared.state.State.{State};
 ghost use Rattle.py_heap.specs.References.{IsClosed};
 ghost use Rattle.graph_model.specs.Faults.{Ascends};
-ghost use Rattle.part_table.specs.declared.part.Part.{Part};
-ghost use Rattle.part_table.specs.Tables.{room_in};
-ghost use Rattle.part_table.specs.Changes.{IsElsewhere, MayCome};
-ghost use Rattle.linked_parts.specs.Parts.{LeastBelow, ArePartsIn, ArePartsOf};
+ghost use Rattle.linked_parts.specs.declared.part.Part.{Part};
+ghost use Rattle.linked_parts.specs.Parts.{room_in, LeastBelow, ArePartsIn, ArePartsOf};
+ghost use Rattle.linked_parts.specs.Changes.{IsElsewhere, MayCome};
 ghost use Rattle.linked_parts.specs.After.{IsAfter};
 ghost use Rattle.linked_parts.specs.Touched.{IsSpared};
 ghost use Rattle.linked_parts.specs.Marking.{IsMarkedAt};
@@ -14,7 +13,9 @@ ghost use Rattle.linked_parts.specs.Labels.{IsBlank};
 use crate::listing::{Found, parts_of_names};
 use crate::parts::Parts;
 use crate::touched::{Touched, touched_by};
-use part_table::{Part, PartTable};
+use crate::part::Part;
+use crate::table::PartTable;
+use crate::table_change::TableChange;
 use plain_data::{Items, Text};
 use py_heap::State;
 use py_machine::Marks;
@@ -26,7 +27,7 @@ use std::mem::replace;
 /// that stay, and those that come.
 #[derive(Drop)]
 pub struct Change {
-    change: part_table::Change,
+    change: TableChange,
     blank: Items<Option<u32>>,
 }
 

@@ -1,10 +1,10 @@
 ghost use Rattle.std.specs.Prelude.{ℕ, ◌≡◌, ◌≢◌, ◌<◌, ◌↔◌, [], length, slice_get, Contains, IfSome, Some, None};
 ghost use Rattle.std.specs.List.{AllPairs};
-ghost use Rattle.part_table.specs.declared.part.Part.{Part};
+ghost use Rattle.linked_parts.specs.declared.part.Part.{Part};
 ghost use Rattle.linked_parts.specs.Parts.{HasNameAt};
 
-use object_lists::Objects;
-use part_table::PartTable;
+use crate::objects::Objects;
+use crate::table::PartTable;
 use plain_data::{Items, Text};
 use std::alloc::Global;
 use std::marker::Model;
@@ -78,9 +78,9 @@ impl Parts {
     /// The number of the part that has this name, counted from 0. Looks the name up in a map, and then at as many parts as their
     /// number has binary digits.
     pub fn find(&self, name: &Text) -> Option<usize>
-        ensures found { IfSome result (λ n. HasNameAt self.now n name.now) }
-        ensures only { (m n : ℕ) → HasNameAt self.now m name.now → HasNameAt self.now n name.now → m ≡ n }
-        ensures none { (result ≡ None) ↔ ((n : ℕ) → ¬ HasNameAt self.now n name.now) }
+        ensures found { IfSome result (λ n. HasNameAt self.now.list n name.now) }
+        ensures only { (m n : ℕ) → HasNameAt self.now.list m name.now → HasNameAt self.now.list n name.now → m ≡ n }
+        ensures none { (result ≡ None) ↔ ((n : ℕ) → ¬ HasNameAt self.now.list n name.now) }
     {
         self.table.find(name)
     }

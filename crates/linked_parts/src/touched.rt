@@ -1,12 +1,11 @@
 ghost use Rattle.std.specs.Prelude.{ℕ, ◌<◌, ◌↔◌, ◌⊎◌, List, length, Contains, IfOk, OnOk};
 ghost use Rattle.std.specs.List.{AllPairs};
-ghost use Rattle.linked_parts.specs.Parts.{HasValue};
+ghost use Rattle.linked_parts.specs.Parts.{HasValue, HasNameAt};
 ghost use Rattle.py_machine.specs.Marked.{IsIn};
 ghost use Rattle.graph_model.specs.Faults.{TextBelow, Ascends};
-ghost use Rattle.part_table.specs.Tables.{HasNameAt};
 ghost use Rattle.linked_parts.specs.Marking.{AddsValued, AddsPlaces, IsMarkedAt, IsNear};
 
-use part_table::PartTable;
+use crate::table::PartTable;
 use plain_data::{Items, Text, TextMap};
 use py_heap::State;
 use py_machine::Marks;

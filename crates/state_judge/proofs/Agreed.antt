@@ -18,7 +18,7 @@ use Rattle.graph_model.specs.declared.graph.Graph.{Graph}
 use Rattle.graph_model.specs.Graphs.{VersionAt, IsActive}
 use Rattle.graph_model.specs.Faults.{TextBelow, Ascends}
 use Rattle.graph_model.proofs.Lookups.{same_version, version_within}
-use Rattle.part_table.specs.declared.part.Part.{Part}
+use Rattle.linked_parts.specs.declared.part.Part.{Part}
 use Rattle.linked_parts.specs.PartList.{PartList}
 use Rattle.linked_parts.specs.Parts.{HasValue, IsPart, IsPartOf, ArePartsOf}
 use Rattle.linked_parts.proofs.Lists.{below_on, never_below_itself, least_in}

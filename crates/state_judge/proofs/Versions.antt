@@ -15,7 +15,7 @@ use Rattle.graph_model.specs.declared.graph.Graph.{Graph}
 use Rattle.graph_model.specs.Graphs.{VersionAt, IsActive}
 use Rattle.graph_model.specs.Faults.{Never, IsGraph}
 use Rattle.graph_model.proofs.Lookups.{same_version, version_within}
-use Rattle.part_table.specs.declared.part.Part.{Part}
+use Rattle.linked_parts.specs.declared.part.Part.{Part}
 use Rattle.linked_parts.specs.PartList.{PartList}
 use Rattle.linked_parts.specs.Parts.{HasValue, HasNone, IsPartOf, ArePartsOf}
 use Rattle.linked_parts.proofs.Lists.{cons_cases}

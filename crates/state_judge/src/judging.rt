@@ -1,6 +1,6 @@
 ghost use Rattle.std.specs.Prelude.{ℕ, ◌≡◌, ◌≢◌, ◌↔◌, ◌<◌, ◌^◌, List, Contains, IsTrue, Some, length, slice_get, SomeIff, MatchOption, IfOk, IfErr, OnOk};
 ghost use Rattle.std.specs.List.{AllPairs};
-ghost use Rattle.part_table.specs.declared.part.Part.{Part};
+ghost use Rattle.linked_parts.specs.declared.part.Part.{Part};
 ghost use Rattle.flow_model.specs.First.{IsFirst};
 ghost use Rattle.py_heap.specs.declared.state.State.{State};
 ghost use Rattle.py_heap.specs.References.{IsClosed};

@@ -1,7 +1,7 @@
 use Rattle.std.proofs.Common.{◌≡◌, ◌+◌, ◌<◌, ◌≤◌, Bool, List, Some, length, sym, ap, ◌∙◌, subst, arith}
 use Rattle.std.specs.Prelude.{slice_get}
 use Rattle.graph_model.specs.Faults.{least_name}
-use Rattle.part_table.specs.declared.part.Part.{Part}
+use Rattle.linked_parts.specs.declared.part.Part.{Part}
 use Rattle.history_graph.specs.Written.{IsSorted}
 use Rattle.history_graph.specs.Left.{Heads, news_of, ArePartHeads, AreWithin}
 use Rattle.history_graph.proofs.Adding.{got_at}

@@ -1,7 +1,7 @@
 use Rattle.std.proofs.Common.{◌≡◌, ◌+◌, arith}
 use Rattle.std.proofs.lemmas.List.Sums.{sum_by-append}
-use Rattle.part_table.specs.declared.part.Part.{Part}
-use Rattle.part_table.specs.Tables.{room_in}
+use Rattle.linked_parts.specs.declared.part.Part.{Part}
+use Rattle.linked_parts.specs.Parts.{room_in}
 use Rattle.history_graph.specs.Left.{parts_then}
 use Rattle.history_graph.proofs.Counted.{most_texts}
 use Rattle.history_graph.proofs.texts.room_for_texts.Goals as goal

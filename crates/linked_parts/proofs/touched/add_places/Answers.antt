@@ -1,7 +1,7 @@
 use Rattle.std.proofs.Common.{◌≡◌, ℕ, ◌+◌, ◌<◌, List, [], length, get_or, take, sym, ◌∙◌, subst, arith}
 use Rattle.std.specs.Prelude.{IfSome}
 use Rattle.std.proofs.lemmas.List.{get_or_default}
-use Rattle.part_table.specs.Tables.{HasNameAt}
+use Rattle.linked_parts.specs.Parts.{HasNameAt}
 use Rattle.linked_parts.specs.Marking.{AddsPlaces}
 use Rattle.linked_parts.proofs.Adding.{places_more, places_skip, places_none, places_all}
 use Rattle.linked_parts.proofs.touched.add_places.Goals as goal

@@ -3,7 +3,7 @@ use Rattle.std.specs.Prelude.{Contains, ◌↔◌, ◌⊎◌}
 use Rattle.std.specs.FinMap as finite
 use Rattle.std.proofs.lemmas.Option.{slice_get_within}
 use Rattle.graph_model.specs.Faults.{TextBelow, Ascends}
-use Rattle.part_table.specs.Tables.{HasNameAt}
+use Rattle.linked_parts.specs.Parts.{HasNameAt}
 use Rattle.py_machine.specs.Marked.{IsIn}
 use Rattle.linked_parts.specs.Marking.{Names, AddsValued}
 use Rattle.linked_parts.proofs.Adding.{AddsParts, places_marked, names_near, no_member}

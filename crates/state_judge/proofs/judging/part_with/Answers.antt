@@ -2,7 +2,7 @@ use Rattle.std.proofs.Common.{◌≡◌, Some, sym, ap, ◌∙◌, arith}
 use Rattle.std.specs.Prelude.{slice_get}
 use Rattle.std.proofs.lemmas.Bool.{false≢true}
 use Rattle.std.proofs.lemmas.Option.{none-some, same_Some}
-use Rattle.part_table.specs.declared.part.Part.{Part}
+use Rattle.linked_parts.specs.declared.part.Part.{Part}
 use Rattle.run_graph.proofs.Growing.{in_of_get}
 use Rattle.history_graph.proofs.Adding.{headed_list}
 use Rattle.history_graph.proofs.Least.{was_none}

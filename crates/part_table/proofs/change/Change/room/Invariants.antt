@@ -1,7 +1,0 @@
-use Rattle.std.proofs.Common.{◌≡◌, ◌+◌, ◌-◌, ◌^◌, take}
-use Rattle.std.specs.Prelude.{min}
-use Rattle.part_table.specs.Tables.{room_in}
-use Rattle.part_table.proofs.change.Change.room.Given as goal
-
-abbrev pub invariant-loop-part : goal.invariant-loop-part
-invariant-loop-part l = l.room ≡ min (room_in l.self.before + room_in (take l.part-index l.part-items)) (2 ^ 128 - 1)
