@@ -11,11 +11,11 @@ ghost use Rattle.linked_parts.specs.Marking.{IsMarkedAt};
 ghost use Rattle.linked_parts.specs.Labels.{IsBlank};
 
 use crate::listing::{Found, parts_of_names};
-use crate::parts::Parts;
-use crate::touched::{Touched, touched_by};
 use crate::part::Part;
+use crate::parts::Parts;
 use crate::table::PartTable;
 use crate::table_change::TableChange;
+use crate::touched::{Touched, touched_by};
 use plain_data::{Items, Text};
 use py_heap::State;
 use py_machine::Marks;

@@ -5,10 +5,10 @@ ghost use Rattle.linked_parts.specs.Placed.{part_at};
 ghost use Rattle.linked_parts.specs.Tables.{no_head, IsWhole};
 ghost use Rattle.linked_parts.specs.Moves.{IsFilled, AreGiven, IsWithout, CanPutIn, IsWith};
 
+use crate::lists::ObjectLists;
 use crate::part::Part;
 use crate::places::place_of;
 use crate::table::{Head, Table};
-use crate::lists::ObjectLists;
 use plain_data::{Items, Text, TextMap};
 use std::alloc::Global;
 

@@ -5,9 +5,9 @@ ghost use Rattle.linked_parts.specs.declared.part.Part.{Part};
 ghost use Rattle.linked_parts.specs.Tables.{names_at, IsWhole};
 ghost use Rattle.linked_parts.specs.Parts.{HasNameAt, room_in};
 
-use crate::places::place_of;
 use crate::lists::ObjectLists;
 use crate::objects::Objects;
+use crate::places::place_of;
 use plain_data::{Items, Text, TextMap};
 use std::alloc::Global;
 use std::marker::Model;
