@@ -24,7 +24,7 @@ is_equal Greater e = absurd (false≢true e)
 
 -- ---- one name more
 
-put_same : (g : Numbers) (x : Name) (v : Option ℕ) → finite.get (finite.insert g x v) x ≡ Some v
+pub put_same : (g : Numbers) (x : Name) (v : Option ℕ) → finite.get (finite.insert g x v) x ≡ Some v
 put_same g x v = finite.get-insert nat_list_cmp_total g x v x ∙ ap (λ b. cond b (Some v) (finite.get g x)) ((eq_by_cmp_equiv nat_list_cmp_total).refl x)
 
 -- it has what it was given, or it is another name, which has what it had
