@@ -3,3 +3,4 @@ pub mod Characters
 pub mod Order
 pub mod CutLaws
 pub mod Near
+pub mod Beginnings

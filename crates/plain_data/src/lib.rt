@@ -11,6 +11,7 @@ mod boxed;
 mod cut;
 mod cut_laws;
 mod items;
+mod leads;
 mod shared;
 mod shared_text;
 mod stack;

@@ -4,6 +4,7 @@ ghost use Rattle.std.specs.Cmp.{partial_equiv_from_equiv};
 ghost use Rattle.std.specs.Cmp.Lexicographic.{pointwise, slice_cmp, nat_list_eq_equiv, nat_list_cmp_total, texts_po, texts_ties};
 ghost use Rattle.std.specs.Str.{chars, encode_utf8_all, IsAscii};
 
+use crate::leads::{count_leads, place_past};
 use crate::shared::Shared;
 use crate::text::Text;
 use std::alloc::{AllocError, Global};
@@ -14,11 +15,7 @@ use std::marker::Model;
 fn past_chars(text: &str, n: usize) -> &str
     ensures { result.now ≡ encode_utf8_all (drop n (chars text.now)) }
 {
-    let mut rest = text.chars();
-    for _ in 0..n {
-        rest.next();
-    }
-    rest.as_str()
+    &text[place_past(text.as_bytes(), n)..]
 }
 
 /// The characters of an ASCII text from one number up to another.
@@ -41,7 +38,7 @@ fn slice_by_walk(text: &str, from: usize, to: usize) -> &str
     &rest[..rest.len() - after.len()]
 }
 
-/// How many characters a text has. No walk if each is one byte.
+/// How many characters a text has: as many as its bytes if each is one byte.
 fn count_chars(text: &str, is_ascii: bool) -> usize
     requires { IsTrue is_ascii → IsAscii text.now }
     ensures { result ≡ length (chars text.now) }
@@ -49,7 +46,7 @@ fn count_chars(text: &str, is_ascii: bool) -> usize
     if is_ascii {
         return text.len();
     }
-    text.chars().count()
+    count_leads(text.as_bytes())
 }
 
 /// A text with the number of its characters, and whether each is one byte.

@@ -1,4 +1,4 @@
-ghost use Rattle.std.specs.Prelude.{◌≡◌, refl, ◌++◌, IfOk, OnOk, OnErr, Some, nat_eq, string_bytes, length};
+ghost use Rattle.std.specs.Prelude.{◌≡◌, refl, [], ◌++◌, IfOk, OnOk, OnErr, Some, nat_eq, string_bytes, length};
 ghost use Rattle.std.specs.Ordering.{nat_cmp};
 ghost use Rattle.std.specs.Cmp.{partial_equiv_from_equiv};
 ghost use Rattle.std.specs.Cmp.Lexicographic.{pointwise, slice_cmp, nat_list_eq_equiv, nat_list_cmp_total, texts_po, texts_ties};
@@ -31,6 +31,15 @@ impl Text {
     {
         Ok(Text {
             inner: String::from_str(alloc, text)?,
+        })
+    }
+
+    /// The empty text, with room for so many bytes.
+    pub fn with_room(alloc: Global, bytes: usize) -> Result<Text, AllocError>
+        ensures { IfOk result (λ t. t ≡ []) }
+    {
+        Ok(Text {
+            inner: String::with_capacity(alloc, bytes)?,
         })
     }
 

@@ -1,4 +1,5 @@
 pub mod Pairs
+pub mod Entries
 pub mod Numbers
 pub mod Searching
 pub mod Reached

@@ -25,10 +25,10 @@ removed (pair ∷ pairs) key = ap (λ (rest : Pairs). cond (same_key key pair.0)
 
 -- ---- no key comes twice
 
-equal_keys : IsEquivalence same_key
+pub equal_keys : IsEquivalence same_key
 equal_keys = search (comparing, rules)
 
-other_way : (a b : Key) → same_key a b ≡ same_key b a
+pub other_way : (a b : Key) → same_key a b ≡ same_key b a
 other_way a b = equal_keys.symm a b
 
 abbrev keys_of : Pairs → List Key

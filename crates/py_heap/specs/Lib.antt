@@ -1,4 +1,5 @@
 pub mod Dicts
+pub mod Entries
 pub mod Objects
 pub mod Sequences
 pub mod States

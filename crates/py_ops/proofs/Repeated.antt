@@ -1,5 +1,5 @@
 -- Lists that are repeated: how long they are, and what they weigh.
-use Rattle.std.proofs.Common.{◌≡◌, ◌≤◌, ◌<◌, ℕ, zero, suc, ◌+◌, ◌*◌, List, [], ◌∷◌, ◌++◌, length, refl, sym, ap, ◌∙◌, arith, append_assoc, append-nil, length-append}
+use Rattle.std.proofs.Common.{◌≡◌, ◌≤◌, ◌<◌, ℕ, zero, suc, ◌+◌, ◌*◌, ◌/◌, ◌%◌, List, [], ◌∷◌, ◌++◌, length, refl, sym, ap, ◌∙◌, arith, div-add-mod', append_assoc, append-nil, length-append}
 use Rattle.std.specs.Prelude.{sum_by}
 use Rattle.std.specs.List.{repeat}
 use Rattle.std.proofs.lemmas.List.Sums.{sum_by-append, sum_by-cons}
@@ -62,3 +62,30 @@ pub ruleset repetitions = (length-repeat)
 pub ruleset copied = (repeat_none, repeat_more, count_le)
 
 pub ruleset weighed = (sum_by-repeat, le_times)
+
+-- ---- copies in runs
+
+pub repeat-add : {A : Type 0} (m n : ℕ) (xs : List A) → repeat (m + n) xs ≡ repeat m xs ++ repeat n xs
+repeat-add zero n xs = ap (λ k. repeat k xs) (let e : zero + n ≡ n = omega arith in e)
+repeat-add (suc m) n xs =
+    let e : suc m + n ≡ suc (m + n) = omega arith in
+    ap (λ k. repeat k xs) e ∙ ap (λ ys. xs ++ ys) (repeat-add m n xs) ∙ sym (append_assoc xs (repeat m xs) (repeat n xs))
+
+pub repeat-repeat : {A : Type 0} (m n : ℕ) (xs : List A) → repeat m (repeat n xs) ≡ repeat (m * n) xs
+repeat-repeat zero n xs = ap (λ k. repeat k xs) (let e : 0 ≡ zero * n = omega arith in e)
+repeat-repeat (suc m) n xs =
+    let e : n + m * n ≡ suc m * n = sym (one_more m n) in
+    ap (λ ys. repeat n xs ++ ys) (repeat-repeat m n xs) ∙ sym (repeat-add n (m * n) xs) ∙ ap (λ k. repeat k xs) e
+
+runs : {A : Type 0} (count each : ℕ) (xs : List A) → repeat (count / each) (repeat each xs) ++ repeat (count % each) xs ≡ repeat count xs
+runs count each xs =
+    ap (λ ys. ys ++ repeat (count % each) xs) (repeat-repeat (count / each) each xs)
+    ∙ sym (repeat-add (count / each * each) (count % each) xs)
+    ∙ ap (λ k. repeat k xs) (div-add-mod' count each)
+
+pub in_runs : {A : Type 0} (all xs : List A) (count each : ℕ) → (all ++ repeat (count / each) (repeat each xs)) ++ repeat (count % each) xs ≡ all ++ repeat count xs
+in_runs all xs count each = append_assoc all (repeat (count / each) (repeat each xs)) (repeat (count % each) xs) ∙ ap (λ ys. all ++ ys) (runs count each xs)
+
+-- one more copy at the end
+pub one_copy_more : {A : Type 0} (all xs : List A) (n : ℕ) → (all ++ repeat n xs) ++ xs ≡ all ++ repeat (n + 1) xs
+one_copy_more all xs n = append_assoc all (repeat n xs) xs ∙ ap (λ ys. all ++ ys) (sym (repeat_more n xs))

@@ -1,6 +1,8 @@
 ghost use Rattle.std.specs.Prelude.{◌≡◌};
 ghost use Rattle.py_meaning.specs.Texts as spec;
 
+use memchr::memmem;
+
 /// Whether a text begins with another, `piece`. (Python reference: `str` methods.)
 pub fn begins(piece: &str, text: &str) -> bool
     ensures { result ≡ spec.begins piece.now text.now }
@@ -19,5 +21,5 @@ pub fn ends(piece: &str, text: &str) -> bool
 pub fn occurs(piece: &str, text: &str) -> bool
     ensures { result ≡ spec.occurs piece.now text.now }
 {
-    text.contains(piece)
+    memmem::find(text.as_bytes(), piece.as_bytes()).is_some()
 }

@@ -135,7 +135,8 @@ fn joined_text(
     ensures drawn { machine.new.drawn ≡ machine.old.drawn }
 {
     charge_both(alloc, machine, text.as_str(), more.as_str())?;
-    let mut whole = Text::new(alloc, text.as_str())?;
+    let mut whole = Text::with_room(alloc, text.len() + more.len())?;
+    whole.push_str(text.as_str())?;
     whole.push_str(more.as_str())?;
     Ok(Value::Text(SharedText::new(alloc, whole)?))
 }

@@ -61,16 +61,56 @@ fn charge_text(
     }
 }
 
-/// A text `count` times.
+/// The bytes of a run of copies that are put together at once.
+const RUN: usize = 4096;
+
+/// Puts a text at the end so many times.
+fn push_copies(all: &mut Text, count: usize, text: &str) -> Result<(), AllocError>
+    ensures { OnOk result (all.new ≡ all.old ++ repeat count text.now) }
+{
+    for turn in 0..count {
+        all.push_str(text)?;
+    }
+    Ok(())
+}
+
+/// Puts a text at the end so many times, of which `each` are put together first.
+#[tactic(auto, using(crate::proofs::Repeated::in_runs))]
+fn push_in_runs(
+    alloc: Global,
+    all: &mut Text,
+    count: usize,
+    each: usize,
+    text: &str,
+) -> Result<(), AllocError>
+    requires { 0 < each }
+    ensures { OnOk result (all.new ≡ all.old ++ repeat count text.now) }
+{
+    let mut run = Text::with_room(alloc, 2 * RUN)?;
+    push_copies(&mut run, each, text)?;
+    push_copies(all, count / each, run.as_str())?;
+    push_copies(all, count % each, text)
+}
+
+/// A text `count` times. A short one goes by runs of copies.
 #[tactic(auto, using(crate::proofs::Repeated::repeat_none, crate::proofs::Repeated::times_le))]
 fn copies_of_text(alloc: Global, count: u128, text: &SharedText) -> Result<Text, AllocError>
     requires { count * length text.now ≤ METER_LIMIT }
     ensures { IfOk result (λ all. all ≡ repeat count text.now) }
 {
-    if text.len() == 0 {
+    let bytes = text.len();
+    if bytes == 0 {
         return Text::new(alloc, "");
     }
-    Ok(Text::from_string(text.as_str().repeat(alloc, count as usize)?))
+    let count = count as usize;
+    let each = 1 + RUN / bytes;
+    let mut all = Text::with_room(alloc, count * bytes)?;
+    if each == 1 || count <= each {
+        push_copies(&mut all, count, text.as_str())?;
+    } else {
+        push_in_runs(alloc, &mut all, count, each, text.as_str())?;
+    }
+    Ok(all)
 }
 
 /// A text that is repeated. It is charged before it is made.

@@ -1,4 +1,4 @@
-ghost use Rattle.std.specs.Prelude.{◌≡◌, ◌<◌, ◌++◌, IfOk, OnOk, string_bytes, encode_utf8};
+ghost use Rattle.std.specs.Prelude.{◌≡◌, ℕ, ◌<◌, ◌≤◌, ◌++◌, true, false, length, slice_index, IfOk, OnOk, string_bytes};
 ghost use Rattle.std.specs.List.{flat_map, list_all};
 ghost use Rattle.std.specs.Char.{digit_char};
 ghost use Rattle.py_value.specs.Reprs as spec;
@@ -62,42 +62,81 @@ fn push_ascii(out: &mut String, quote: u8, byte: u8) -> Result<(), AllocError>
     }
 }
 
-/// Adds what a character shows as between quotes.
-#[tactic(auto, using(crate::proofs::Escapes::escaped_character))]
-fn push_escaped(out: &mut String, quote: u8, c: char) -> Result<(), AllocError>
-    requires { quote < 128 }
-    ensures { OnOk result (string_bytes out.new ≡ string_bytes out.old ++ flat_map (spec.escaped quote) (encode_utf8 c)) }
-{
-    if c.is_ascii() {
-        push_ascii(out, quote, c as u8)
-    } else {
-        out.push(c)
-    }
-}
-
 /// Whether a byte shows as itself between quotes.
+#[inline(always)]
 fn is_plain(quote: u8, byte: u8) -> bool
     ensures { result ≡ spec.is_plain quote byte }
 {
     byte >= b' ' && byte != 127 && byte != b'\\' && byte != quote
 }
 
-fn are_plain(quote: u8, bytes: &[u8]) -> bool
-    ensures { result ≡ list_all (spec.is_plain quote) bytes.now }
+/// How many bytes are looked at together.
+const RUN: usize = 64;
+
+/// Whether all bytes of a run show as themselves. No turn of the loop waits for another, so a machine takes many at once.
+#[inline(always)]
+fn run_is_plain(quote: u8, run: &[u8]) -> bool
+    ensures { result ≡ list_all (spec.is_plain quote) run.now }
 {
-    bytes.iter().all(|byte| is_plain(quote, *byte))
+    let mut plain = true;
+    for byte in run {
+        plain &= is_plain(quote, *byte);
+    }
+    plain
 }
 
-/// Adds what a text shows as between quotes. Most texts show as themselves, and are added whole.
+/// How many bytes at the front show as themselves, by runs.
+fn plain_runs(quote: u8, bytes: &[u8]) -> usize
+    ensures within { result ≤ length bytes.now }
+    ensures plain { (k : ℕ) → k < result → spec.is_plain quote (slice_index bytes.now k) ≡ true }
+{
+    let mut at = 0;
+    while RUN <= bytes.len() - at {
+        if !run_is_plain(quote, &bytes[at..at + RUN]) {
+            break;
+        }
+        at += RUN;
+    }
+    at
+}
+
+/// How many bytes at the front show as themselves.
+fn plain_len(quote: u8, bytes: &[u8]) -> usize
+    ensures within { result ≤ length bytes.now }
+    ensures plain { (k : ℕ) → k < result → spec.is_plain quote (slice_index bytes.now k) ≡ true }
+    ensures next { result < length bytes.now → spec.is_plain quote (slice_index bytes.now result) ≡ false }
+{
+    let mut at = plain_runs(quote, bytes);
+    while at < bytes.len() && is_plain(quote, bytes[at]) {
+        at += 1;
+    }
+    at
+}
+
+/// Adds what the front of a text shows as between quotes, up to the first byte that doesn't show as itself and with it, and
+/// gives what is after that.
+fn push_front<'a>(out: &mut String, quote: u8, text: &'a str) -> Result<&'a str, AllocError>
+    requires { quote < 128 }
+    ensures shown { IfOk result (λ rest. string_bytes out.new ++ flat_map (spec.escaped quote) rest.now ≡ string_bytes out.old ++ flat_map (spec.escaped quote) text.now) }
+    ensures shorter { IfOk result (λ rest. 0 < length text.now → length rest.now < length text.now) }
+{
+    let (front, back) = text.split_at(plain_len(quote, text.as_bytes()));
+    out.push_str(front)?;
+    if back.is_empty() {
+        return Ok("");
+    }
+    push_ascii(out, quote, back.as_bytes()[0])?;
+    Ok(&back[1..])
+}
+
+/// Adds what a text shows as between quotes. What shows as itself is added in runs.
 fn push_shown(out: &mut String, quote: u8, text: &str) -> Result<(), AllocError>
     requires { quote < 128 }
-    ensures { OnOk result (string_bytes out.new ≡ string_bytes out.old ++ flat_map (spec.escaped quote) text.now) }
+    ensures { OnOk result (string_bytes out.new ≡ string_bytes out.old ++ flat_map (spec.escaped quote) text.entry.now) }
 {
-    if are_plain(quote, text.as_bytes()) {
-        return out.push_str(text);
-    }
-    for c in text.chars() {
-        push_escaped(out, quote, c)?;
+    let mut rest = text;
+    while !rest.is_empty() {
+        rest = push_front(out, quote, rest)?;
     }
     Ok(())
 }
@@ -107,7 +146,7 @@ fn quoted(alloc: Global, text: &str) -> Result<String, AllocError>
     ensures { IfOk result (λ shown. string_bytes shown ≡ spec.quoted text.now) }
 {
     let quote = quote_of(text);
-    let mut out = String::new(alloc);
+    let mut out = String::with_capacity(alloc, text.len() + 2)?;
     out.push(quote as char)?;
     push_shown(&mut out, quote, text)?;
     out.push(quote as char)?;

@@ -1,11 +1,9 @@
-use Rattle.std.proofs.Common.{sym, ◌∙◌}
-use Rattle.std.proofs.lemmas.Str.{encodes-chars}
-use Rattle.std.specs.Str.{chars}
-use Rattle.plain_data.proofs.Characters.{past_one}
+use Rattle.std.proofs.Common.{◌∙◌}
+use Rattle.plain_data.proofs.Beginnings.{past_boundary, past_is}
 use Rattle.plain_data.proofs.shared_text.past_chars.Goals as goal
 
-pub loop-init : goal.loop-init
-loop-init c = c.chars-rest.ensures.rest ∙ sym (encodes-chars c.args.text.now c.utf8.text)
+pub range_from-requires : goal.range_from-requires
+range_from-requires c = λ _. past_boundary c.args.text.now c.utf8.text c.args.n c.place_past.result (rw c.as_bytes.ensures.value at c.place_past.ensures)
 
-pub loop-preserved : goal.loop-preserved
-loop-preserved c = past_one (chars c.args.text.now) c.loop.counter c.loop.rest c.next.new.self c.next.result c.loop.invariant c.next.ensures.steps.0
+pub returns : goal.returns
+returns c = c.range_from.ensures.value ∙ past_is c.args.text.now c.utf8.text c.args.n c.place_past.result (rw c.as_bytes.ensures.value at c.place_past.ensures)

@@ -1,6 +1,7 @@
-use Rattle.std.proofs.lemmas.Str.Pattern.{contains_text}
-use Rattle.py_ops.proofs.Substrings.{occurs_same}
+use Rattle.py_ops.proofs.Found.{found_occurs}
 use Rattle.py_ops.proofs.affixes.occurs.Goals as goal
 
 pub returns : goal.returns
-returns c = occurs_same c.args.piece.now c.args.text.now _ (contains_text _ c.args.piece.now c.args.text.now c.contains.ensures.cases)
+returns c =
+    let found = rw (c.as_bytes.ensures.value, c.as_bytes-2.ensures.value) at c.find.ensures in
+    rw c.is_some.ensures (found_occurs c.args.piece.now c.args.text.now c.find.result found)

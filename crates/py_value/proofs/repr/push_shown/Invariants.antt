@@ -1,8 +1,14 @@
-use Rattle.std.proofs.Common.{◌≡◌, ◌++◌, string_bytes}
+use Rattle.std.proofs.Common.{◌≡◌, ◌++◌, length, string_bytes}
+use Rattle.std.specs.Str.{IsUtf8}
 use Rattle.std.specs.List.{flat_map}
-use Rattle.std.specs.Str.{encode_utf8_all}
 use Rattle.py_value.specs.Reprs as spec
 use Rattle.py_value.proofs.repr.push_shown.Given as goal
 
-abbrev pub invariant-loop-c : goal.invariant-loop-c
-invariant-loop-c l = string_bytes l.out ≡ string_bytes l.fn.out ++ flat_map (spec.escaped l.quote) (encode_utf8_all l.yielded)
+abbrev pub invariant-loop-rest : goal.invariant-loop-rest
+invariant-loop-rest l = record {
+  shown : string_bytes l.out ++ flat_map (spec.escaped l.quote) l.rest ≡ string_bytes l.fn.out ++ flat_map (spec.escaped l.quote) l.fn.text;
+  utf8 : IsUtf8 l.rest;
+}
+
+abbrev pub decreases-loop-rest : goal.decreases-loop-rest
+decreases-loop-rest l = length l.rest

@@ -1,0 +1,3 @@
+pub mod Orders
+pub mod Sums
+pub mod Tables
