@@ -8,8 +8,8 @@ use Rattle.std.proofs.lemmas.Option.{slice_get-map, slice_get-get_or}
 use Rattle.std.proofs.lemmas.List.Elements.{All-head, All-tail, All-filter, filter_passes, filter-append}
 use Rattle.std.proofs.lemmas.Map.Keys.{apart_from_distinct, IsDistinct-from_apart}
 use Rattle.indexmap.specs.IndexMap.{insert_entry}
-use Rattle.entry_order.specs.Orders.{IsOrder, numbers_below, renamed, without}
-use Rattle.entry_order.proofs.Orders.{filter_whole, number_at, length-numbers_below}
+use Rattle.py_heap.specs.Orders.{IsOrder, numbers_below, renamed, without}
+use Rattle.py_heap.proofs.Orders.{filter_whole, number_at, length-numbers_below}
 use Rattle.py_value.specs.declared.key.Key.{Key}
 use Rattle.py_value.specs.declared.key.Key.TheVariants as key
 use Rattle.py_value.specs.declared.value.Value.{Value}

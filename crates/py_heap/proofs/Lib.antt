@@ -1,3 +1,10 @@
+pub mod Rooms
+pub mod Adding
+pub mod Ranges
+pub mod Descent
+pub mod Orders
+pub mod Held
+pub mod Keeping
 pub mod Pairs
 pub mod Entries
 pub mod Numbers

@@ -1,6 +1,6 @@
 -- The pairs of a dict as the entries of a table, in an order of their own if there is one.
 use Rattle.std.specs.Prelude.{◌≡◌, ℕ, List, length, map, Option, Some, None, IfSome, slice_index_or}
-use Rattle.entry_order.specs.Orders.{IsOrder}
+use Rattle.py_heap.specs.Orders.{IsOrder}
 use Rattle.py_value.specs.declared.key.Key.{Key}
 use Rattle.py_value.specs.declared.key.Key.TheVariants as key
 use Rattle.py_value.specs.declared.value.Value.{Value}

@@ -1,3 +1,6 @@
+pub mod Orders
+pub mod Sums
+pub mod Tables
 pub mod Dicts
 pub mod Entries
 pub mod Objects

@@ -1,10 +1,10 @@
 ghost use Rattle.std.specs.Prelude.{◌≡◌, ◌+◌, ◌<◌, ◌↔◌, ◌++◌, ◌∷◌, ◌&&◌, [], true, length, is_some, is_none, option_map, slice_get, Some, None, IsTrue, IfSome, MatchOption, OnOk, OnErr};
 ghost use Rattle.std.specs.Option.{option_copied};
-ghost use Rattle.entry_order.specs.Orders.{IsOrder, without};
+ghost use Rattle.py_heap.specs.Orders.{IsOrder, without};
 ghost use Rattle.py_heap.specs.Dicts.{value_under, with_pair, without_key, HasNoKeyTwice};
 ghost use Rattle.py_heap.specs.Entries.{entry_in, in_order, AreEntries};
 
-use entry_order::EntryOrder;
+use crate::order::EntryOrder;
 use indexmap::IndexMap;
 use py_value::{Key, Value};
 use std::alloc::{AllocError, Global};

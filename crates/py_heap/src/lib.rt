@@ -12,9 +12,12 @@ mod heap;
 mod laws;
 mod meter;
 mod objects;
+mod order;
 mod reach;
 mod search;
 mod state;
+mod sums;
+mod tables;
 
 pub use dict::Dict;
 pub use function::Function;

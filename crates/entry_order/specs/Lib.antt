@@ -1,3 +1,0 @@
-pub mod Orders
-pub mod Sums
-pub mod Tables
