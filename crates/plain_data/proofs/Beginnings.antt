@@ -34,9 +34,9 @@ leads_of_character c = elim (cases_lt c 128) [
 ]
   where
     by_size : (b d : Bool) → leads (cond b ((192 + c / 64) ∷ (128 + c % 64) ∷ []) (cond d ((224 + c / 4096) ∷ (128 + c / 64 % 64) ∷ (128 + c % 64) ∷ []) ((240 + c / 262144) ∷ (128 + c / 4096 % 64) ∷ (128 + c / 64 % 64) ∷ (128 + c % 64) ∷ []))) ≡ 1
-    by_size true d = one_more (192 + c / 64) _ (high_leads (192 + c / 64) (omega arith)) ∙ ap (λ n. 1 + n) (no_more c [])
-    by_size false true = one_more (224 + c / 4096) _ (high_leads (224 + c / 4096) (omega arith)) ∙ ap (λ n. 1 + n) (no_more (c / 64) _ ∙ no_more c [])
-    by_size false false = one_more (240 + c / 262144) _ (high_leads (240 + c / 262144) (omega arith)) ∙ ap (λ n. 1 + n) (no_more (c / 4096) _ ∙ no_more (c / 64) _ ∙ no_more c [])
+    by_size true d = one_more (192 + c / 64) ((128 + c % 64) ∷ []) (high_leads (192 + c / 64) (omega arith)) ∙ ap (λ n. 1 + n) (no_more c [])
+    by_size false true = one_more (224 + c / 4096) ((128 + c / 64 % 64) ∷ (128 + c % 64) ∷ []) (high_leads (224 + c / 4096) (omega arith)) ∙ ap (λ n. 1 + n) (no_more (c / 64) ((128 + c % 64) ∷ []) ∙ no_more c [])
+    by_size false false = one_more (240 + c / 262144) ((128 + c / 4096 % 64) ∷ (128 + c / 64 % 64) ∷ (128 + c % 64) ∷ []) (high_leads (240 + c / 262144) (omega arith)) ∙ ap (λ n. 1 + n) (no_more (c / 4096) ((128 + c / 64 % 64) ∷ (128 + c % 64) ∷ []) ∙ no_more (c / 64) ((128 + c % 64) ∷ []) ∙ no_more c [])
 
 leads_of_characters : (cs : List ℕ) → leads (encode_utf8_all cs) ≡ length cs
 leads_of_characters [] = refl
@@ -60,10 +60,10 @@ module _ (text : List ℕ) (u : IsUtf8 text) (count place : ℕ) (past : IsPast 
       begins : (byte : ℕ) → (nat_lt byte 128 || nat_le 192 byte) ≡ true → 128 ≤ byte → 192 ≤ byte
       begins byte t h = grind (arith, nat_tests)
 
-  front : List ℕ
+  abbrev front : List ℕ
   front = take place text
 
-  back : List ℕ
+  abbrev back : List ℕ
   back = drop place text
 
   front_text : IsUtf8 front
@@ -77,6 +77,7 @@ module _ (text : List ℕ) (u : IsUtf8 text) (count place : ℕ) (past : IsPast 
 
   -- and what is after it is the text after so many characters
   pub past_is : back ≡ encode_utf8_all (drop count (chars text))
+  unfolding chars
   past_is = sym (encodes-chars back back_text) ∙ ap encode_utf8_all (sym (elim past.next [
     | inl end ↦
         let none : back ≡ [] = drop_all place text (omega arith) in
