@@ -165,9 +165,13 @@ abbrev pub else_at : List Outer → Done → Last → Option State
 else_at os done (last.Branches b) = Some (h.AfterElse os done b)
 else_at os done _ = None
 
+-- no block is open
+abbrev pub is_outside : List Outer → Bool
+is_outside [] = true
+is_outside (o ∷ os) = false
+
 abbrev pub def_at : ℕ → List Outer → Done → Option State
-def_at at [] done = Some (h.AfterDef (begun_at [] done at))
-def_at at (o ∷ os) done = None
+def_at at os done = if is_outside os then Some (h.AfterDef (begun_at os done at)) else None
 
 abbrev pub is_nothing : Last → Bool
 is_nothing last.Nothing = true
@@ -178,8 +182,7 @@ dedent_at texts left [] done last = None
 dedent_at texts left (o ∷ os) done last = if is_nothing last then None else Some (closed texts left os o (settled done last))
 
 abbrev pub end_at : List Outer → Done → Option State
-end_at [] done = Some (h.End done)
-end_at (o ∷ os) done = None
+end_at os done = if is_outside os then Some (h.End done) else None
 
 abbrev pub own : ℕ → List Outer → Done → Simple
 own at os done = record { outers = os; spot = spot.Own done; from = at }

@@ -11,7 +11,7 @@ ghost use Rattle.py_blocks.specs.Blocks.{kept_statement, nothing, add, add_branc
 
 use crate::source::text_left;
 use crate::state::{Around, Branches, Done, Head, Last, Outer, Simple, Spot, State};
-use plain_data::{Items, Shared, Stack, Text};
+use plain_data::{Boxed, Items, Shared, Stack, Text};
 use py_frames::{Places, Stop};
 use py_token::Token;
 use py_tree::{Arm, Def, Expr, Stmt};
@@ -21,11 +21,11 @@ use std::mem::drop;
 /// How many depths a statement may have below its own.
 const MOST_DEPTHS: usize = 64;
 
-fn keep(under: &Places, tree: Stmt) -> Stmt
+fn keep(under: &Places, tree: Boxed<Stmt>) -> Stmt
     ensures { result ≡ kept_statement under.now tree }
 {
     if under.len() < MOST_DEPTHS {
-        tree
+        tree.into_inner()
     } else {
         drop(tree);
         Stmt::Pass
@@ -51,17 +51,46 @@ pub fn places(from: usize, under: Places) -> Result<Places, AllocError>
     Ok(all)
 }
 
+/// The places of what has ended and of one more.
+fn join(left: Places, from: usize, under: Places) -> Result<Places, AllocError>
+    ensures { IfOk result (λ all. all ≡ beside left (from ∷ under)) }
+{
+    Ok(left.beside(places(from, under)?))
+}
+
+/// With one more statement at the end, unless it is too deep.
+fn with_kept(
+    mut statements: Items<Stmt>,
+    under: &Places,
+    tree: Boxed<Stmt>,
+) -> Result<Items<Stmt>, AllocError>
+    ensures { IfOk result (λ all. all ≡ statements ++ kept_statement under.now tree ∷ []) }
+{
+    statements.push(keep(under, tree))?;
+    Ok(statements)
+}
+
 /// One more statement ends.
-pub fn add(done: Done, tree: Stmt, from: usize, under: Places) -> Result<Done, AllocError>
+pub fn add(done: Done, tree: Boxed<Stmt>, from: usize, under: Places) -> Result<Done, AllocError>
     ensures { IfOk result (λ all. all ≡ add done tree from under) }
 {
     let Done {
-        mut statements,
+        statements,
         under: left,
     } = done;
-    statements.push(keep(&under, tree))?;
-    let under = left.beside(places(from, under)?);
+    let statements = with_kept(statements, &under, tree)?;
+    let under = join(left, from, under)?;
     Ok(Done { statements, under })
+}
+
+/// After an `if` without `else`.
+fn add_branches(alloc: Global, done: Done, branches: Branches) -> Result<Done, AllocError>
+    ensures { IfOk result (λ all. all ≡ add_branches done branches) }
+{
+    let Branches { arms, from, under } = branches;
+    let other = Items::new(alloc);
+    let tree = Boxed::new(alloc, Stmt::If { arms, other })?;
+    add(done, tree, from, under)
 }
 
 /// With the last statement, after which no `elif` and no `else` comes.
@@ -69,27 +98,35 @@ pub fn settle(alloc: Global, done: Done, last: Last) -> Result<Done, AllocError>
     ensures { IfOk result (λ all. all ≡ settled done last) }
 {
     match last {
-        Last::Branches(Branches { arms, from, under }) => {
-            let tree = Stmt::If {
-                arms,
-                other: Items::new(alloc),
-            };
-            add(done, tree, from, under)
-        }
+        Last::Branches(branches) => add_branches(alloc, done, branches),
         Last::Nothing | Last::Other => Ok(done),
     }
 }
 
-/// One more branch.
-fn grow(branches: Branches, arm: Arm, inner: Places) -> Result<Branches, AllocError>
-    ensures { IfOk result (λ all. all ≡ grown branches arm inner) }
+/// With one more test and its block.
+fn with_arm(
+    mut arms: Items<Arm>,
+    test: Boxed<Expr>,
+    body: Items<Stmt>,
+) -> Result<Items<Arm>, AllocError>
+    ensures { IfOk result (λ all. all ≡ arms ++ record { test = test; body = body } ∷ []) }
 {
-    let Branches {
-        mut arms,
-        from,
-        under,
-    } = branches;
-    arms.push(arm)?;
+    let test = test.into_inner();
+    arms.push(Arm { test, body })?;
+    Ok(arms)
+}
+
+/// One more branch.
+fn grow(
+    branches: Branches,
+    test: Boxed<Expr>,
+    body: Items<Stmt>,
+    inner: Places,
+) -> Result<Branches, AllocError>
+    ensures { IfOk result (λ all. all ≡ grown branches (record { test = test; body = body }) inner) }
+{
+    let Branches { arms, from, under } = branches;
+    let arms = with_arm(arms, test, body)?;
     let under = under.beside(inner);
     Ok(Branches { arms, from, under })
 }
@@ -99,12 +136,13 @@ fn close_branch(
     outers: Stack<Outer>,
     before: Done,
     branches: Branches,
-    arm: Arm,
+    test: Boxed<Expr>,
+    body: Items<Stmt>,
     inner: Places,
 ) -> Result<State, AllocError>
-    ensures { IfOk result (λ state. state ≡ machine.branch_closed outers before branches arm inner) }
+    ensures { IfOk result (λ state. state ≡ machine.branch_closed outers before branches (record { test = test; body = body }) inner) }
 {
-    let branches = grow(branches, arm, inner)?;
+    let branches = grow(branches, test, body, inner)?;
     Ok(State::Line(outers, before, Last::Branches(branches)))
 }
 
@@ -112,7 +150,7 @@ fn close_branch(
 fn close_with(
     outers: Stack<Outer>,
     before: Done,
-    tree: Stmt,
+    tree: Boxed<Stmt>,
     from: usize,
     under: Places,
 ) -> Result<State, AllocError>
@@ -132,7 +170,7 @@ fn define(
     name: Text,
     params: Items<Text>,
     body: Items<Stmt>,
-) -> Result<Stmt, AllocError>
+) -> Result<Boxed<Stmt>, AllocError>
     ensures { IfOk result (λ tree. tree ≡ machine.statement_of (left_of code.now tokens.now) from left (head.Function name params) body) }
 {
     let source = text_left(alloc, code, tokens, from, left)?;
@@ -142,21 +180,59 @@ fn define(
         body,
         source,
     };
-    Ok(Stmt::Function(Shared::new(alloc, def)?))
+    let def = Shared::new(alloc, def)?;
+    Boxed::new(alloc, Stmt::Function(def))
 }
 
 /// An `if` of these branches and one more, with nothing else.
 fn branch(
     alloc: Global,
-    mut arms: Items<Arm>,
-    test: Expr,
+    arms: Items<Arm>,
+    test: Boxed<Expr>,
     body: Items<Stmt>,
-) -> Result<Stmt, AllocError>
+) -> Result<Boxed<Stmt>, AllocError>
     ensures { IfOk result (λ tree. tree ≡ s.If (arms ++ record { test = test; body = body } ∷ []) []) }
 {
-    arms.push(Arm { test, body })?;
+    let arms = with_arm(arms, test, body)?;
     let other = Items::new(alloc);
-    Ok(Stmt::If { arms, other })
+    Boxed::new(alloc, Stmt::If { arms, other })
+}
+
+/// An `if` with its `else`.
+fn otherwise(alloc: Global, arms: Items<Arm>, other: Items<Stmt>) -> Result<Boxed<Stmt>, AllocError>
+    ensures { IfOk result (λ tree. tree ≡ s.If arms other) }
+{
+    Boxed::new(alloc, Stmt::If { arms, other })
+}
+
+/// A `while`.
+fn repeat(alloc: Global, test: Boxed<Expr>, body: Items<Stmt>) -> Result<Boxed<Stmt>, AllocError>
+    ensures { IfOk result (λ tree. tree ≡ s.While test body) }
+{
+    let test = test.into_inner();
+    Boxed::new(alloc, Stmt::While { test, body })
+}
+
+/// A `for`.
+fn go_over(
+    alloc: Global,
+    names: Items<Text>,
+    comma: bool,
+    iterable: Boxed<Expr>,
+    body: Items<Stmt>,
+) -> Result<Boxed<Stmt>, AllocError>
+    ensures { IfOk result (λ tree. tree ≡ s.For names comma iterable body) }
+{
+    let iterable = iterable.into_inner();
+    Boxed::new(
+        alloc,
+        Stmt::For {
+            names,
+            comma,
+            iterable,
+            body,
+        },
+    )
 }
 
 /// What a head and its block make.
@@ -168,27 +244,41 @@ fn statement(
     left: usize,
     head: Head,
     body: Items<Stmt>,
-) -> Result<Stmt, AllocError>
+) -> Result<Boxed<Stmt>, AllocError>
     ensures { IfOk result (λ tree. tree ≡ machine.statement_of (left_of code.now tokens.now) from left head body) }
 {
     match head {
         Head::Branch { arms, test } => branch(alloc, arms, test, body),
-        Head::Else(arms) => Ok(Stmt::If { arms, other: body }),
-        Head::While(test) => Ok(Stmt::While { test, body }),
+        Head::Else(arms) => otherwise(alloc, arms, body),
+        Head::While(test) => repeat(alloc, test, body),
         Head::For {
             names,
             comma,
             iterable,
-        } => Ok(Stmt::For {
-            names,
-            comma,
-            iterable,
-            body,
-        }),
+        } => go_over(alloc, names, comma, iterable, body),
         Head::Function { name, params } => define(
             alloc, code, tokens, from, left, name, params, body,
         ),
     }
+}
+
+/// A statement with its block ends.
+fn close_statement(
+    alloc: Global,
+    code: &str,
+    tokens: &[Token],
+    left: usize,
+    outers: Stack<Outer>,
+    before: Done,
+    from: usize,
+    under: Places,
+    head: Head,
+    body: Items<Stmt>,
+) -> Result<State, AllocError>
+    ensures { IfOk result (λ state. state ≡ machine.line_after outers before (machine.statement_of (left_of code.now tokens.now) from left head body) from under) }
+{
+    let tree = statement(alloc, code, tokens, from, left, head, body)?;
+    close_with(outers, before, tree, from, under)
 }
 
 /// A block ends, and with it its statement, or its branch.
@@ -217,15 +307,13 @@ pub fn close(
     match head {
         Head::Branch { arms, test } => {
             let branches = Branches { arms, from, under };
-            let arm = Arm {
-                test,
-                body: statements,
-            };
-            close_branch(outers, before, branches, arm, inner)
+            close_branch(outers, before, branches, test, statements, inner)
         }
         other => {
-            let tree = statement(alloc, code, tokens, from, left, other, statements)?;
-            close_with(outers, before, tree, from, under.beside(inner))
+            let under = under.beside(inner);
+            close_statement(
+                alloc, code, tokens, left, outers, before, from, under, other, statements,
+            )
         }
     }
 }
@@ -238,7 +326,7 @@ fn end_behind(
     left: usize,
     outers: Stack<Outer>,
     outer: Outer,
-    tree: Stmt,
+    tree: Boxed<Stmt>,
     from: usize,
     under: Places,
 ) -> Result<State, AllocError>
@@ -255,7 +343,7 @@ pub fn end_simple(
     tokens: &[Token],
     left: usize,
     simple: Simple,
-    tree: Stmt,
+    tree: Boxed<Stmt>,
     under: Places,
 ) -> Result<State, AllocError>
     ensures { IfOk result (λ state. state ≡ ended (left_of code.now tokens.now) left simple.outers simple.spot simple.from tree under) }

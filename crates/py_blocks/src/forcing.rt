@@ -1,6 +1,7 @@
 //! What is forced of the tokens that have been read: the places of their parts, whatever comes.
-ghost use Rattle.std.specs.Prelude.{◌≡◌, [], ◌∷◌, IfOk};
+ghost use Rattle.std.specs.Prelude.{◌≡◌, [], ◌∷◌, false, IfOk};
 ghost use Rattle.py_frames.specs.Values.{beside};
+ghost use Rattle.py_frames.specs.Forced as expression;
 ghost use Rattle.py_blocks.specs.declared.state.State.TheVariants as h;
 ghost use Rattle.py_blocks.specs.Blocks.{settled};
 ghost use Rattle.py_blocks.specs.Forced as machine;
@@ -96,6 +97,14 @@ fn in_simple(simple: Simple, inner: Places) -> Result<Places, AllocError>
     }
 }
 
+/// The value after targets.
+fn after_targets(alloc: Global, under: Places, reading: Reading) -> Result<Places, AllocError>
+    ensures { IfOk result (λ all. all ≡ beside under (expression.forced false reading)) }
+{
+    let inner = forced_of(alloc, false, reading)?;
+    Ok(under.beside(inner))
+}
+
 /// The expression of a simple statement, which may still turn out to be targets, and targets before it.
 fn in_purpose(alloc: Global, purpose: Purpose, reading: Reading) -> Result<Places, AllocError>
     ensures { IfOk result (λ all. all ≡ in_purpose purpose reading) }
@@ -107,11 +116,11 @@ fn in_purpose(alloc: Global, purpose: Purpose, reading: Reading) -> Result<Place
         Purpose::Assigning(sight) => {
             let Sight { targets, under, .. } = sight;
             drop(targets);
-            Ok(under.beside(forced_of(alloc, false, reading)?))
+            after_targets(alloc, under, reading)
         }
         Purpose::Augmenting { target, under, .. } => {
             drop(target);
-            Ok(under.beside(forced_of(alloc, false, reading)?))
+            after_targets(alloc, under, reading)
         }
     }
 }

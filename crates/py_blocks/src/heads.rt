@@ -1,15 +1,22 @@
 //! The head of a compound statement with an expression, and where its block begins.
-ghost use Rattle.std.specs.Prelude.{◌≡◌, [], Some, None};
+ghost use Rattle.std.specs.Prelude.{◌≡◌, [], ◌∷◌, ◌++◌, Some};
+ghost use Rattle.py_token.specs.declared.kinds.Kind.TheVariants as t;
+ghost use Rattle.py_token.specs.declared.kinds.Keyword.TheVariants as k;
+ghost use Rattle.py_frames.specs.declared.stop.Stop.TheVariants.{Refused};
 ghost use Rattle.py_frames.specs.Gives.{Gives};
 ghost use Rattle.py_frames.specs.Steps as expression;
 ghost use Rattle.py_frames.specs.Ends as endings;
 ghost use Rattle.py_frames.specs.declared.endings.Colon.TheVariants.{Ends};
+ghost use Rattle.py_blocks.specs.declared.state.State.TheVariants as h;
+ghost use Rattle.py_blocks.specs.declared.state.Head.TheVariants as head;
+ghost use Rattle.py_blocks.specs.declared.state.Last.TheVariants as last;
+ghost use Rattle.py_blocks.specs.Blocks as machine;
 ghost use Rattle.py_blocks.specs.Steps.{opens, headed, fits, test_goes_on, colon_behind, on_test, variables_end, on_variables, on_variable, on_else, on_newline};
 
 use crate::blocks::{around_of, block_around, nothing, places};
 use crate::simple::named;
 use crate::state::{Begun, Branches, Done, Head, Last, Lead, Outer, State, Test};
-use plain_data::{Items, Stack, Text};
+use plain_data::{Boxed, Items, Stack, Text};
 use py_frames::{
     Colon, Places, State as Reading, Stop, Value, begun, colon_or_end, is_undivided, step,
 };
@@ -38,7 +45,7 @@ pub fn open(begun: Begun, under: Places, head: Head) -> State
     State::AfterColon(outers, outer)
 }
 
-fn headed(lead: Lead, test: Expr) -> Head
+fn headed(lead: Lead, test: Boxed<Expr>) -> Head
     ensures { result ≡ headed lead test }
 {
     match lead {
@@ -154,6 +161,39 @@ fn end_names(alloc: Global, begun_for: Begun, names: Items<Text>, comma: bool) -
     State::InTest(test, begun(alloc))
 }
 
+/// One more name of a `for`.
+fn another_name(
+    alloc: Global,
+    begun_for: Begun,
+    names: Items<Text>,
+    name: &Text,
+) -> Result<State, Stop>
+    ensures { Gives result (Some (h.HasVariables begun_for (names ++ name.now ∷ []))) }
+{
+    let names = named(alloc, names, name)?;
+    Ok(State::HasVariables(begun_for, names))
+}
+
+/// A `for` is let go, since it doesn't go on so.
+fn refuse_names(begun_for: Begun, names: Items<Text>) -> Stop
+    ensures { result ≡ Refused }
+{
+    drop(begun_for);
+    drop(names);
+    Stop::Refused
+}
+
+/// `in` after a comma, or after no name.
+fn end_list(alloc: Global, begun_for: Begun, names: Items<Text>) -> Result<State, Stop>
+    ensures { Gives result (on_variables begun_for names (t.Keyword k.In)) }
+{
+    if names.is_empty() {
+        Err(refuse_names(begun_for, names))
+    } else {
+        Ok(end_names(alloc, begun_for, names, true))
+    }
+}
+
 /// When a name of a `for` is to come, or its `in`.
 pub fn on_variables(
     alloc: Global,
@@ -164,18 +204,9 @@ pub fn on_variables(
     ensures { Gives result (on_variables begun_for names token.now) }
 {
     match token {
-        Kind::Name(name) => {
-            let names = named(alloc, names, name)?;
-            Ok(State::HasVariables(begun_for, names))
-        }
-        Kind::Keyword(Keyword::In) => {
-            if names.is_empty() {
-                Err(Stop::Refused)
-            } else {
-                Ok(end_names(alloc, begun_for, names, true))
-            }
-        }
-        _ => Err(Stop::Refused),
+        Kind::Name(name) => another_name(alloc, begun_for, names, name),
+        Kind::Keyword(Keyword::In) => end_list(alloc, begun_for, names),
+        _ => Err(refuse_names(begun_for, names)),
     }
 }
 
@@ -194,8 +225,21 @@ pub fn on_variable(
             let comma = 1 < names.len();
             Ok(end_names(alloc, begun_for, names, comma))
         }
-        _ => Err(Stop::Refused),
+        _ => Err(refuse_names(begun_for, names)),
     }
+}
+
+/// The `:` after `else`.
+fn open_else(outers: Stack<Outer>, before: Done, branches: Branches) -> State
+    ensures { result ≡ opens (record { outers = outers; before = before; from = branches.from }) branches.under (head.Else branches.arms) }
+{
+    let Branches { arms, from, under } = branches;
+    let begun_if = Begun {
+        outers,
+        before,
+        from,
+    };
+    open(begun_if, under, Head::Else(arms))
 }
 
 /// After `else`.
@@ -208,33 +252,39 @@ pub fn on_else(
     ensures { Gives result (on_else outers before branches token.now) }
 {
     match token {
-        Kind::Symbol(Symbol::Colon) => {
-            let Branches { arms, from, under } = branches;
-            let begun_if = Begun {
-                outers,
-                before,
-                from,
-            };
-            Ok(open(begun_if, under, Head::Else(arms)))
+        Kind::Symbol(Symbol::Colon) => Ok(open_else(outers, before, branches)),
+        _ => {
+            drop(branches);
+            drop(before);
+            drop(outers);
+            Err(Stop::Refused)
         }
-        _ => Err(Stop::Refused),
     }
+}
+
+/// A block begins on a line of its own.
+fn begin_block(alloc: Global, mut outers: Stack<Outer>, outer: Outer) -> Result<State, Stop>
+    ensures { Gives result (Some (h.Line (outer ∷ outers) machine.nothing last.Nothing)) }
+{
+    outers.push(outer)?;
+    Ok(State::Line(outers, nothing(alloc), Last::Nothing))
 }
 
 /// After the line of a head: its block begins.
 pub fn on_newline(
     alloc: Global,
-    mut outers: Stack<Outer>,
+    outers: Stack<Outer>,
     outer: Outer,
     token: &Kind,
 ) -> Result<State, Stop>
     ensures { Gives result (on_newline outers outer token.now) }
 {
     match token {
-        Kind::Indent => {
-            outers.push(outer)?;
-            Ok(State::Line(outers, nothing(alloc), Last::Nothing))
+        Kind::Indent => begin_block(alloc, outers, outer),
+        _ => {
+            drop(outer);
+            drop(outers);
+            Err(Stop::Refused)
         }
-        _ => Err(Stop::Refused),
     }
 }

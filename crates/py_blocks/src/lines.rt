@@ -1,11 +1,12 @@
 //! The first token of a line, and after a `:`.
-ghost use Rattle.std.specs.Prelude.{◌≡◌, Some};
+ghost use Rattle.std.specs.Prelude.{◌≡◌, ◌∷◌, Some};
+ghost use Rattle.py_frames.specs.declared.stop.Stop.TheVariants.{Refused};
 ghost use Rattle.py_frames.specs.Gives.{Gives};
 ghost use Rattle.py_blocks.specs.Source.{left_of};
 ghost use Rattle.py_frames.specs.Steps as expression;
 ghost use Rattle.py_blocks.specs.declared.state.Purpose.TheVariants.{Showing};
 ghost use Rattle.py_blocks.specs.Blocks.{settled, closed};
-ghost use Rattle.py_blocks.specs.Steps.{begun, own, goes_on, test_at, elif_at, else_at, def_at, dedent_at, end_at, begins_line, on_line_word, on_line, on_colon, is_nothing, is_def, is_end, may_come, on_any_line};
+ghost use Rattle.py_blocks.specs.Steps.{begun, own, goes_on, is_outside, test_at, elif_at, else_at, def_at, dedent_at, end_at, begins_line, on_line_word, on_line, on_colon, is_nothing, is_def, is_end, may_come, on_any_line};
 
 use crate::blocks::{close, settle};
 use crate::simple::{begin, begin_word, show};
@@ -14,6 +15,7 @@ use plain_data::{Items, Stack};
 use py_frames::{Places, Stop, begun};
 use py_token::{Keyword, Kind, Token};
 use std::alloc::Global;
+use std::mem::drop;
 
 fn is_nothing(last: &Last) -> bool
     ensures { result ≡ is_nothing last.now }
@@ -41,6 +43,37 @@ fn end_block(
     Ok(close(alloc, code, tokens, left, outers, outer, body)?)
 }
 
+/// The first token of a line is refused, and what is open let go.
+fn refuse(outers: Stack<Outer>, done: Done, last: Last) -> Stop
+    ensures { result ≡ Refused }
+{
+    drop(outers);
+    drop(done);
+    drop(last);
+    Stop::Refused
+}
+
+/// The innermost block ends, if there is a statement in it.
+fn dedent_in(
+    alloc: Global,
+    code: &str,
+    tokens: &[Token],
+    left: usize,
+    outers: Stack<Outer>,
+    outer: Outer,
+    done: Done,
+    last: Last,
+) -> Result<State, Stop>
+    ensures { Gives result (dedent_at (left_of code.now tokens.now) left (outer ∷ outers) done last) }
+{
+    if is_nothing(&last) {
+        drop(outer);
+        Err(refuse(outers, done, last))
+    } else {
+        end_block(alloc, code, tokens, left, outers, outer, done, last)
+    }
+}
+
 /// A block ends.
 fn dedent(
     alloc: Global,
@@ -53,13 +86,10 @@ fn dedent(
 ) -> Result<State, Stop>
     ensures { Gives result (dedent_at (left_of code.now tokens.now) left outers done last) }
 {
-    let Some(outer) = outers.pop() else {
-        return Err(Stop::Refused);
-    };
-    if is_nothing(&last) {
-        return Err(Stop::Refused);
+    match outers.pop() {
+        None => Err(refuse(outers, done, last)),
+        Some(outer) => dedent_in(alloc, code, tokens, left, outers, outer, done, last),
     }
-    end_block(alloc, code, tokens, left, outers, outer, done, last)
 }
 
 /// A head with an expression begins.
@@ -98,21 +128,38 @@ fn elif(alloc: Global, outers: Stack<Outer>, done: Done, last: Last) -> Result<S
             Lead::Branch(arms),
             under,
         )),
-        _ => Err(Stop::Refused),
+        other => Err(refuse(outers, done, other)),
     }
+}
+
+/// Whether no block is open.
+fn is_outside(outers: &Stack<Outer>) -> bool
+    ensures { result ≡ is_outside outers.now }
+{
+    outers.top().is_none()
+}
+
+/// What is open is let go, since no block may be.
+fn refuse_open(outers: Stack<Outer>, done: Done) -> Stop
+    ensures { result ≡ Refused }
+{
+    drop(outers);
+    drop(done);
+    Stop::Refused
 }
 
 /// `def`
 fn define(outers: Stack<Outer>, before: Done, from: usize) -> Result<State, Stop>
     ensures { Gives result (def_at from outers before) }
 {
-    match outers.top() {
-        None => Ok(State::AfterDef(Begun {
+    if is_outside(&outers) {
+        Ok(State::AfterDef(Begun {
             outers,
             before,
             from,
-        })),
-        Some(_) => Err(Stop::Refused),
+        }))
+    } else {
+        Err(refuse_open(outers, before))
     }
 }
 
@@ -122,7 +169,7 @@ fn otherwise(outers: Stack<Outer>, done: Done, last: Last) -> Result<State, Stop
 {
     match last {
         Last::Branches(branches) => Ok(State::AfterElse(outers, done, branches)),
-        _ => Err(Stop::Refused),
+        other => Err(refuse(outers, done, other)),
     }
 }
 
@@ -167,6 +214,21 @@ fn begin_line(
     }
 }
 
+/// A line of its own begins with a word, after what has been read.
+fn begin_after(
+    alloc: Global,
+    outers: Stack<Outer>,
+    done: Done,
+    last: Last,
+    word: Keyword,
+    at: usize,
+) -> Result<State, Stop>
+    ensures { Gives result (begins_line at outers (settled done last) word) }
+{
+    let before = settle(alloc, done, last)?;
+    begin_line(alloc, outers, before, word, at)
+}
+
 /// A line begins with a word.
 #[tactic(auto, unfolding(crate::specs::Steps::on_line_word))]
 fn on_line_word(
@@ -182,10 +244,7 @@ fn on_line_word(
     match word {
         Keyword::Elif => elif(alloc, outers, done, last),
         Keyword::Else => otherwise(outers, done, last),
-        _ => {
-            let before = settle(alloc, done, last)?;
-            begin_line(alloc, outers, before, word, at)
-        }
+        _ => begin_after(alloc, outers, done, last, word, at),
     }
 }
 
@@ -193,9 +252,11 @@ fn on_line_word(
 fn end(outers: Stack<Outer>, done: Done) -> Result<State, Stop>
     ensures { Gives result (end_at outers done) }
 {
-    match outers.top() {
-        None => Ok(State::End(done)),
-        Some(_) => Err(Stop::Refused),
+    if is_outside(&outers) {
+        drop(outers);
+        Ok(State::End(done))
+    } else {
+        Err(refuse_open(outers, done))
     }
 }
 
@@ -302,7 +363,7 @@ pub fn on_any_line(
     if may_come(alone, &outers, &last, token) {
         on_line(alloc, code, tokens, outers, done, last, token, place)
     } else {
-        Err(Stop::Refused)
+        Err(refuse(outers, done, last))
     }
 }
 

@@ -1,20 +1,22 @@
 //! Simple statements.
 ghost use Rattle.std.specs.Prelude.{◌≡◌, List, [], ◌++◌, ◌∷◌, Some, None, IfOk};
 ghost use Rattle.py_tree.specs.declared.statements.Stmt.TheVariants as tree;
+ghost use Rattle.py_frames.specs.declared.stop.Stop.TheVariants.{Refused};
 ghost use Rattle.py_frames.specs.Gives.{Gives};
 ghost use Rattle.py_frames.specs.Steps as expression;
 ghost use Rattle.py_frames.specs.Ends as endings;
 ghost use Rattle.py_frames.specs.Targets as targets;
 ghost use Rattle.py_blocks.specs.declared.state.Purpose.TheVariants.{Showing, Giving, Deleting};
+ghost use Rattle.py_blocks.specs.declared.state.State.TheVariants as h;
 ghost use Rattle.py_blocks.specs.Source.{left_of};
 ghost use Rattle.py_blocks.specs.Blocks.{ended};
 ghost use Rattle.py_blocks.specs.Steps as machine;
-ghost use Rattle.py_blocks.specs.Steps.{begun, placed, finished, if_allowed, goes_on, begins_word, begins, assignment, assigns, augments, signed, if_showing, sign_behind, on_simple, word_tree, on_word, on_global, on_global_name};
+ghost use Rattle.py_blocks.specs.Steps.{begun, is_new_in, placed, finished, if_allowed, goes_on, begins_word, begins, assignment, assigns, augments, signed, if_showing, sign_behind, on_simple, word_tree, on_word, on_global, on_global_name};
 
 use crate::blocks::{end_simple, places, spot_around};
 use crate::names::is_new;
 use crate::state::{Place, Purpose, Simple, State, Word};
-use plain_data::{Items, Text, TextMap};
+use plain_data::{Boxed, Items, Text, TextMap};
 use py_frames::{
     Places, Sight, State as Reading, Stop, Value, begun, end, is_begun, is_narrow, see, step,
 };
@@ -30,30 +32,72 @@ pub enum Sign {
     Augment(Op),
 }
 
-/// One target, with no comma.
-fn one_of(
-    divided: bool,
+/// A tree, and the places of what is in it.
+fn boxed(alloc: Global, tree: Stmt, under: Places) -> Result<(Boxed<Stmt>, Places), Stop>
+    ensures { Gives result (Some (tree, under)) }
+{
+    let tree = Boxed::new(alloc, tree)?;
+    Ok((tree, under))
+}
+
+/// A target, and the places of what is in it.
+fn boxed_target(
+    alloc: Global,
+    target: Target,
+    under: Places,
+) -> Result<(Boxed<Target>, Places), Stop>
+    ensures { Gives result (Some (target, under)) }
+{
+    let target = Boxed::new(alloc, target)?;
+    Ok((target, under))
+}
+
+/// Targets are let go, since they aren't one.
+fn refuse_targets(targets: Items<Target>, under: Places) -> Stop
+    ensures { result ≡ Refused }
+{
+    drop(targets);
+    drop(under);
+    Stop::Refused
+}
+
+/// The only one of these targets.
+fn only(
+    alloc: Global,
     mut targets: Items<Target>,
     under: Places,
-) -> Result<(Target, Places), Stop>
+) -> Result<(Boxed<Target>, Places), Stop>
+    ensures { Gives result (machine.one_of false targets under) }
+{
+    let Some(target) = targets.pop() else {
+        return Err(refuse_targets(targets, under));
+    };
+    if targets.is_empty() {
+        boxed_target(alloc, target, under)
+    } else {
+        drop(target);
+        Err(refuse_targets(targets, under))
+    }
+}
+
+/// One target, with no comma.
+fn one_of(
+    alloc: Global,
+    divided: bool,
+    targets: Items<Target>,
+    under: Places,
+) -> Result<(Boxed<Target>, Places), Stop>
     ensures { Gives result (machine.one_of divided targets under) }
 {
     if divided {
-        return Err(Stop::Refused);
-    }
-    let Some(target) = targets.pop() else {
-        return Err(Stop::Refused);
-    };
-    if targets.is_empty() {
-        Ok((target, under))
+        Err(refuse_targets(targets, under))
     } else {
-        drop(target);
-        Err(Stop::Refused)
+        only(alloc, targets, under)
     }
 }
 
 /// The one target that has been read, and the places of what is in it.
-fn place(alloc: Global, reading: Reading) -> Result<(Target, Places), Stop>
+fn place(alloc: Global, reading: Reading) -> Result<(Boxed<Target>, Places), Stop>
     ensures { Gives result (placed (targets.sight reading)) }
 {
     let Sight {
@@ -61,17 +105,13 @@ fn place(alloc: Global, reading: Reading) -> Result<(Target, Places), Stop>
         divided,
         under,
     } = see(alloc, reading)?;
-    one_of(divided, targets, under)
+    one_of(alloc, divided, targets, under)
 }
 
-/// A value is given back, or none.
-fn give(alloc: Global, reading: Reading) -> Result<(Stmt, Places), Stop>
-    ensures { Gives result (finished Giving reading) }
+/// A value is given back.
+fn give_value(alloc: Global, reading: Reading) -> Result<(Boxed<Stmt>, Places), Stop>
+    ensures { Gives result (machine.given (endings.ended reading)) }
 {
-    if is_begun(&reading) {
-        drop(reading);
-        return Ok((Stmt::Return(None), Places::none(alloc)));
-    }
     let Value {
         tree,
         from,
@@ -79,11 +119,23 @@ fn give(alloc: Global, reading: Reading) -> Result<(Stmt, Places), Stop>
         ..
     } = end(alloc, reading)?;
     let under = places(from, under)?;
-    Ok((Stmt::Return(Some(tree)), under))
+    boxed(alloc, Stmt::Return(Some(tree.into_inner())), under)
+}
+
+/// A value is given back, or none.
+fn give(alloc: Global, reading: Reading) -> Result<(Boxed<Stmt>, Places), Stop>
+    ensures { Gives result (finished Giving reading) }
+{
+    if is_begun(&reading) {
+        drop(reading);
+        boxed(alloc, Stmt::Return(None), Places::none(alloc))
+    } else {
+        give_value(alloc, reading)
+    }
 }
 
 /// A value is assigned.
-fn store(alloc: Global, sight: Sight, reading: Reading) -> Result<(Stmt, Places), Stop>
+fn store(alloc: Global, sight: Sight, reading: Reading) -> Result<(Boxed<Stmt>, Places), Stop>
     ensures { Gives result (machine.assigned sight (endings.ended reading)) }
 {
     let Sight {
@@ -92,67 +144,69 @@ fn store(alloc: Global, sight: Sight, reading: Reading) -> Result<(Stmt, Places)
         under: left,
     } = sight;
     let Value {
-        tree: value,
+        tree,
         from,
         under: below,
         ..
     } = end(alloc, reading)?;
     let inner = places(from, below)?;
-    let under = left.beside(inner);
     let tree = Stmt::Assign {
         targets,
         comma: divided,
-        value,
+        value: tree.into_inner(),
     };
-    Ok((tree, under))
+    boxed(alloc, tree, left.beside(inner))
 }
 
 /// A value is put into what is augmented.
 fn update(
     alloc: Global,
-    target: Target,
+    target: Boxed<Target>,
     op: Op,
     left: Places,
     reading: Reading,
-) -> Result<(Stmt, Places), Stop>
+) -> Result<(Boxed<Stmt>, Places), Stop>
     ensures { Gives result (machine.augmented target op left (endings.ended reading)) }
 {
     let Value {
-        tree: value,
+        tree,
         from,
         under: below,
         ..
     } = end(alloc, reading)?;
     let inner = places(from, below)?;
-    let under = left.beside(inner);
-    let tree = Stmt::Augment { target, op, value };
-    Ok((tree, under))
+    let tree = Stmt::Augment {
+        target: target.into_inner(),
+        op,
+        value: tree.into_inner(),
+    };
+    boxed(alloc, tree, left.beside(inner))
 }
 
 /// A value is shown.
-fn shown(alloc: Global, reading: Reading) -> Result<(Stmt, Places), Stop>
+fn shown(alloc: Global, reading: Reading) -> Result<(Boxed<Stmt>, Places), Stop>
     ensures { Gives result (finished Showing reading) }
 {
     let Value {
-        tree: value,
+        tree,
         from,
         under: below,
         ..
     } = end(alloc, reading)?;
     let under = places(from, below)?;
-    Ok((Stmt::Expression(value), under))
+    boxed(alloc, Stmt::Expression(tree.into_inner()), under)
 }
 
 /// What a target names is deleted.
-fn deleted(alloc: Global, reading: Reading) -> Result<(Stmt, Places), Stop>
+fn deleted(alloc: Global, reading: Reading) -> Result<(Boxed<Stmt>, Places), Stop>
     ensures { Gives result (finished Deleting reading) }
 {
     let (target, under) = place(alloc, reading)?;
-    Ok((Stmt::Delete(target), under))
+    boxed(alloc, Stmt::Delete(target.into_inner()), under)
 }
 
 /// The simple statement, if it may end.
-fn finish(alloc: Global, purpose: Purpose, reading: Reading) -> Result<(Stmt, Places), Stop>
+fn finish(alloc: Global, purpose: Purpose, reading: Reading) -> Result<(Boxed<Stmt>, Places), Stop>
     ensures { Gives result (finished purpose reading) }
 {
     match purpose {
@@ -206,6 +260,7 @@ pub fn allow(stands: bool, state: State) -> Result<State, Stop>
     if stands {
         Ok(state)
     } else {
+        drop(state);
         Err(Stop::Refused)
     }
 }
@@ -385,6 +440,22 @@ fn word_tree(word: Word) -> Stmt
     }
 }
 
+/// A statement of one word ends.
+fn end_word(
+    alloc: Global,
+    code: &str,
+    tokens: &[Token],
+    simple: Simple,
+    word: Word,
+    left: usize,
+) -> Result<State, Stop>
+    ensures { Gives result (Some (ended (left_of code.now tokens.now) left simple.outers simple.spot simple.from (word_tree word) [])) }
+{
+    let tree = Boxed::new(alloc, word_tree(word))?;
+    let under = Places::none(alloc);
+    Ok(end_simple(alloc, code, tokens, left, simple, tree, under)?)
+}
+
 /// After a statement of one word.
 pub fn on_word(
     alloc: Global,
@@ -398,11 +469,11 @@ pub fn on_word(
     ensures { Gives result (on_word (left_of code.now tokens.now) left simple word token.now) }
 {
     match token {
-        Kind::Newline => {
-            let under = Places::none(alloc);
-            Ok(end_simple(alloc, code, tokens, left, simple, word_tree(word), under)?)
+        Kind::Newline => end_word(alloc, code, tokens, simple, word, left),
+        _ => {
+            drop(simple);
+            Err(Stop::Refused)
         }
-        _ => Err(Stop::Refused),
     }
 }
 
@@ -412,6 +483,30 @@ pub fn named(alloc: Global, mut names: Items<Text>, name: &Text) -> Result<Items
 {
     names.push(name.copy(alloc)?)?;
     Ok(names)
+}
+
+/// One more name of a `global`.
+fn declare(
+    alloc: Global,
+    simple: Simple,
+    declared: Items<Text>,
+    names: &TextMap<bool>,
+    name: &Text,
+) -> Result<State, Stop>
+    ensures { Gives result (if_allowed (is_new_in names.now name.now) (h.HasGlobal simple (declared ++ name.now ∷ []))) }
+{
+    let stands = is_new(names, name);
+    let declared = named(alloc, declared, name)?;
+    allow(stands, State::HasGlobal(simple, declared))
+}
+
+/// A `global` is let go, since it doesn't go on so.
+fn refuse_global(simple: Simple, declared: Items<Text>) -> Stop
+    ensures { result ≡ Refused }
+{
+    drop(simple);
+    drop(declared);
+    Stop::Refused
 }
 
 /// When a name of a `global` is to come.
@@ -425,16 +520,25 @@ pub fn on_global(
     ensures { Gives result (on_global simple declared names.now token.now) }
 {
     match token {
-        Kind::Name(name) => {
-            let stands = is_new(names, name);
-            let declared = named(alloc, declared, name)?;
-            allow(stands, State::HasGlobal(simple, declared))
-        }
-        _ => {
-            drop(simple);
-            Err(Stop::Refused)
-        }
+        Kind::Name(name) => declare(alloc, simple, declared, names, name),
+        _ => Err(refuse_global(simple, declared)),
     }
+}
+
+/// A `global` ends.
+fn end_global(
+    alloc: Global,
+    code: &str,
+    tokens: &[Token],
+    simple: Simple,
+    declared: Items<Text>,
+    left: usize,
+) -> Result<State, Stop>
+    ensures { Gives result (Some (ended (left_of code.now tokens.now) left simple.outers simple.spot simple.from (tree.Global declared) [])) }
+{
+    let tree = Boxed::new(alloc, Stmt::Global(declared))?;
+    let under = Places::none(alloc);
+    Ok(end_simple(alloc, code, tokens, left, simple, tree, under)?)
 }
 
 /// After a name of a `global`.
@@ -451,11 +555,7 @@ pub fn on_global_name(
 {
     match token {
         Kind::Symbol(Symbol::Comma) => Ok(State::InGlobal(simple, declared)),
-        Kind::Newline => {
-            let under = Places::none(alloc);
-            let tree = Stmt::Global(declared);
-            Ok(end_simple(alloc, code, tokens, left, simple, tree, under)?)
-        }
-        _ => Err(Stop::Refused),
+        Kind::Newline => end_global(alloc, code, tokens, simple, declared, left),
+        _ => Err(refuse_global(simple, declared)),
     }
 }

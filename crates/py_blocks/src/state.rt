@@ -1,4 +1,4 @@
-use plain_data::{Items, Stack, Text, TextMap};
+use plain_data::{Boxed, Items, Stack, Text, TextMap};
 use py_frames::{Places, Sight, State as Reading};
 use py_tree::{Arm, Expr, Op, Stmt, Target};
 
@@ -38,14 +38,14 @@ pub enum Head {
     /// An `if`, or an `elif` after these.
     Branch {
         arms: Items<Arm>,
-        test: Expr,
+        test: Boxed<Expr>,
     },
     Else(Items<Arm>),
-    While(Expr),
+    While(Boxed<Expr>),
     For {
         names: Items<Text>,
         comma: bool,
-        iterable: Expr,
+        iterable: Boxed<Expr>,
     },
     Function {
         name: Text,
@@ -79,7 +79,7 @@ pub enum Purpose {
     Deleting,
     Assigning(Sight),
     Augmenting {
-        target: Target,
+        target: Boxed<Target>,
         op: Op,
         under: Places,
     },

@@ -1,9 +1,10 @@
 //! One more token of a cell.
-ghost use Rattle.std.specs.Prelude.{◌≡◌};
+ghost use Rattle.std.specs.Prelude.{◌≡◌, if◌then◌else◌, Some};
+ghost use Rattle.std.specs.FinMap.{empty};
 ghost use Rattle.py_frames.specs.Gives.{Gives};
 ghost use Rattle.py_blocks.specs.Source.{left_of};
 ghost use Rattle.py_blocks.specs.Steps as machine;
-ghost use Rattle.py_blocks.specs.Steps.{function_moves, head_moves, moves};
+ghost use Rattle.py_blocks.specs.Steps.{noted, function_moves, head_moves, moves};
 
 use crate::blocks::nothing;
 use crate::functions::{on_def, on_def_name, on_param, on_params, on_params_end};
@@ -106,6 +107,30 @@ fn moves(
     }
 }
 
+/// What has been read, and the names with one more token; whether another function begins with it.
+fn with_names(
+    alloc: Global,
+    state: State,
+    begins: bool,
+    names: TextMap<bool>,
+    token: &Kind,
+) -> Result<Reader, Stop>
+    ensures { Gives result (Some (record { state = state; names = if begins then empty else noted token.now names })) }
+{
+    if begins {
+        drop(names);
+        let names = TextMap::new(alloc);
+        return Ok(Reader { state, names });
+    }
+    match note(alloc, names, token) {
+        Ok(names) => Ok(Reader { state, names }),
+        Err(_) => {
+            drop(state);
+            Err(Stop::Memory)
+        }
+    }
+}
+
 /// One more token of a cell, or of a text that is to be one function alone. The tokens are those of the code: a function
 /// keeps the text of its own.
 pub fn step(
@@ -122,10 +147,5 @@ pub fn step(
     let Reader { state, names } = reader;
     let begins = begins_function(&state, token);
     let state = moves(alone, alloc, code, tokens, state, &names, token, place)?;
-    let names = if begins {
-        TextMap::new(alloc)
-    } else {
-        note(alloc, names, token)?
-    };
-    Ok(Reader { state, names })
+    with_names(alloc, state, begins, names, token)
 }
