@@ -101,8 +101,8 @@ fn in_simple(simple: Simple, inner: Places) -> Result<Places, AllocError>
 fn after_targets(alloc: Global, under: Places, reading: Reading) -> Result<Places, AllocError>
     ensures { IfOk result (λ all. all ≡ beside under (expression.forced false reading)) }
 {
-    let inner = forced_of(alloc, false, reading)?;
-    Ok(under.beside(inner))
+    let value = forced_of(alloc, false, reading)?;
+    Ok(under.beside(value))
 }
 
 /// The expression of a simple statement, which may still turn out to be targets, and targets before it.
