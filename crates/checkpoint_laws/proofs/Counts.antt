@@ -98,7 +98,7 @@ pub record Counts : Type 0 where
 -- from so many to so many, if these objects and texts are referred to
 pub record Goes (texts : Texts) (c : Counts) (ns : List ℕ) (uses : List (List ℕ)) (d : Counts) : Type 0 where
   pub refs : counted c.met ns ≡ Some d.met
-  pub texts : counted c.known (numbers_of texts uses) ≡ Some d.known
+  pub known : counted c.known (numbers_of texts uses) ≡ Some d.known
 
 -- not above what there is
 pub record Room (texts : Texts) (most : ℕ) (d : Counts) : Type 0 where
@@ -110,15 +110,15 @@ same_counts c d e f = ap (λ (m : ℕ). let k : Counts = record { met = m; known
 
 module _ (texts : Texts) where
   pub goes_none : (c d : Counts) → c ≡ d → Goes texts c [] [] d
-  goes_none c d e = record { refs = ap (λ (k : Counts). Some k.met) e; texts = ap (λ (ns : List ℕ). counted c.known ns) (no_numbers texts) ∙ ap (λ (k : Counts). Some k.known) e }
+  goes_none c d e = record { refs = ap (λ (k : Counts). Some k.met) e; known = ap (λ (ns : List ℕ). counted c.known ns) (no_numbers texts) ∙ ap (λ (k : Counts). Some k.known) e }
 
   pub goes_same : (c d : Counts) → Goes texts c [] [] d → c ≡ d
-  goes_same c d g = same_counts c d (some_same c.met d.met g.refs) (some_same c.known d.known (sym (ap (λ (ns : List ℕ). counted c.known ns) (no_numbers texts)) ∙ g.texts))
+  goes_same c d g = same_counts c d (some_same c.met d.met g.refs) (some_same c.known d.known (sym (ap (λ (ns : List ℕ). counted c.known ns) (no_numbers texts)) ∙ g.known))
 
   pub goes_join : (ms ns : List ℕ) (xs ys : List (List ℕ)) (c k d : Counts) → Goes texts c ms xs k → Goes texts k ns ys d → Goes texts c (ms ++ ns) (xs ++ ys) d
   goes_join ms ns xs ys c k d g h = record {
     refs = counted_join ms ns c.met k.met (Some d.met) g.refs h.refs;
-    texts = ap (λ (zs : List ℕ). counted c.known zs) (numbers_join texts xs ys) ∙ counted_join (numbers_of texts xs) (numbers_of texts ys) c.known k.known (Some d.known) g.texts h.texts;
+    known = ap (λ (zs : List ℕ). counted c.known zs) (numbers_join texts xs ys) ∙ counted_join (numbers_of texts xs) (numbers_of texts ys) c.known k.known (Some d.known) g.known h.known;
   }
 
   pub record GoesBy (c : Counts) (ms ns : List ℕ) (xs ys : List (List ℕ)) (d : Counts) : Type 0 where
@@ -129,11 +129,11 @@ module _ (texts : Texts) where
   pub goes_parts : (ms ns : List ℕ) (xs ys : List (List ℕ)) (c d : Counts) → Goes texts c (ms ++ ns) (xs ++ ys) d → GoesBy c ms ns xs ys d
   goes_parts ms ns xs ys c d g =
       let a = counted_parts ms ns c.met d.met g.refs in
-      let b = counted_parts (numbers_of texts xs) (numbers_of texts ys) c.known d.known (sym (ap (λ (zs : List ℕ). counted c.known zs) (numbers_join texts xs ys)) ∙ g.texts) in
-      record { mid = record { met = a.mid; known = b.mid }; first = record { refs = a.first; texts = b.first }; rest = record { refs = a.rest; texts = b.rest } }
+      let b = counted_parts (numbers_of texts xs) (numbers_of texts ys) c.known d.known (sym (ap (λ (zs : List ℕ). counted c.known zs) (numbers_join texts xs ys)) ∙ g.known) in
+      record { mid = record { met = a.mid; known = b.mid }; first = record { refs = a.first; known = b.first }; rest = record { refs = a.rest; known = b.rest } }
 
   pub room_before : (ns : List ℕ) (xs : List (List ℕ)) (c d : Counts) (most : ℕ) → Goes texts c ns xs d → Room texts most d → Room texts most c
   room_before ns xs c d most g r = record {
     met = let l = counted_grows ns c.met d.met g.refs in let h = r.met in omega (arith, l, h);
-    known = there_before texts c.known d.known (counted_grows (numbers_of texts xs) c.known d.known g.texts) r.known;
+    known = there_before texts c.known d.known (counted_grows (numbers_of texts xs) c.known d.known g.known) r.known;
   }

@@ -194,7 +194,7 @@ uses_any : (bytes xs ns : List ℕ) (us vs : List (List ℕ)) (s t : Spot) → A
 uses_any bytes xs ns us vs s t a = record {
   stands = a.stands;
   end = a.end;
-  goes = record { refs = a.goes.refs; texts = a.goes.texts };
+  goes = record { refs = a.goes.refs; known = a.goes.known };
   most = a.most;
   within = a.within;
   there = a.there;
@@ -279,7 +279,7 @@ module _ (bytes : List ℕ) (small : IsBytes bytes) where
       record {
         stands = λ l. (ate_none (Numbered table) bytes u u refl).stands l;
         end = let e : u.at ≡ t.at = ap (λ (w : Spot). w.at) f.to in omega (arith, e);
-        goes = record { refs = ap (λ (w : Spot). Some w.met) f.to; texts = next ∙ ap (λ (w : Spot). Some w.known) f.to };
+        goes = record { refs = ap (λ (w : Spot). Some w.met) f.to; known = next ∙ ap (λ (w : Spot). Some w.known) f.to };
         most = ap (λ (w : Spot). w.most) (sym f.to);
         within = λ l. subst (λ (w : Spot). w.met ≤ u.most) f.to l;
         there = λ h. subst (λ (w : Spot). w.known ≤ length table) f.to (after_within u.known n (length table) h (slice_get_within table n x f.here));

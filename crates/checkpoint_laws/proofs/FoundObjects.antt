@@ -232,7 +232,7 @@ module _ (texts : Texts) (ok : IsTable texts) (bytes : List ℕ) (small : IsByte
             let spelled : xs ++ ys ≡ objects_of os = ap (λ (k : ℕ). four_bytes k ++ ys) size ∙ ap (λ (zs : List Object). four_bytes (length os) ++ flat_map (spelled_object (spell_of texts)) zs) (sym o.is) in
             let b = o.ate in
             let end : t.at ≡ s.at + length (xs ++ ys) = let one = a.end in let two = b.end in let all = length-append xs ys in omega (arith, one, two, all) in
-            let texts_ : counted s.known (numbers_of texts (flat_map object_texts o.xs)) ≡ Some t.known = subst (λ (k : ℕ). counted k (numbers_of texts (flat_map object_texts o.xs)) ≡ Some t.known) known b.goes.texts in
+            let texts_ : counted s.known (numbers_of texts (flat_map object_texts o.xs)) ≡ Some t.known = subst (λ (k : ℕ). counted k (numbers_of texts (flat_map object_texts o.xs)) ≡ Some t.known) known b.goes.known in
             record {
               few = subst (λ (k : ℕ). k < 2 ^ 32) size n.0;
               within = omega (arith, bound, same, size);

@@ -190,7 +190,7 @@ module _ (texts : Texts) (ok : IsTable texts) (bytes : List ℕ) (small : IsByte
       let g = referred_found p r.first r.mid t v r.next in
       let goes : Goes texts (counts_of r.mid) (r.first ∷ []) [] (counts_of t) = record {
         refs = g.refs;
-        texts = ap (λ (ns : List ℕ). counted r.mid.known ns) (no_numbers texts) ∙ ap (λ (k : ℕ). Some k) (sym g.known);
+        known = ap (λ (ns : List ℕ). counted r.mid.known ns) (no_numbers texts) ∙ ap (λ (k : ℕ). Some k) (sym g.known);
       } in
       let ate : Ate texts bytes [] (r.first ∷ []) [] r.mid t = record {
         stands = λ l. (ate_none texts bytes r.mid r.mid refl).stands l;

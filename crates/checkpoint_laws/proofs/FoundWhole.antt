@@ -1,5 +1,5 @@
 -- A part that was read is the one whose text the bytes begin with.
-use Rattle.std.proofs.Common.{◌≡◌, ℕ, ◌<◌, ◌≤◌, ◌^◌, ◌==◌, ◌&&◌, cond, List, [], ◌∷◌, ◌++◌, length, take, Option, Result, Ok, Err, refl, sym, ap, ◌∙◌, subst, inl, inr, arith, All}
+use Rattle.std.proofs.Common.{◌≡◌, ℕ, ◌<◌, ◌≤◌, ◌^◌, ◌==◌, ◌&&◌, cond, List, [], ◌∷◌, ◌++◌, length, take, Option, Some, Result, Ok, Err, refl, sym, ap, ◌∙◌, subst, inl, inr, arith, All}
 use Rattle.std.specs.Prelude.{slice_index}
 use Rattle.std.specs.List.{flat_map, AllByRecursion}
 use Rattle.std.proofs.lemmas.Bool.{cases_Bool, cases_lt, and_parts, eqb-false}
@@ -172,7 +172,7 @@ module _ (texts : Texts) (ok : IsTable texts) (bytes : List ℕ) (small : IsByte
       let end : o.mid.at ≡ length ((xs ++ ys) ++ zs) = let one = front.end in let two = c.end in let all = length-append (xs ++ ys) zs in omega (arith, one, two, all) in
       let known_ : counted known (numbers_of texts (texts_of read)) ≡ Some o.mid.known =
       ap (λ (ns : List ℕ). counted known ns) (numbers_join texts used (flat_map object_texts o.first))
-      ∙ counted_join (numbers_of texts used) (numbers_of texts (flat_map object_texts o.first)) known q.mid.known (Some o.mid.known) front.goes.texts c.known in
+      ∙ counted_join (numbers_of texts used) (numbers_of texts (flat_map object_texts o.first)) known q.mid.known (Some o.mid.known) front.goes.known c.known in
       let is : HasPartText read = record {
         some = a.some;
         few = a.few;

@@ -268,9 +268,9 @@ module _ (a more : List ℕ) where
     leads_then m n f g h k = leads_knowing m n f g (λ x. Unit {0}) h (λ at next x e. tt) (λ x u. k x)
 
     table_known : (version : ℕ) → (version ≡ 1) ⊎ (version ≡ 2) → (at next : ℕ) (t : Table) → table a version at ≡ answer t next → IsTable t.texts
-    table_known version (inl e) at next t h =
+    table_known n (inl e) at next t h =
         let a1 = eats_table1 a small at next t (subst (λ (v : ℕ). table a v at ≡ answer t next) e h) in subst (λ (u : Table). IsTable u.texts) (sym a1.is.0) tt
-    table_known version (inr e) at next t h =
+    table_known n (inr e) at next t h =
         let a2 = eats_table2 a small at next t (subst (λ (v : ℕ). table a v at ≡ answer t next) e h) in subst IsTable (sym a2.is.1.is) a2.is.1.ok
 
     last_leads : (count meter : ℕ) (t : Table) (cs : Cells) (vs : Versions) → Leads (last_of a count meter t cs vs) (last_of b count meter t cs vs)

@@ -19,7 +19,7 @@ use Rattle.checkpoint_laws.specs.Spelled.{part_in, part_at}
 use Rattle.checkpoint_laws.proofs.Copied.{version_at}
 
 -- of the k numbers from n on, those that are in the list
-pub listed : List ℕ → ℕ → ℕ → List ℕ
+unfoldable pub listed : List ℕ → ℕ → ℕ → List ℕ
 listed ns n zero = []
 listed ns n (suc k) = cond (lists ns n) (n ∷ listed ns (n + 1) k) (listed ns (n + 1) k)
 
@@ -83,7 +83,7 @@ marked_then ms n true rest = append_assoc ms (n ∷ []) rest
 marked_then ms n false rest = refl
 
 -- the parts of those versions that are copied, of versions from number n on
-pub parts_from : State → Plan → ℕ → List Version → List PartValue
+unfoldable pub parts_from : State → Plan → ℕ → List Version → List PartValue
 parts_from s p n [] = []
 parts_from s p n (x ∷ xs) = cond (lists p.copied n) (part_of s x.names ∷ parts_from s p (n + 1) xs) (parts_from s p (n + 1) xs)
 

@@ -97,7 +97,7 @@ module _ (texts : Texts) (ok : IsTable texts) (bytes : List ℕ) where
       let by = counted_parts (numbers_of texts (object_texts o)) (numbers_of texts (flat_map object_texts os)) met.known last
       (sym (ap (λ (ns : List ℕ). counted met.known ns) (numbers_join texts (object_texts o) (flat_map object_texts os))) ∙ f) in
       let mid : Counts = record { met = h.2.0; known = by.mid } in
-      let goes : Goes texts met (object_refs o) (object_texts o) mid = record { refs = h.2.1; texts = by.first } in
+      let goes : Goes texts met (object_refs o) (object_texts o) mid = record { refs = h.2.1; known = by.first } in
       let there : AreThere texts by.mid = there_before texts by.mid last (counted_grows (numbers_of texts (flat_map object_texts os)) by.mid last by.rest) r in
       let size : n + 1 ≡ length (before ++ o ∷ []) = let one = length-append before (o ∷ []) in omega (arith, one, e) in
       let rest = off_objects os (before ++ o ∷ []) (n + 1) last most mid size h.2.3 by.rest r in

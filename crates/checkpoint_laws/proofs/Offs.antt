@@ -154,7 +154,7 @@ module _ (bytes : List ℕ) where
       → Off (text_by_number bytes table) (by_number table t) t met next most
   unfolding text_by_number
   off_text_by_number table t met next most ok g r = λ at s.
-      let n = known_next met.known (number_of table t) next.known g.texts in
+      let n = known_next met.known (number_of table t) next.known g.known in
       let few = ok.few in
       let room = r.known in
       let low = n.below in
@@ -165,7 +165,7 @@ module _ (bytes : List ℕ) where
       → Off (text texts bytes) (spell_of texts t) t met next most
   unfolding text
   off_text InPlace t met next most ok h g r =
-      subst (λ (d : Counts). Off (spelled_text bytes) (text_bytes t) t met d most) (same_counts met next (some_same met.met next.met g.refs) (some_same met.known next.known g.texts)) (off_spelled_text t met most h)
+      subst (λ (d : Counts). Off (spelled_text bytes) (text_bytes t) t met d most) (same_counts met next (some_same met.met next.met g.refs) (some_same met.known next.known g.known)) (off_spelled_text t met most h)
   off_text (Numbered table) t met next most ok h g r = off_text_by_number table t met next most ok g r
 
 -- ---- items of one kind

@@ -8,6 +8,7 @@ use Rattle.graph_model.specs.declared.graph.CellRecord.{CellRecord}
 use Rattle.graph_model.specs.declared.graph.Version.{Version}
 use Rattle.graph_model.specs.declared.plan.Plan.{Plan}
 use Rattle.py_heap.specs.declared.state.State.{State}
+use Rattle.part_bytes.specs.declared.part.PartValue.{PartValue}
 use Rattle.part_bytes.specs.Parts.{part_of as part_in}
 use Rattle.part_bytes.specs.Texts.{four as four_bytes, spelled_part}
 use Rattle.part_bytes.specs.Uses.{part_texts}

@@ -81,7 +81,7 @@ module _ (texts : Texts) (ok : IsTable texts) (bytes : List ℕ) where
   referred : (p n : ℕ) (met next : Counts) (most at : ℕ) → Goes texts met (n ∷ []) [] next → next.met ≤ most → referred_to p n (spot at met most) ≡ answer (the_value.Ref n) (spot at next most)
   referred p n met next most at g l =
       let e = g.refs in
-      let known : met.known ≡ next.known = some_same met.known next.known (sym (ap (λ (ns : List ℕ). counted met.known ns) (no_numbers texts)) ∙ g.texts) in
+      let known : met.known ≡ next.known = some_same met.known next.known (sym (ap (λ (ns : List ℕ). counted met.known ns) (no_numbers texts)) ∙ g.known) in
       elim (cases_Bool (nat_lt n met.met)) [
         | inl t ↦ let same = some_same met.met next.met (rw t at e) in rw t (ap (λ (c : Counts). answer (the_value.Ref n) (spot at c most)) (same_counts met next same known))
         | inr f ↦ elim (cases_Bool (n == met.met)) [

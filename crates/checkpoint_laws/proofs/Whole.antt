@@ -90,13 +90,13 @@ module _ (bytes : List ℕ) where
 
     module _ (is : bytes ≡ letters ++ (F ++ (C ++ (M ++ (T ++ (Cs ++ Vs)))))) where
       -- how many texts are referred to after the cells
-      record Between : Type 0 where
+      pub record Between : Type 0 where
         pub mid : ℕ
         pub first : counted 0 (numbers_of texts (codes_of g.cells)) ≡ Some mid
         pub rest : counted mid (numbers_of texts (each_from (copied_texts s p) 1 g.versions)) ≡ Some size
         pub there : AreThere texts mid
 
-      between : Between
+      pub between : Between
       between =
           let codes : List (List ℕ) = codes_of g.cells in
           let more : List (List ℕ) = each_from (copied_texts s p) 1 g.versions in

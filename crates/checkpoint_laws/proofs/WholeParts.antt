@@ -107,7 +107,7 @@ module _ (texts : Texts) (ok : IsTable texts) (bytes : List ℕ) where
       let first : names bytes (start known) ≡ answer p.names (spot (0 + length xs) none most) =
       off_names p.names none most h.some h.few (record { met = omega arith; known = before }) h.names 0 (stands_first bytes 0 xs ys front) in
       let second : values texts bytes n (spot (0 + length xs) none most) ≡ answer p.values (spot (0 + length xs + length ys) mid most) =
-      off_values n p.values none mid most h.as_many h.values (record { refs = h.refs; texts = by.first }) (record { met = fewer; known = there }) (0 + length xs) (stands_next bytes 0 xs ys front) in
+      off_values n p.values none mid most h.as_many h.values (record { refs = h.refs; known = by.first }) (record { met = fewer; known = there }) (0 + length xs) (stands_next bytes 0 xs ys front) in
       let place : 0 + length xs + length ys ≡ 0 + length (xs ++ ys) = let size = length-append xs ys in omega (arith, size) in
       let beyond : Stands bytes (0 + length xs + length ys) zs = subst (λ (k : ℕ). Stands bytes k zs) (sym place) (stands_next bytes 0 (xs ++ ys) zs stands) in
       let third = all_objects texts ok bytes p.objects mid last most (0 + length xs + length ys) h.few_objects h.within h.objects by.rest room beyond in
