@@ -21,12 +21,17 @@ pub struct Notebook {
 }
 
 impl Model for Notebook {
+    ghost use Rattle.std.specs.Prelude.{refl};
+    ghost use Rattle.std.specs.Coded.{code_by, coded×};
+    ghost use Rattle.py_kernel.specs.Kernels.{KernelView};
+    ghost use Rattle.py_kernel.specs.contracts.kernel.Kernel as kernels;
+    ghost use Rattle.history_graph.specs.Histories.{HistoryView};
+    ghost use Rattle.history_graph.specs.contracts.history.History as histories;
     ghost use Rattle.notebook_engine.specs.declared.session.Session.{Session};
-    ghost use Rattle.notebook_engine.specs.contracts.session.Session as session;
 
     ghost Value = { Session };
 
-    ghost coded = { session.the_row.coded };
+    ghost coded = { code_by (KernelView × HistoryView) (coded× kernels.the_row.coded histories.the_row.coded) (λ s. (s.kernel, s.history)) (λ p. record { kernel = p.0; history = p.1 }) (λ _. refl) };
 
     ghost use Rattle.restore_run.specs.Usable.{IsUsableSession};
 

@@ -106,6 +106,12 @@ cell_at g cells i x e l is =
     let at : slice_get cells i ≡ Some x = slice_get-get_or cells i x l ∙ ap (λ (y : CellRecord). Some y) (sym is) in
     (omega arith, subst (λ n. slice_get g.cells n ≡ Some x) (sym back) (subst (λ (ys : List CellRecord). slice_get ys i ≡ Some x) e at))
 
+-- the cell before number i + 1 is cell i
+pub between_at : (k : Checkpoint) (i n : ℕ) → IsBetween k i n → (c : ℕ) → i + 1 ≡ c + 1 → IsBetween k c n
+between_at k i n b c e =
+    let same : i ≡ c = omega (arith, e) in
+    subst (λ m. IsBetween k m n) same b
+
 -- one cell on
 pub walked_on : (k : Checkpoint) (c : ℕ) (t m u : State) → IsWalked k c t → Passes read k.graph k.plan (c + 1) t m → GivesAllBack (copies k) k.graph (c + 1) k.plan.copied m u → IsWalked k (c + 1) u
 walked_on k c t m u w p b =

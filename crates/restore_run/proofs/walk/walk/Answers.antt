@@ -1,4 +1,4 @@
-use Rattle.std.proofs.Common.{ℕ, ◌+◌, ◌∙◌, List, ap, sym, subst}
+use Rattle.std.proofs.Common.{ℕ, ◌+◌, ◌∙◌, List, ap, sym, subst, arith}
 use Rattle.std.specs.Prelude.{slice_get}
 use Rattle.std.proofs.lemmas.Result.{err_from_is_err_and}
 use Rattle.py_heap.specs.declared.state.State.{State}
@@ -9,7 +9,7 @@ use Rattle.every_history.specs.Reading.{read}
 use Rattle.every_history.proofs.Valid.{empty_valid}
 use Rattle.replay_laws.specs.Walks.{begins, Passes}
 use Rattle.restore_run.specs.Restoring.{IsWalked}
-use Rattle.restore_run.proofs.Walking.{first_between, cell_at, walked_on}
+use Rattle.restore_run.proofs.Walking.{first_between, between_at, cell_at, walked_on}
 use Rattle.restore_run.proofs.Passing.{stopped}
 use Rattle.restore_run.proofs.walk.walk.Goals as goal
 
@@ -34,8 +34,23 @@ pass-requires g c = (
   ),
 )
 
-pub give_back-requires-clause-valid : goal.give_back-requires-clause-valid
-give_back-requires-clause-valid g c = subst IsValidState (sym c.into_state-state.ensures) c.in_ok-pass.ensures.valid
+pub give_back-requires : goal.give_back-requires
+give_back-requires g c = (
+  c.requires.0,
+  (
+    c.requires.1.0,
+    (
+      c.requires.1.1.0,
+      (
+        c.loop-index.invariant.left,
+        (
+          between_at g.k c.loop-index.index c.loop-index.next c.loop-index.invariant.between,
+          (omega arith, subst IsValidState (sym c.into_state-state.ensures) c.in_ok-pass.ensures.valid),
+        ),
+      ),
+    ),
+  ),
+)
 
 pub returns-in_err-pass-clause-fault : goal.returns-in_err-pass-clause-fault
 returns-in_err-pass-clause-fault g c =
