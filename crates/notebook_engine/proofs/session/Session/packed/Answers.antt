@@ -16,15 +16,15 @@ pub write_checkpoint-requires-clause-cells : goal.write_checkpoint-requires-clau
 write_checkpoint-requires-clause-cells c = subst (λ (g : Graph). All IsWithinBounds g.cells) (sym c.graph-graph.ensures) c.requires.cells
 
 pub write_checkpoint-requires-clause-names : goal.write_checkpoint-requires-clause-names
-write_checkpoint-requires-clause-names c = subst (λ (g : Graph). NamesOf g c.in-Ok.certified.plan) (sym c.graph-graph.ensures) c.in-Ok.ensures.certified.names
+write_checkpoint-requires-clause-names c = subst (λ (g : Graph). NamesOf g c.in-Ok.certified.plan) (sym c.graph-graph.ensures) c.in-Ok.ensures.plan.certified.names
 
 pub write_checkpoint-requires-clause-feasible : goal.write_checkpoint-requires-clause-feasible
-write_checkpoint-requires-clause-feasible c = subst (λ (g : Graph). IsFeasible g c.in-Ok.certified.plan) (sym c.graph-graph.ensures) c.in-Ok.ensures.certified.feasible
+write_checkpoint-requires-clause-feasible c = subst (λ (g : Graph). IsFeasible g c.in-Ok.certified.plan) (sym c.graph-graph.ensures) c.in-Ok.ensures.plan.certified.feasible
 
 pub returns-in-Ok-write_checkpoint : goal.returns-in-Ok-write_checkpoint
 returns-in-Ok-write_checkpoint c = λ served h.
     let n = c.args.self.now in
-    let plan = c.in-Ok.ensures in (
+    let plan = c.in-Ok.ensures.plan in (
       n.history.graph,
       graph_of n (cells_of served) h.1,
       plan.admitted,
