@@ -12,6 +12,9 @@ use Rattle.run_graph.specs.Soundness.{statements}
 use Rattle.every_history.specs.Reading.{read}
 use Rattle.graph_model.specs.declared.plan.Tally.{Tally}
 use Rattle.linked_parts.specs.Parts.{ArePartsOf}
+use Rattle.linked_parts.specs.After.{IsAfter}
+use Rattle.linked_parts.proofs.Mending.{counted_parts}
+use Rattle.run_graph.proofs.Marking.{is_after}
 use Rattle.history_graph.specs.Touched.{Records}
 use Rattle.history_graph.specs.Ends.{Makes}
 use Rattle.history_graph.specs.declared.history.History.{History}
@@ -29,14 +32,35 @@ use Rattle.notebook_engine.proofs.Answered.{answered}
 use Rattle.notebook_engine.proofs.Lasting.{lasts}
 use Rattle.notebook_engine.proofs.session.Session.run_cell.Goals as goal
 
-pub end_cell-requires : goal.end_cell-requires
-end_cell-requires g c =
+pub end_cell-requires-clause-closed : goal.end_cell-requires-clause-closed
+end_cell-requires-clause-closed g c =
     let body = statements (read c.args.code.now) in
     let draws = c.in-Ok.ran.0.draws in
     let before : State = record c.args.self.now.kernel.state { count = c.args.self.now.kernel.state.count + cond c.args.counted 1 0 } in
     let closed = c.requires.usable.valid.closed in
     let ran : c.run_code.new.kernel.state ≡ end_state body before draws = c.in-Ok.ensures.state ∙ ap (λ (s : State). end_state body s draws) c.raise.ensures.state in
     subst IsClosed (sym (c.state-state.ensures ∙ ran)) (closed_after body draws before (record { names = closed.names; objects = closed.objects }))
+
+-- the state before is that of the session with its count raised
+pub end_cell-requires-clause-after : goal.end_cell-requires-clause-after
+end_cell-requires-clause-after g c =
+    let body = statements (read c.args.code.now) in
+    let draws = c.in-Ok.ran.0.draws in
+    let t : State = c.args.self.now.kernel.state in
+    let before : State = record t { count = t.count + cond c.args.counted 1 0 } in
+    let closed = c.requires.usable.valid.closed in
+    let closed_before : IsClosed before = record { names = closed.names; objects = closed.objects } in
+    let ran = c.in-Ok.ensures in
+    let state : c.run_code.new.kernel.state ≡ end_state body before draws = ran.state ∙ ap (λ (s : State). end_state body s draws) c.raise.ensures.state in
+    let ended : c.in-Ok.ran.0 ≡ end body before draws = ran.end ∙ ap (λ (s : State). end body s draws) c.raise.ensures.state in
+    let marks : c.in-Ok.ran.0.marks ≡ (outcome body before draws).1.marks = ap (λ (z : CellEnd). z.marks) ended in
+    (
+      before,
+      closed_before,
+      counted_parts t (t.count + cond c.args.counted 1 0) c.args.self.now.history.parts c.requires.usable.history.parts,
+      subst (IsAfter before c.in-Ok.ran.0.marks) (sym (c.state-state.ensures ∙ state))
+      (subst (λ (m : Marks). IsAfter before m (end_state body before draws)) (sym marks) (is_after body before draws closed_before)),
+    )
 
 pub returns-in-Ok-reply_of-clause-ran : goal.returns-in-Ok-reply_of-clause-ran
 returns-in-Ok-reply_of-clause-ran g c = λ cells h.
