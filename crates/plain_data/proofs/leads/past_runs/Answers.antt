@@ -1,4 +1,4 @@
-use Rattle.std.proofs.Common.{◌≡◌, ◌≤◌, ◌+◌, length, sym, ◌∙◌, arith}
+use Rattle.std.proofs.Common.{◌+◌, sym, ◌∙◌, arith}
 use Rattle.plain_data.proofs.Beginnings.{leads_more}
 use Rattle.plain_data.proofs.leads.past_runs.Goals as goal
 
