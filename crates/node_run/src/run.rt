@@ -12,7 +12,7 @@ ghost use Rattle.node_run.specs.Streams.{HasRun, StreamsTold, IsStatus};
 
 use crate::end::RunEnd;
 use crate::feeding::{FedIn, feed_workers};
-use crate::finishing::{discard, finish_all};
+use crate::finishing::{discard, finish_all, let_go};
 use crate::write::{WriteFault, write_all_frames};
 use command_words::status;
 use host_workers::{Gate, Hosts};
@@ -250,7 +250,15 @@ where
             ran.errors.as_slice(),
             ran.runs.as_slice(),
         ) {
-            Ok(()) => status_of(ran.end),
+            Ok(()) => {
+                let NodeRun {
+                    errors: _,
+                    runs,
+                    end,
+                } = ran;
+                let_go(rt, runs);
+                status_of(end)
+            }
             Err(WriteFault::Sink) => status::SINK_FAULT,
             Err(WriteFault::OutOfMemory) => status::OUT_OF_MEMORY,
         },
