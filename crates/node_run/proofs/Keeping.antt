@@ -1,6 +1,7 @@
 -- What is kept of open sessions, and what is read of them.
-use Rattle.std.proofs.Common.{◌≡◌, ℕ, zero, suc, List, [], ◌∷◌, ◌++◌, length, Option, Some, None, refl, sym, ap, ◌∙◌, subst}
+use Rattle.std.proofs.Common.{◌≡◌, ℕ, zero, suc, ◌+◌, List, [], ◌∷◌, ◌++◌, length, Option, Some, None, refl, sym, ap, ◌∙◌, subst, arith}
 use Rattle.std.specs.Prelude.{slice_get, slice_set, IfSome, MatchOption}
+use Rattle.std.specs.List.{AllByRecursion}
 use Rattle.session_queues.specs.declared.shared.SharedQueues.{SharedQueues}
 use Rattle.session_queues.specs.Passes.{IsPassOf}
 use Rattle.session_queues.specs.Ends.{OnOut, nothing_on}
@@ -9,7 +10,7 @@ use Rattle.session_core.specs.declared.entry.Entry.{Entry}
 use Rattle.node_intake.specs.Intake.{Taken}
 use Rattle.node_run.specs.declared.open_session.OpenSession.{OpenSession}
 use Rattle.node_run.specs.declared.open_session.NextEntry.{NextEntry}
-use Rattle.node_run.specs.Admitted.{AreOpen, AreSeated, with_request, HasAdmitted}
+use Rattle.node_run.specs.Admitted.{IsOpen, AreOpen, AreSeated, with_request, HasAdmitted}
 use Rattle.node_run.specs.Keeping.{kept_all}
 use Rattle.node_run.specs.Unsent.{entries_of, IsUnread, AreKept, AreAlike, IsReaderOf, AreReadable, HasTaken, HasRead, HasNumbered, with_entry}
 use Rattle.node_run.proofs.Seating.{none_admitted}

@@ -1,4 +1,5 @@
 use Rattle.std.proofs.lemmas.Result.{IfOk-at_ok}
+use Rattle.std.proofs.lemmas.List.{take-append-drop}
 use Rattle.std.proofs.Common.{◌≡◌}
 use Rattle.node_run.specs.Frames.{journal_frames, parts_together}
 use Rattle.node_run.proofs.Batching.{halves, parts_both}

@@ -1,4 +1,4 @@
-use Rattle.std.proofs.Common.{◌++◌, ap, ◌∙◌}
+use Rattle.std.proofs.Common.{◌++◌, append_assoc, append-nil, drop, ap, sym, ◌∙◌}
 use Rattle.node_run.specs.Frames.{journal_frames}
 use Rattle.node_run.proofs.Framing.{entry_next, entry_past}
 use Rattle.node_run.proofs.Batching.{rendered_none, rendered_on, rendered_all}

@@ -2,7 +2,7 @@ use Rattle.std.proofs.Common.{◌≡◌, ◌+◌, ◌++◌, refl, ap, get_or, dr
 use Rattle.std.proofs.lemmas.List.Sums.{sum_by_more}
 use Rattle.reply_frames.specs.Replies.{entry_length}
 use Rattle.node_run.specs.Frames.{journal_frames}
-use Rattle.node_run.proofs.Streaming.{piece_written, front_written, all_written, gathered_on, gathered_front}
+use Rattle.node_run.proofs.Streaming.{piece_written, front_written, all_written, gathered_on, gathered_front, map_ok, map_err}
 use Rattle.node_run.proofs.Framing.{entry_next, entry_past}
 use Rattle.node_run.proofs.Stopping.{stops_in_entries, fault_alike}
 use Rattle.node_run.proofs.write.write_in_turn.Goals as goal

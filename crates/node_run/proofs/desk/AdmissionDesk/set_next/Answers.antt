@@ -1,5 +1,5 @@
-use Rattle.std.proofs.Common.{sym, ap, ◌∙◌, subst, refl, drop, ◌<◌, length, List}
-use Rattle.std.specs.Prelude.{slice_set}
+use Rattle.std.proofs.Common.{◌≡◌, sym, ap, ◌∙◌, subst, refl, drop, ◌<◌, length, List, Some}
+use Rattle.std.specs.Prelude.{slice_get, slice_set}
 use Rattle.node_run.specs.declared.open_session.OpenSession.{OpenSession}
 use Rattle.node_run.specs.Unsent.{HasNumbered}
 use Rattle.node_run.proofs.Seating.{read_there}
