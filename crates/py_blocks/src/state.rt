@@ -1,3 +1,4 @@
+//! What is open, and what has been read so far. Trees are in boxes, as those of `py_frames` are.
 use plain_data::{Boxed, Items, Stack, Text, TextMap};
 use py_frames::{Places, Sight, State as Reading};
 use py_tree::{Arm, Expr, Op, Stmt, Target};

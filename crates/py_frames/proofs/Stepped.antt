@@ -433,7 +433,7 @@ module _ (place : ℕ → ℕ) where
 
   if-held : (os : List Opened) (ps : List Picked) (test o : Option Ors) (a : Option Ands) (n : ℕ) (c : Compares) (stop : List Kind)
       → m.if_after (in_test os ps test (spell_ors (ors_of o a n c) (if_word ∷ stop))) (value_ors place (ors_of o a n c) (if_word ∷ stop)) ≡ held_if place (r.if_after os (upper ps test o a n) c) stop
-  if-held os [] None o a n c stop = if-begins _ _ (opened-below place os _)
+  if-held os [] None o a n c stop = if-begins _ (value_ors place (ors_of o a n c) (if_word ∷ stop)) (opened-below place os _)
   if-held os (picked b t ∷ ps) None o a n c stop = refl
   if-held os ps (Some b) o a n c stop = refl
 

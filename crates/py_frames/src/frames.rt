@@ -1,4 +1,6 @@
 //! What is open, and what has been read so far.
+//!
+//! A tree is in a box: a function that lets one go early is proved without a look at the kinds of trees.
 use crate::nest::Nest;
 use crate::places::Places;
 use plain_data::{Boxed, Items, Text};
