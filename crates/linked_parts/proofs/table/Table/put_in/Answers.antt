@@ -13,7 +13,7 @@ use Rattle.linked_parts.specs.Places.{IsPlace}
 use Rattle.linked_parts.specs.Moves.{IsFilled, AreGiven, CanPutIn, IsWith}
 use Rattle.linked_parts.proofs.Reading.{number_heads}
 use Rattle.linked_parts.proofs.TableComing.{members, part_still, part_here, new_whole, new_others}
-use Rattle.linked_parts.proofs.moves.Table.put_in.Goals as goal
+use Rattle.linked_parts.proofs.table.Table.put_in.Goals as goal
 
 pub place_of-place-requires-clause-within : goal.place_of-place-requires-clause-within
 place_of-place-requires-clause-within c = λ n h.

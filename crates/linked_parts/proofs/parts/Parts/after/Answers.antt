@@ -2,7 +2,7 @@ use Rattle.std.proofs.Common.{◌⊎◌, sym, subst}
 use Rattle.std.specs.Prelude.{Contains, ◌↔◌}
 use Rattle.linked_parts.specs.declared.part.Part.{Part}
 use Rattle.linked_parts.proofs.Coming.{committed}
-use Rattle.linked_parts.proofs.change.Parts.after.Goals as goal
+use Rattle.linked_parts.proofs.parts.Parts.after.Goals as goal
 
 pub returns-in-Ok-clause-ok : goal.returns-in-Ok-clause-ok
 returns-in-Ok-clause-ok c =

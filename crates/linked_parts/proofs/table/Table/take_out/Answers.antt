@@ -7,7 +7,7 @@ use Rattle.linked_parts.specs.declared.table.Table.{Table}
 use Rattle.linked_parts.specs.Tables.{Numbers, no_head, head_at, names_at, head_room, part_of, IsWhole}
 use Rattle.linked_parts.specs.Moves.{AreGiven, IsWithout}
 use Rattle.linked_parts.proofs.Leaving.{here_in, number_in, others, part_still, left_known, room_covers, left_whole}
-use Rattle.linked_parts.proofs.moves.Table.take_out.Goals as goal
+use Rattle.linked_parts.proofs.table.Table.take_out.Goals as goal
 
 -- the place of the number
 place_there : (t : Table) (number place : ℕ) → slice_get t.order.items place ≡ Some number → (place < length t.order.items) × (slice_index t.order.items place ≡ number)

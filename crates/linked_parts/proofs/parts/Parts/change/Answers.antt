@@ -15,7 +15,7 @@ use Rattle.linked_parts.specs.Changes.{IsElsewhere}
 use Rattle.linked_parts.specs.Touched.{IsSpared}
 use Rattle.linked_parts.specs.Labels.{IsBlank}
 use Rattle.linked_parts.proofs.Coming.{elsewhere_spared}
-use Rattle.linked_parts.proofs.change.Parts.change.Goals as goal
+use Rattle.linked_parts.proofs.parts.Parts.change.Goals as goal
 
 -- the parts that stay, and with them all parts
 all_in : {E : Type 0} (s : State) (marks : Marks) (old : List Part) (places : List ℕ) (found : List Part) (r : Result Changing E)

@@ -4,7 +4,7 @@ use Rattle.linked_parts.specs.declared.part.Part.{Part}
 use Rattle.linked_parts.specs.Tables.{parts_in, table_parts}
 use Rattle.linked_parts.specs.Changes.{IsElsewhere, MayCome, without}
 use Rattle.linked_parts.proofs.Readying.{stay_is}
-use Rattle.linked_parts.proofs.table_change.PartTable.change.Goals as goal
+use Rattle.linked_parts.proofs.table.PartTable.change.Goals as goal
 
 pub plan-requires-clause-come : goal.plan-requires-clause-come
 plan-requires-clause-come c =
