@@ -109,28 +109,30 @@ impl History {
         ensures memory { result ≡ Err HistoryFault.OutOfMemory → self.new ≡ self.old }
     {
         let parts = replace(&mut self.parts, Parts::new(alloc));
-        match parts.change(alloc, state, marks) {
-            Ok(change) => {
-                let ended = end_with(
-                    alloc,
-                    &mut self.graph,
-                    state,
-                    &change,
-                    code,
-                    meter,
-                    steps,
-                    marks,
-                );
-                if ended.is_ok() {
-                    self.parts = change.commit(alloc);
-                } else {
-                    self.parts = change.cancel();
-                }
-                ended
-            }
+        let change = match parts.change(alloc, state, marks) {
+            Ok(change) => change,
             Err(parts) => {
                 self.parts = parts;
-                Err(HistoryFault::OutOfMemory)
+                return Err(HistoryFault::OutOfMemory);
+            }
+        };
+        match end_with(
+            alloc,
+            &mut self.graph,
+            state,
+            &change,
+            code,
+            meter,
+            steps,
+            marks,
+        ) {
+            Ok(()) => {
+                self.parts = change.commit(alloc);
+                Ok(())
+            }
+            Err(fault) => {
+                self.parts = change.cancel();
+                Err(fault)
             }
         }
     }

@@ -137,13 +137,7 @@ fn shown(alloc: Global, line: &Value) -> Result<Text> {
     let cells = line.get("cells");
     let Some(checkpoint) = line.get("checkpoint") else {
         let cells = cells.unwrap_or(line);
-        return shown_after(
-            alloc,
-            Notebook::opened(alloc, 0),
-            feed,
-            Some(cells),
-            line,
-        );
+        return shown_after(alloc, Notebook::opened(alloc, 0), feed, Some(cells), line);
     };
     let bytes = bytes_of(alloc, checkpoint)?;
     match restore(alloc, bytes.as_slice(), 0) {

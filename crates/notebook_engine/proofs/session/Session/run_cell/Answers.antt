@@ -53,13 +53,12 @@ end_cell-requires-clause-after g c =
     let ran = c.in-Ok.ensures in
     let state : c.run_code.new.kernel.state ≡ end_state body before draws = ran.state ∙ ap (λ (s : State). end_state body s draws) c.raise.ensures.state in
     let ended : c.in-Ok.ran.0 ≡ end body before draws = ran.end ∙ ap (λ (s : State). end body s draws) c.raise.ensures.state in
-    let marks : c.in-Ok.ran.0.marks ≡ (outcome body before draws).1.marks = ap (λ (z : CellEnd). z.marks) ended in
-    (
+    let marks : c.in-Ok.ran.0.marks ≡ (outcome body before draws).1.marks = ap (λ (z : CellEnd). z.marks) ended in (
       before,
       closed_before,
       counted_parts t (t.count + cond c.args.counted 1 0) c.args.self.now.history.parts c.requires.usable.history.parts,
       subst (IsAfter before c.in-Ok.ran.0.marks) (sym (c.state-state.ensures ∙ state))
-      (subst (λ (m : Marks). IsAfter before m (end_state body before draws)) (sym marks) (is_after body before draws closed_before)),
+          (subst (λ (m : Marks). IsAfter before m (end_state body before draws)) (sym marks) (is_after body before draws closed_before)),
     )
 
 pub returns-in-Ok-reply_of-clause-ran : goal.returns-in-Ok-reply_of-clause-ran
