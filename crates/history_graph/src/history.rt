@@ -1,4 +1,4 @@
-ghost use Rattle.std.specs.Prelude.{◌≡◌, ◌<◌, ◌^◌, [], Err, IfOk, OnOk, IfErr, length};
+ghost use Rattle.std.specs.Prelude.{◌≡◌, ◌<◌, ◌^◌, [], Err, OnOk, IfErr, length};
 ghost use Rattle.py_heap.specs.declared.state.State.{State};
 ghost use Rattle.py_heap.specs.References.{IsClosed};
 ghost use Rattle.py_heap.specs.States.{empty};
@@ -17,7 +17,7 @@ use graph_model::Graph;
 use linked_parts::Parts;
 use py_heap::State;
 use py_machine::Marks;
-use std::alloc::{AllocError, Global};
+use std::alloc::{Global};
 use std::marker::Model;
 use std::mem::replace;
 

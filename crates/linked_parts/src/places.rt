@@ -1,4 +1,4 @@
-ghost use Rattle.std.specs.Prelude.{ℕ, ◌≡◌, ◌<◌, ◌↔◌, List, length, Contains, IsTrue};
+ghost use Rattle.std.specs.Prelude.{ℕ, ◌≡◌, ◌<◌, ◌↔◌, length, Contains, IsTrue};
 ghost use Rattle.graph_model.specs.Faults.{TextBelow, least_name};
 ghost use Rattle.linked_parts.specs.Tables.{least_at, IsInOrder};
 ghost use Rattle.linked_parts.specs.Places.{IsPlace};

@@ -6,7 +6,7 @@ ghost use Rattle.linked_parts.specs.Moves.{KeepsNumbers, IsWider};
 use crate::moves::{blank, push_within};
 use crate::part::Part;
 use crate::table::Table;
-use plain_data::{Items, Text, TextMap};
+use plain_data::{Text, TextMap};
 use std::alloc::{AllocError, Global};
 
 /// Makes names known that aren't. After an error some of them may be.

@@ -1,4 +1,4 @@
-ghost use Rattle.std.specs.Prelude.{ℕ, ◌≡◌, ◌<◌, length, IfSome};
+ghost use Rattle.std.specs.Prelude.{◌≡◌, ◌<◌, length};
 ghost use Rattle.linked_parts.specs.Slots.{slot_at, with_prev, with_next, with_head, FitsIn};
 
 use plain_data::Items;

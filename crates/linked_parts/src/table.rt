@@ -3,7 +3,7 @@ ghost use Rattle.std.specs.List.{AllPairs};
 ghost use Rattle.std.specs.FinMap as finite;
 ghost use Rattle.linked_parts.specs.declared.part.Part.{Part};
 ghost use Rattle.linked_parts.specs.Tables.{names_at, IsWhole};
-ghost use Rattle.linked_parts.specs.Parts.{HasNameAt, room_in};
+ghost use Rattle.linked_parts.specs.Parts.{HasNameAt};
 
 use crate::lists::ObjectLists;
 use crate::objects::Objects;

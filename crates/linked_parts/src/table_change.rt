@@ -2,7 +2,6 @@ ghost use Rattle.std.specs.Prelude.{ℕ, ◌≡◌, ◌+◌, ◌-◌, ◌^◌, �
 ghost use Rattle.linked_parts.specs.declared.part.Part.{Part};
 ghost use Rattle.linked_parts.specs.Tables.{table_parts, IsWhole};
 ghost use Rattle.linked_parts.specs.Parts.{room_in};
-ghost use Rattle.linked_parts.specs.Moves.{IsWithout};
 ghost use Rattle.linked_parts.specs.Changes.{changing, IsReady, MayCome, IsElsewhere, IsCommitted};
 
 use crate::part::Part;
