@@ -18,7 +18,7 @@ use Rattle.linked_parts.specs.Tables.{Numbers, objects_from, no_head, head_at, n
 use Rattle.py_machine.specs.Marked.{Name}
 use Rattle.linked_parts.specs.Moves.{AreGiven}
 use Rattle.linked_parts.proofs.TableLists.{free_apart, one_number, in_removed, still_in, sum_on, pairs_on}
-use Rattle.linked_parts.proofs.Objects.{objects_alike}
+use Rattle.linked_parts.proofs.TableObjects.{objects_alike}
 use Rattle.linked_parts.proofs.Wholes.{is_or_not, whole_by}
 
 module _ (t : Table) (whole : IsWhole t) (number place : ℕ) (place_in : place < length t.order.items) (is : slice_index t.order.items place ≡ number) where

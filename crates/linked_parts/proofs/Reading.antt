@@ -15,7 +15,7 @@ use Rattle.linked_parts.specs.Tables.{no_head, head_at, names_at, least_at, part
 use Rattle.linked_parts.specs.Parts.{HasNameAt}
 use Rattle.py_machine.specs.Marked.{Name}
 use Rattle.linked_parts.proofs.TableLists.{one_number, none_in, map_in, of_map}
-use Rattle.linked_parts.proofs.Objects.{objects_members}
+use Rattle.linked_parts.proofs.TableObjects.{objects_members}
 
 pub head_read : (heads : List Head) (n : ℕ) (h : Head) → n < length heads → h ≡ get_or heads n h → h ≡ head_at heads n
 head_read heads n h l e = e ∙ get_or_default heads n h no_head l

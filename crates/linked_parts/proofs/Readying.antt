@@ -21,7 +21,7 @@ use Rattle.py_machine.specs.Marked.{Name}
 use Rattle.linked_parts.specs.Moves.{IsWithout, CanPutIn, IsWith, IsWider}
 use Rattle.linked_parts.specs.Changes.{TableChanging, AreApart, IsOrderly, IsElsewhere, MayCome, IsCommitted, is_among, without, changing, IsReady}
 use Rattle.linked_parts.proofs.TableLists.{none_in, has_number, map_in, of_map, of_filter, in_filter, front_pairs, last_pairs, front_in, in_front, last_in}
-use Rattle.linked_parts.proofs.Objects.{objects_members}
+use Rattle.linked_parts.proofs.TableObjects.{objects_members}
 use Rattle.linked_parts.proofs.Wholes.{is_or_not}
 use Rattle.linked_parts.proofs.Widening.{wider_whole, wider_part}
 

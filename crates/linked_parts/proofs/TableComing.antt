@@ -18,7 +18,7 @@ use Rattle.py_machine.specs.Marked.{Name}
 use Rattle.linked_parts.specs.Places.{IsPlace}
 use Rattle.linked_parts.specs.Moves.{IsFilled, AreGiven, CanPutIn}
 use Rattle.linked_parts.proofs.TableLists.{free_apart, one_number, has_number, inserted_cases, inserted_new, inserted_old, inserted_pairs, sum_on, pairs_on}
-use Rattle.linked_parts.proofs.Objects.{objects_members, objects_sorted, objects_alike, sorted_same}
+use Rattle.linked_parts.proofs.TableObjects.{objects_members, objects_sorted, objects_alike, sorted_same}
 use Rattle.linked_parts.proofs.Orders.{below_cases}
 use Rattle.linked_parts.proofs.Wholes.{whole_by}
 

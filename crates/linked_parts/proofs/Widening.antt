@@ -16,7 +16,7 @@ use Rattle.linked_parts.specs.Tables.{Numbers, objects_from, no_head, head_at, n
 use Rattle.py_machine.specs.Marked.{Name}
 use Rattle.linked_parts.specs.Moves.{KeepsNumbers, IsWider}
 use Rattle.linked_parts.proofs.TableLists.{map_on, sum_on, pairs_on}
-use Rattle.linked_parts.proofs.Objects.{objects_alike}
+use Rattle.linked_parts.proofs.TableObjects.{objects_alike}
 use Rattle.linked_parts.proofs.Indexes.{keeps_itself, keeps_on, keeps_number, keeps_has}
 
 pub wider_itself : (t : Table) → length t.heads ≡ t.lists.count → IsWider t t

@@ -5,7 +5,7 @@ ghost use Rattle.linked_parts.specs.Placed.{part_at};
 ghost use Rattle.linked_parts.specs.Tables.{no_head, IsWhole};
 ghost use Rattle.linked_parts.specs.Moves.{IsFilled, AreGiven, IsWithout, CanPutIn, IsWith};
 
-use crate::lists::ObjectLists;
+use crate::object_lists::ObjectLists;
 use crate::part::Part;
 use crate::places::place_of;
 use crate::table::{Head, Table};

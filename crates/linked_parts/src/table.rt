@@ -5,7 +5,7 @@ ghost use Rattle.linked_parts.specs.declared.part.Part.{Part};
 ghost use Rattle.linked_parts.specs.Tables.{names_at, IsWhole};
 ghost use Rattle.linked_parts.specs.Parts.{HasNameAt};
 
-use crate::lists::ObjectLists;
+use crate::object_lists::ObjectLists;
 use crate::objects::Objects;
 use crate::places::place_of;
 use plain_data::{Items, Text, TextMap};

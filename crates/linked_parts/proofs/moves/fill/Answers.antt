@@ -1,4 +1,4 @@
-use Rattle.linked_parts.proofs.Objects.{next_within, next_free, filled_more}
+use Rattle.linked_parts.proofs.TableObjects.{next_within, next_free, filled_more}
 use Rattle.linked_parts.proofs.moves.fill.Goals as goal
 
 pub push-requires-clause-within : goal.push-requires-clause-within

@@ -1,6 +1,6 @@
 use Rattle.linked_parts.specs.Placed.{count_in}
 use Rattle.linked_parts.proofs.Clearing.{IsClearing}
-use Rattle.linked_parts.proofs.lists.ObjectLists.clear.Given as goal
+use Rattle.linked_parts.proofs.object_lists.ObjectLists.clear.Given as goal
 
 abbrev pub invariant-loop-at : goal.invariant-loop-at
 invariant-loop-at l = IsClearing l.part l.fn.self l.self

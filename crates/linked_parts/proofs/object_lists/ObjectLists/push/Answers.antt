@@ -2,7 +2,7 @@ use Rattle.std.proofs.Common.{◌≡◌, ◌<◌, length, None, sym, ◌∙◌, 
 use Rattle.linked_parts.specs.Placed.{Placed, part_at}
 use Rattle.linked_parts.specs.Slots.{slot_at}
 use Rattle.linked_parts.proofs.Chains.{part_placed, length_placed, push_fits, push_linked, push_placed}
-use Rattle.linked_parts.proofs.lists.ObjectLists.push.Goals as goal
+use Rattle.linked_parts.proofs.object_lists.ObjectLists.push.Goals as goal
 
 pub set_prev-requires : goal.set_prev-requires
 set_prev-requires c =

@@ -2,7 +2,7 @@ use Rattle.std.proofs.Common.{◌≡◌, ◌≢◌, ℕ, ◌<◌, List, length, 
 use Rattle.std.specs.Prelude.{MatchOption}
 use Rattle.linked_parts.specs.Placed.{Placed, part_at}
 use Rattle.linked_parts.proofs.Clearing.{first_is}
-use Rattle.linked_parts.proofs.lists.ObjectLists.first.Goals as goal
+use Rattle.linked_parts.proofs.object_lists.ObjectLists.first.Goals as goal
 
 pub returns : goal.returns
 returns c =

@@ -2,7 +2,7 @@ use Rattle.std.proofs.Common.{◌≡◌, Some, sym, ◌∙◌, subst}
 use Rattle.linked_parts.specs.Placed.{Placed, part_at}
 use Rattle.linked_parts.specs.Slots.{slot_at}
 use Rattle.linked_parts.proofs.Chains.{part_placed, unlink_fits_b, unlink_fits_n, unlink_linked, unlink_placed}
-use Rattle.linked_parts.proofs.lists.ObjectLists.unlink.Goals as goal
+use Rattle.linked_parts.proofs.object_lists.ObjectLists.unlink.Goals as goal
 
 pub set_next-requires : goal.set_next-requires
 set_next-requires c =

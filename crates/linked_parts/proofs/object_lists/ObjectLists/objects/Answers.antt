@@ -5,7 +5,7 @@ use Rattle.linked_parts.specs.Placed.{Placed, part_at}
 use Rattle.linked_parts.specs.Chains.{placed}
 use Rattle.linked_parts.specs.Walks.{walk, IsRest}
 use Rattle.linked_parts.proofs.Walks.{walk_objects, walk_once, walk_rest}
-use Rattle.linked_parts.proofs.lists.ObjectLists.objects.Goals as goal
+use Rattle.linked_parts.proofs.object_lists.ObjectLists.objects.Goals as goal
 
 pub invariant_of-result : goal.invariant_of-result
 invariant_of-result c =
