@@ -7,7 +7,8 @@ use Rattle.std.specs.Cmp.Lexicographic.{slice_cmp}
 use Rattle.std.specs.FinMap as finite
 use Rattle.std.proofs.Math.Bool.{beq}
 use Rattle.std.proofs.lemmas.Bool.{cases_Bool, cases_eq, false≢true, and_from}
-use Rattle.std.proofs.lemmas.Option.{none-some}
+use Rattle.std.proofs.lemmas.Option.{none-some, same_Some, slice_get-get_or}
+use Rattle.std.proofs.lemmas.List.Elements.{All-contains}
 use Rattle.py_value.specs.declared.value.Value.{Value}
 use Rattle.py_heap.specs.declared.state.State.{State}
 use Rattle.py_heap.specs.References.{IsClosed}
@@ -20,17 +21,16 @@ use Rattle.graph_model.specs.Faults.{TextBelow, Ascends}
 use Rattle.graph_model.proofs.Lookups.{same_version, version_within}
 use Rattle.linked_parts.specs.declared.part.Part.{Part}
 use Rattle.linked_parts.specs.PartList.{PartList}
-use Rattle.linked_parts.specs.Parts.{HasValue, IsPart, IsPartOf, ArePartsOf}
-use Rattle.linked_parts.proofs.Lists.{below_on, never_below_itself, least_in}
+use Rattle.linked_parts.specs.Parts.{HasNameAt, HasValue, IsPart, IsPartOf, ArePartsOf}
+use Rattle.linked_parts.proofs.Lists.{none_in, below_on, never_below_itself, least_in}
 use Rattle.linked_parts.proofs.Names.{linked_values}
 use Rattle.run_graph.specs.Parts.{HasHandle}
 use Rattle.part_bytes.specs.Texts.{part_text}
-use Rattle.history_graph.specs.Written.{WasPart, Numbered, IsByLeast}
+use Rattle.history_graph.specs.Written.{WasPart}
 use Rattle.history_graph.specs.Sets.{Names, Has, IsWith}
 use Rattle.history_graph.proofs.Bridge.{handle_held}
 use Rattle.linked_parts.proofs.Keys.{keys_ascend, in_keys, of_keys}
 use Rattle.history_graph.proofs.Ending.{was_one}
-use Rattle.history_graph.proofs.Least.{was_found}
 use Rattle.part_bytes.specs.Sizing.{holds_handle, have_values, size_of}
 use Rattle.replay_laws.proofs.Sizing.{handle_told}
 use Rattle.state_judge.specs.Agreeing.{IsAsSaid, Disagrees, IsUnlike, IsLoose, IsFirstLoose}
@@ -102,12 +102,25 @@ no_part_said s parts x are none said = none (was_one s parts are x.names said.pa
 
 -- ---- the part with some names
 
-module _ (s : State) (parts : PartList) (are : ArePartsOf s parts) (index : Numbered) (h : IsByLeast parts (length parts.list) index) (names : List Name) (least : Name) (more : List Name) (e : names ≡ least ∷ more) where
-  none_there : (n : ℕ) → ((q : Part) → slice_get parts.list n ≡ Some q → ¬ (q.names ≡ names)) → IsTrue false ↔ ((q : Part) × (slice_get parts.list n ≡ Some q) × (q.names ≡ names))
-  none_there n none = (λ t. absurd (false≢true t), λ (q, at, f). absurd (none q at f))
+module _ (s : State) (parts : PartList) (are : ArePartsOf s parts) (names : List Name) where
+  -- it has each of them, and it has some
+  pub was_named : (x : Name) → Contains names x → WasPart parts names → (k : ℕ) × (p : Part) × (slice_get parts.list k ≡ Some p) × (p.names ≡ names) × HasNameAt parts.list k x
+  was_named x c w =
+      let at : slice_get parts.list w.1.0 ≡ Some w.0 = slice_get-get_or parts.list w.1.0 w.0 w.1.1 ∙ ap (λ (p : Part). Some p) w.1.2 in
+      (w.1.0, w.0, at, w.2, (w.0, at, subst (λ ns. Contains ns x) (sym w.2) c))
 
-  pub was_no_part : (n : ℕ) → finite.get index least ≡ Some n → ((q : Part) → slice_get parts.list n ≡ Some q → ¬ (q.names ≡ names)) → ¬ WasPart parts names
-  was_no_part n some none w = false≢true ((was_found s parts are index h names least more e n some false (none_there n none)).1 w)
+  pub was_some : names ≡ [] → ¬ WasPart parts names
+  was_some e w =
+      let is : IsPartOf s w.0 = All-contains (IsPartOf s) parts.list w.0 are.parts w.1 in
+      let x = is.names.some in
+      none_in x.0 (subst (λ ns. Contains ns x.0) (w.2 ∙ e) x.1)
+
+  -- and it is the only one with one of them
+  pub was_other : (n : ℕ) (p : Part) (x : Name) → slice_get parts.list n ≡ Some p → Contains names x → ((k : ℕ) → HasNameAt parts.list k x → k ≡ n) → ¬ (p.names ≡ names) → ¬ WasPart parts names
+  was_other n p x at c only out w =
+      let v = was_named x c w in
+      let same : v.1 ≡ p = same_Some v.1 p (sym v.2 ∙ subst (λ (k : ℕ). slice_get parts.list k ≡ Some p) (sym (only v.0 v.4)) at) in
+      out (ap (λ (q : Part). q.names) (sym same) ∙ v.3)
 
 -- ---- a name with a value
 

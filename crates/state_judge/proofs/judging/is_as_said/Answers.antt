@@ -1,20 +1,13 @@
 use Rattle.std.proofs.Common.{List, ℕ, ◌∙◌, subst}
 use Rattle.std.proofs.lemmas.Bool.{false≢true}
-use Rattle.std.proofs.lemmas.List.Elements.{All-contains}
-use Rattle.linked_parts.specs.Parts.{IsPartOf}
 use Rattle.history_graph.specs.Written.{WasPart}
 use Rattle.state_judge.proofs.Agreed.{no_part_said}
 use Rattle.state_judge.proofs.judging.is_as_said.Goals as goal
 
 pub is_like-requires-clause-part : goal.is_like-requires-clause-part
 is_like-requires-clause-part c =
-    let s = c.args.state.now in
-    let parts = c.args.parts.now in
-    let found = c.in-Some.ensures s c.requires.parts in
-    All-contains (IsPartOf s) parts.list c.in-Some.part.now c.requires.parts.parts found.0
-
-pub is_like-requires-clause-names : goal.is_like-requires-clause-names
-is_like-requires-clause-names c = (c.in-Some.ensures c.args.state.now c.requires.parts).1 ∙ c.as_slice.ensures
+    let w = c.in-Some.ensures c.args.state.now c.requires.parts in
+    (w.0, w.1, w.2 ∙ c.as_slice.ensures)
 
 pub returns-in-None : goal.returns-in-None
 returns-in-None c =

@@ -21,3 +21,33 @@ place_of-place-requires-clause-within c = λ n h.
 
 pub place_of-place-requires-clause-ordered : goal.place_of-place-requires-clause-ordered
 place_of-place-requires-clause-ordered c = rw c.as_slice.ensures.value c.requires.whole.ordered
+
+-- the room of the parts is far below 128 bits
+room_bounded : (t : Table) → IsWhole t → t.room ≤ length t.order.items * 18446744073709551615
+room_bounded t whole =
+    let each : All (λ n. head_room t.heads n ≤ 18446744073709551615) t.order.items = λ k d l. (let s = whole.small (get_or t.order.items k d) in omega (arith, s)) in
+    let l = sum_by-le (head_room t.heads) 18446744073709551615 t.order.items each in
+    let r = whole.room in
+    omega (arith, l, r)
+
+place_there : (t : Table) (names order named : List (List ℕ)) (is : List ℕ) (place : ℕ) → is ≡ t.order.items → named ≡ names → IsPlace t.heads is (least_name named) place → IsPlace t.heads t.order.items (least_name names) place
+place_there t names order named is place e f h =
+    subst (λ ns. IsPlace t.heads t.order.items (least_name ns) place) f (subst (λ ns. IsPlace t.heads ns (least_name named) place) e h)
+
+pub fill-requires-clause-number : goal.fill-requires-clause-number
+fill-requires-clause-number c = c.requires.fits.listed
+
+pub fill-requires-clause-once : goal.fill-requires-clause-once
+fill-requires-clause-once c = rw c.as_slice-3.ensures c.requires.fits.ascends
+
+pub fill-requires-clause-within : goal.fill-requires-clause-within
+fill-requires-clause-within c = rw c.as_slice-3.ensures c.requires.fits.within
+
+pub fill-requires-clause-free : goal.fill-requires-clause-free
+fill-requires-clause-free c = rw c.as_slice-3.ensures c.requires.fits.free
+
+pub give-requires : goal.give-requires
+give-requires c = λ x h. subst (λ (o : Option (Option ℕ)). IsSome o) (sym (c.requires.fits.known x (subst (λ ns. Contains ns x) c.as_slice-4.ensures h))) refl
+
+pub set-requires : goal.set-requires
+set-requires c = let l = c.requires.fits.listed in let e = c.requires.whole.table.count in omega (arith, l, e)
