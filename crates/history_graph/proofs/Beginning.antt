@@ -13,7 +13,7 @@ use Rattle.graph_model.specs.declared.graph.Version.{Version}
 use Rattle.graph_model.specs.declared.graph.Graph.{Graph}
 use Rattle.graph_model.specs.Graphs.{CellAt, VersionAt}
 use Rattle.graph_model.specs.Faults.{IsGraph}
-use Rattle.linked_parts.specs.declared.parts.Parts.{Parts}
+use Rattle.linked_parts.specs.PartList.{PartList}
 use Rattle.linked_parts.specs.Parts.{HasValue, IsPartOf, ArePartsOf}
 use Rattle.checkpoint_bytes.specs.Sessions.{AreVersionsOf}
 use Rattle.history_graph.specs.Histories.{HistoryView}
@@ -22,7 +22,7 @@ use Rattle.history_graph.specs.Usable.{IsUsableHistory}
 abbrev pub no_graph : Graph
 no_graph = record { cells = []; versions = [] }
 
-abbrev pub no_parts : Parts
+abbrev pub no_parts : PartList
 no_parts = record { list = [] }
 
 none_named : (x : Name) → ¬ HasValue empty x
