@@ -6,6 +6,7 @@ use Rattle.std.proofs.lemmas.List.{get_or-map, get_or-take, get_or-set_same, get
 use Rattle.std.proofs.lemmas.List.Quantifiers.{position-Some}
 use Rattle.std.proofs.lemmas.Option.{slice_get-map, slice_get-get_or}
 use Rattle.std.proofs.lemmas.List.Elements.{All-head, All-tail, All-filter, filter_passes, filter-append}
+use Rattle.std.specs.Map.{lookup}
 use Rattle.std.proofs.lemmas.Map.Keys.{apart_from_distinct, IsDistinct-from_apart}
 use Rattle.indexmap.specs.IndexMap.{insert_entry}
 use Rattle.py_heap.specs.Orders.{IsOrder, numbers_below, renamed, without}
@@ -17,7 +18,7 @@ use Rattle.py_value.specs.declared.value.Value.TheVariants as value
 use Rattle.py_value.specs.Keys.{same_key}
 use Rattle.py_heap.specs.Dicts.{Pairs, HasNoKeyTwice, value_under, with_pair, without_key}
 use Rattle.py_heap.specs.Entries.{entry_in, in_order, AreEntries}
-use Rattle.py_heap.proofs.Pairs.{equal_keys, inserted}
+use Rattle.py_heap.proofs.Pairs.{equal_keys, looked_up}
 
 abbrev blank : Key × Value
 blank = (key.Nothing, value.Nothing)
@@ -53,10 +54,10 @@ one_entry entries d k i j li lj a b = elim (cases_lt i j) [
         false≢true (sym apart ∙ together)
 
 -- the entry with a key, if there is one
-record HasEntry (entries : Pairs) (k : Key) (number : ℕ) : Type 0 where
-  within : number < length entries
-  here : same_key k (key_in entries number) ≡ true
-  alone : (n : ℕ) → n < length entries → n ≢ number → same_key k (key_in entries n) ≡ false
+pub record HasEntry (entries : Pairs) (k : Key) (number : ℕ) : Type 0 where
+  pub within : number < length entries
+  pub here : same_key k (key_in entries number) ≡ true
+  pub alone : (n : ℕ) → n < length entries → n ≢ number → same_key k (key_in entries n) ≡ false
 
 entry_with : (entries : Pairs) → HasNoKeyTwice entries → (k : Key) (number : ℕ) → number < length entries → same_key k (key_in entries number) ≡ true → HasEntry entries k number
 entry_with entries d k number l h = record {
@@ -279,6 +280,14 @@ found_at entries d k number e =
     let it = entry_with entries d k number within here in
     let all : value_under entries k ≡ value_under (picked entries (numbers_below (length entries))) k = ap (λ ps. value_under ps k) (sym (all_picked entries)) in
     (within, all ∙ value_picked entries k number it (numbers_below (length entries)) (all_in entries) (contains_all (length entries) number within), here)
+
+not_some : (o : Option Value) → not (is_some o) ≡ is_none o
+not_some None = refl
+not_some (Some v) = refl
+
+-- a key that is looked up in vain
+pub is_new : (pairs : Pairs) (k : Key) → not (is_some (lookup (same_key k) pairs)) ≡ is_none (value_under pairs k)
+is_new pairs k = ap (λ o. not (is_some o)) (looked_up pairs k) ∙ not_some (value_under pairs k)
 
 -- ---- what is put
 

@@ -406,3 +406,17 @@ module _ (places slots sums : List ℕ) (room number : ℕ) (t : AreTables place
             m ∙ ap (λ (ms : List ℕ). set ms place 0) t.are_marks ∙ set-append_left (map mark places) (replicate (room - length places) 1) place 0 (omega arith)
             ∙ (λ i. sym marks_later i ++ replicate (room - sym ll i) 1);
       }
+
+  -- the same, where each of them is given under another name
+  pub tables_so : (m p : ℕ) (ss lowered : List ℕ) (r : ℕ) → m ≡ moved → p ≡ place → ss ≡ fewer → r ≡ room → AreSums r lowered → marks r lowered ≡ set (marks r sums) p 0
+      → AreTables (set (set places m number) p gone) ss lowered room
+  tables_so m p ss lowered r a b e f s ms =
+      let is : AreSums room lowered = subst (λ k. AreSums k lowered) f s in
+      let are : marks room lowered ≡ set (marks room sums) place 0 = (λ i. marks (sym f i) lowered) ∙ ms ∙ (λ i. set (marks (f i) sums) (b i) 0) in
+      rw (a, b, e) (tables_without lowered is are)
+
+  pub held_so : (m p : ℕ) → m ≡ moved → p ≡ place → held (set (set places m number) p gone) ≡ without (held places) number
+  held_so m p a b = (λ i. held (set (set places (a i) number) (b i) gone)) ∙ held_without
+
+  pub one_less : length (without (held places) number) + 1 ≡ length (held places)
+  one_less = ap (λ (ns : List ℕ). length ns + 1) (sym held_without) ∙ count_later ∙ sym t.count

@@ -17,6 +17,6 @@ in_order None entries = entries
 in_order (Some order) entries = map (entry_in entries) order
 
 -- no key comes twice, and the order has each entry once
-pub record AreEntries (order : Option (List ℕ)) (entries : Pairs) : Type 0 where
+pub record AreEntries (sequence : Option (List ℕ)) (entries : Pairs) : Type 0 where
   pub unique : HasNoKeyTwice entries
-  pub order : IfSome order (λ numbers. IsOrder numbers × (length numbers ≡ length entries))
+  pub order : IfSome sequence (λ numbers. IsOrder numbers × (length numbers ≡ length entries))

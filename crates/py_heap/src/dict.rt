@@ -67,6 +67,7 @@ fn add_number(order: &mut Option<EntryOrder>) -> Result<(), AllocError>
 }
 
 /// Whether there is an order and a key is new to it.
+#[tactic(auto, using(crate::proofs::Entries::is_new))]
 fn goes_last(order: &Option<EntryOrder>, table: &IndexMap<Key, Value>, key: &Key) -> bool
     ensures { result ≡ (is_some order.now && is_none (value_under table.now.entries key.now)) }
 {

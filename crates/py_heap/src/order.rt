@@ -35,21 +35,6 @@ impl EntryOrder {
         })
     }
 
-    /// How many entries there are.
-    pub(crate) fn len(&self) -> usize
-        ensures value { result ≡ length self.now }
-        ensures order { IsOrder self.now }
-    {
-        self.tables.len()
-    }
-
-    /// Whether there are none.
-    pub(crate) fn is_empty(&self) -> bool
-        ensures { IsTrue result ↔ (self.now ≡ []) }
-    {
-        self.tables.len() == 0
-    }
-
     /// The number of the entry at a position, counted from 0.
     pub(crate) fn at(&self, position: usize) -> usize
         requires { position < length self.now }

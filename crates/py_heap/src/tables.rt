@@ -105,7 +105,8 @@ impl Tables {
 
     /// Lets go of the places without a number if most have none. Takes no memory.
     fn settle(&mut self)
-        ensures { held self.new.places ≡ held self.old.places }
+        ensures numbers { held self.new.places ≡ held self.old.places }
+        ensures order { IsOrder (held self.new.places) }
     {
         let count = self.slots.len();
         if self.places.len() - count > count {
