@@ -1,8 +1,8 @@
 -- The entries of a table in an order: what is found, put and taken out.
 use Rattle.std.proofs.Common.{◌≡◌, ◌≢◌, ℕ, zero, suc, ◌+◌, ◌-◌, ◌<◌, ◌≤◌, ◌==◌, ◌⊎◌, ◌&&◌, Bool, true, false, not, cond, List, [], ◌∷◌, ◌++◌, length, get_or, set, take, map, remove, Option, Some, None, slice_get, refl, sym, ap, ap₂, ◌∙◌, subst, inl, inr, arith}
 use Rattle.std.specs.Prelude.{All, AllPairs, Contains, filter, swap_remove, position, IfSome, MatchOption, option_map, is_some, is_none}
-use Rattle.std.proofs.lemmas.Bool.{cases_Bool, cases_eq, cases_lt, false≢true, true≢false, false_from_ne_true, eq-eqb, ne_eqb}
-use Rattle.std.proofs.lemmas.List.{get_or-map, get_or-take, get_or-set_same, get_or-set_other, get_or_default, get_or_append_left, get_or_push, length-map, length-set, length_push, append-nil, map-append, same_lists, nil_from_length}
+use Rattle.std.proofs.lemmas.Bool.{and_parts, cases_Bool, cases_eq, cases_lt, false≢true, true≢false, false_from_ne_true, eq-eqb, ne_eqb}
+use Rattle.std.proofs.lemmas.List.{get_or-map, get_or-take, get_or-set_same, get_or-set_other, get_or_default, get_or_append_left, get_or_push, length-map, length-set, length_push, length-take-le, append-nil, map-append, same_lists, nil_from_length}
 use Rattle.std.proofs.lemmas.List.Quantifiers.{position-Some}
 use Rattle.std.proofs.lemmas.Option.{slice_get-map, slice_get-get_or}
 use Rattle.std.proofs.lemmas.List.Elements.{All-head, All-tail, All-filter, filter_passes, filter-append}
@@ -18,7 +18,7 @@ use Rattle.py_value.specs.declared.value.Value.TheVariants as value
 use Rattle.py_value.specs.Keys.{same_key}
 use Rattle.py_heap.specs.Dicts.{Pairs, HasNoKeyTwice, value_under, with_pair, without_key}
 use Rattle.py_heap.specs.Entries.{entry_in, in_order, AreEntries}
-use Rattle.py_heap.proofs.Pairs.{equal_keys, looked_up}
+use Rattle.py_heap.proofs.Pairs.{equal_keys, looked_up, inserted}
 
 abbrev blank : Key × Value
 blank = (key.Nothing, value.Nothing)
@@ -448,3 +448,102 @@ none_taken (pair ∷ pairs) k e = elim (cases_Bool (same_key k pair.0)) [
 pub same_taken : (pairs : Pairs) (k l : Key) → same_key k l ≡ true → without_key pairs k ≡ without_key pairs l
 same_taken [] k l e = refl
 same_taken (pair ∷ pairs) k l e = λ i. cond (equal_keys.congr k l pair.0 e i) pairs (pair ∷ same_taken pairs k l e i)
+
+-- ---- what the calls do, case by case
+
+-- an order that is begun
+pub begun : (old : Option (List ℕ)) (entries : Pairs) (numbers : List ℕ) (count : ℕ) → is_some old ≡ false → AreEntries old entries → count ≡ length entries → numbers ≡ numbers_below count → IsOrder numbers
+    → AreEntries (Some numbers) entries × (in_order (Some numbers) entries ≡ in_order old entries)
+begun None entries numbers count none kept c e o = (
+  record { unique = kept.unique; order = (o, ap (λ (ns : List ℕ). length ns) e ∙ length-numbers_below count ∙ c) },
+  ap (picked entries) (e ∙ ap numbers_below c) ∙ all_picked entries,
+)
+begun (Some old) entries numbers count none kept c e o = absurd (true≢false none)
+
+-- an order that is ended
+pub ended : (order : Option (List ℕ)) (entries : Pairs) → AreEntries order entries → length entries ≡ 0 → AreEntries None entries × (in_order None entries ≡ in_order order entries)
+ended order entries kept none = (
+  record { unique = kept.unique; order = tt },
+  nil_from_length entries none ∙ sym (nil_from_length (in_order order entries) (length_in_order order entries kept ∙ none)),
+)
+
+pub number_within : (order : Option (List ℕ)) (entries : Pairs) (number : ℕ) → AreEntries order entries → number < length entries → IfSome order (λ numbers. number < length numbers)
+number_within None entries number kept l = tt
+number_within (Some numbers) entries number kept l = let size : length numbers ≡ length entries = kept.order.1 in omega arith
+
+pub position_within : (order : Option (List ℕ)) (entries : Pairs) (index : ℕ) → index < length (in_order order entries) → IfSome order (λ numbers. index < length numbers)
+position_within None entries index l = tt
+position_within (Some numbers) entries index l = let size = length-map numbers (entry_in entries) in omega arith
+
+-- an entry goes, and the last one has its number
+pub swapped_kept : (order new : Option (List ℕ)) (entries later : Pairs) (number : ℕ) (x : Key × Value) → is_some order ≡ true → AreEntries order entries → number < length entries
+    → new ≡ option_map (λ numbers. without numbers number) order → MatchOption order (new ≡ None) (λ numbers. IfSome new (λ fewer. (length fewer + 1 ≡ length numbers) × IsOrder fewer))
+    → later ≡ swap_remove entries number x → HasNoKeyTwice later → AreEntries new later × (in_order new later ≡ without_key (in_order order entries) (key_in entries number))
+swapped_kept None new entries later number x some kept there e m f d = absurd (false≢true some)
+swapped_kept (Some numbers) new entries later number x some kept there e m f d =
+    let size : length numbers ≡ length entries = kept.order.1 in
+    let less : (length (without numbers number) + 1 ≡ length numbers) × IsOrder (without numbers number) =
+    subst (λ o. IfSome o (λ fewer. (length fewer + 1 ≡ length numbers) × IsOrder fewer)) e m in
+    let fewer : length (without numbers number) + 1 ≡ length numbers = less.0 in
+    let stored : Pairs = set entries number (get_or entries (length entries - 1) x) in
+    let wide : length stored ≡ length entries = length-set entries number (get_or entries (length entries - 1) x) in
+    let long : length (swap_remove entries number x) ≡ length entries - 1 = length-take-le (length entries - 1) stored (omega arith) in
+    rw (e, f) (record { unique = subst HasNoKeyTwice f d; order = (less.1, omega arith) }, swapped_out entries kept.unique number there x numbers kept)
+
+-- an entry goes, and those after it move down
+pub shifted_kept : (order : Option (List ℕ)) (entries later : Pairs) (k : Key) → is_some order ≡ false → HasNoKeyTwice later → later ≡ without_key entries k
+    → AreEntries order later × (in_order order later ≡ without_key (in_order order entries) k)
+shifted_kept None entries later k none d e = (record { unique = d; order = tt }, e)
+shifted_kept (Some numbers) entries later k none d e = absurd (true≢false none)
+
+-- a new entry comes
+pub put_done : (order new : Option (List ℕ)) (entries later : Pairs) (k : Key) (v : Value) → AreEntries order entries → value_under (in_order order entries) k ≡ None
+    → new ≡ option_map (λ numbers. numbers ++ length numbers ∷ []) order → IfSome new IsOrder → later ≡ insert_entry same_key entries k v → HasNoKeyTwice later
+    → AreEntries new later × (in_order new later ≡ in_order order entries ++ (k, v) ∷ [])
+put_done order new entries later k v kept lacks e o f d =
+    let none : value_under entries k ≡ None = sym (value_in_order order entries kept k) ∙ lacks in
+    let is : later ≡ entries ++ (k, v) ∷ [] = f ∙ inserted entries k v ∙ put_new entries k v none in
+    rw (e, is) (kept_last order entries (k, v) kept (subst HasNoKeyTwice is d) (subst (λ os. IfSome os IsOrder) e o), put_last order entries (k, v) kept)
+
+-- a number that came goes again
+pub undone : (order new : Option (List ℕ)) (entries : Pairs) (number : ℕ) → AreEntries order entries → number ≡ length entries
+    → new ≡ option_map (λ numbers. without numbers number) (option_map (λ numbers. numbers ++ length numbers ∷ []) order) → new ≡ order
+undone None new entries number kept n e = e
+undone (Some numbers) new entries number kept n e =
+    let size : length numbers ≡ length entries = kept.order.1 in
+    e ∙ ap (λ (ns : List ℕ). Some ns) (ap (without (numbers ++ length numbers ∷ [])) (n ∙ sym size) ∙ push_taken numbers kept.order.0)
+
+no_value : (o : Option Value) → is_some o ≡ false → o ≡ None
+no_value None e = refl
+no_value (Some v) e = absurd (true≢false e)
+
+no_value_there : (o : Option Value) → is_none o ≡ true → o ≡ None
+no_value_there None e = refl
+no_value_there (Some v) e = absurd (false≢true e)
+
+-- a key that goes last is new
+pub last_is_new : (order : Option (List ℕ)) (entries : Pairs) (k : Key) (b : Bool) → AreEntries order entries → b ≡ (is_some order && is_none (value_under entries k)) → b ≡ true
+    → value_under (in_order order entries) k ≡ None
+last_is_new order entries k b kept e t = value_in_order order entries kept k ∙ no_value_there (value_under entries k) (and_parts (is_some order) (is_none (value_under entries k)) (sym e ∙ t)).1
+
+-- a pair is put where its key is
+pub put_there_so : (order : Option (List ℕ)) (entries later : Pairs) (k : Key) (v : Value) (b : Bool) → AreEntries order entries → b ≡ (is_some order && is_none (value_under entries k)) → b ≡ false
+    → later ≡ insert_entry same_key entries k v → HasNoKeyTwice later → (in_order order later ≡ with_pair (in_order order entries) k v) × AreEntries order later
+put_there_so order entries later k v b kept e t f d =
+    let is : later ≡ with_pair entries k v = f ∙ inserted entries k v in
+    rw is (put_in_place order entries kept k v (sym e ∙ t) (subst HasNoKeyTwice is d))
+
+-- what goes with a key that is found
+pub removed_one : (order : Option (List ℕ)) (entries : Pairs) (k : Key) (number : ℕ) → AreEntries order entries → position (same_key k) (keys_of entries) ≡ Some number
+    → (number < length entries) × (value_under (in_order order entries) k ≡ Some (entry_in entries number).1) × (without_key (in_order order entries) (key_in entries number) ≡ without_key (in_order order entries) k)
+removed_one order entries k number kept e =
+    let f = found_at entries kept.unique k number e in
+    (f.0, value_in_order order entries kept k ∙ f.1, sym (same_taken (in_order order entries) k (key_in entries number) f.2))
+
+-- and with one that isn't
+pub removed_none : (order : Option (List ℕ)) (entries : Pairs) (k : Key) → AreEntries order entries → is_some (lookup (same_key k) entries) ≡ false
+    → (None ≡ value_under (in_order order entries) k) × (in_order order entries ≡ without_key (in_order order entries) k)
+removed_none order entries k kept f =
+    let none : value_under entries k ≡ None = sym (looked_up entries k) ∙ no_value (lookup (same_key k) entries) f in
+    let lacks : value_under (in_order order entries) k ≡ None = value_in_order order entries kept k ∙ none in
+    (sym lacks, sym (none_taken (in_order order entries) k lacks))
