@@ -8,7 +8,6 @@ use Rattle.std.proofs.lemmas.Option.{slice_get-map, slice_get-get_or}
 use Rattle.std.proofs.lemmas.List.Elements.{All-head, All-tail, All-filter, filter_passes, filter-append}
 use Rattle.std.specs.Map.{lookup}
 use Rattle.std.proofs.lemmas.Map.Keys.{apart_from_distinct, IsDistinct-from_apart}
-use Rattle.indexmap.specs.IndexMap.{insert_entry}
 use Rattle.py_heap.specs.Orders.{IsOrder, numbers_below, renamed, without}
 use Rattle.py_heap.proofs.Orders.{filter_whole, number_at, length-numbers_below}
 use Rattle.py_value.specs.declared.key.Key.{Key}
@@ -18,7 +17,7 @@ use Rattle.py_value.specs.declared.value.Value.TheVariants as value
 use Rattle.py_value.specs.Keys.{same_key}
 use Rattle.py_heap.specs.Dicts.{Pairs, HasNoKeyTwice, value_under, with_pair, without_key}
 use Rattle.py_heap.specs.Entries.{entry_in, in_order, AreEntries}
-use Rattle.py_heap.proofs.Pairs.{equal_keys, looked_up, inserted}
+use Rattle.py_heap.proofs.Pairs.{equal_keys, looked_up}
 
 abbrev blank : Key × Value
 blank = (key.Nothing, value.Nothing)
@@ -312,6 +311,7 @@ put_after numbers entries pair a =
 -- a new entry in an order
 pub put_last : (order : Option (List ℕ)) (entries : Pairs) (pair : Key × Value) → AreEntries order entries
     → in_order (option_map (λ numbers. numbers ++ length numbers ∷ []) order) (entries ++ pair ∷ []) ≡ in_order order entries ++ pair ∷ []
+unfolding pick
 put_last None entries pair kept = refl
 put_last (Some numbers) entries pair kept =
     let p = pick (Some numbers) entries kept in
@@ -370,6 +370,7 @@ put_there (pair ∷ entries) k (suc number) v l t before =
 -- a pair is put where its key is, or last if there is no order
 pub put_in_place : (order : Option (List ℕ)) (entries : Pairs) → AreEntries order entries → (k : Key) (v : Value) → (is_some order && is_none (value_under entries k)) ≡ false
     → HasNoKeyTwice (with_pair entries k v) → (in_order order (with_pair entries k v) ≡ with_pair (in_order order entries) k v) × AreEntries order (with_pair entries k v)
+unfolding pick
 put_in_place None entries kept k v there d = (refl, record { unique = d; order = tt })
 put_in_place (Some numbers) entries kept k v there d =
     elim (some_or_none entries k) [
@@ -426,6 +427,7 @@ module _ (entries : Pairs) (d : HasNoKeyTwice entries) (number : ℕ) (there : n
       renamed_entry x n (head_in entries n ns a) (All-head (λ m. m ≢ number) n ns b) i ∷ renamed_picked x ns (tail_in entries n ns a) (All-tail (λ m. m ≢ number) n ns b) i
 
   pub swapped_out : (x : Key × Value) (numbers : List ℕ) → AreEntries (Some numbers) entries → picked (swapped x) (without numbers number) ≡ without_key (picked entries numbers) (key_in entries number)
+  unfolding pick
   swapped_out x numbers kept =
       let p = pick (Some numbers) entries kept in
       let test : ℕ → Bool = λ n. not (n == number) in
@@ -498,12 +500,12 @@ shifted_kept (Some numbers) entries later k none d e = absurd (true≢false none
 
 -- a new entry comes
 pub put_done : (order new : Option (List ℕ)) (entries later : Pairs) (k : Key) (v : Value) → AreEntries order entries → value_under (in_order order entries) k ≡ None
-    → new ≡ option_map (λ numbers. numbers ++ length numbers ∷ []) order → IfSome new IsOrder → later ≡ insert_entry same_key entries k v → HasNoKeyTwice later
-    → AreEntries new later × (in_order new later ≡ in_order order entries ++ (k, v) ∷ [])
+    → new ≡ option_map (λ numbers. numbers ++ length numbers ∷ []) order → IfSome new IsOrder → later ≡ with_pair entries k v → HasNoKeyTwice later
+    → AreEntries new later × (in_order new later ≡ with_pair (in_order order entries) k v)
 put_done order new entries later k v kept lacks e o f d =
     let none : value_under entries k ≡ None = sym (value_in_order order entries kept k) ∙ lacks in
-    let is : later ≡ entries ++ (k, v) ∷ [] = f ∙ inserted entries k v ∙ put_new entries k v none in
-    rw (e, is) (kept_last order entries (k, v) kept (subst HasNoKeyTwice is d) (subst (λ os. IfSome os IsOrder) e o), put_last order entries (k, v) kept)
+    let is : later ≡ entries ++ (k, v) ∷ [] = f ∙ put_new entries k v none in
+    rw (e, is) (kept_last order entries (k, v) kept (subst HasNoKeyTwice is d) (subst (λ os. IfSome os IsOrder) e o), put_last order entries (k, v) kept ∙ sym (put_new (in_order order entries) k v lacks))
 
 -- a number that came goes again
 pub undone : (order new : Option (List ℕ)) (entries : Pairs) (number : ℕ) → AreEntries order entries → number ≡ length entries
@@ -528,10 +530,8 @@ last_is_new order entries k b kept e t = value_in_order order entries kept k ∙
 
 -- a pair is put where its key is
 pub put_there_so : (order : Option (List ℕ)) (entries later : Pairs) (k : Key) (v : Value) (b : Bool) → AreEntries order entries → b ≡ (is_some order && is_none (value_under entries k)) → b ≡ false
-    → later ≡ insert_entry same_key entries k v → HasNoKeyTwice later → (in_order order later ≡ with_pair (in_order order entries) k v) × AreEntries order later
-put_there_so order entries later k v b kept e t f d =
-    let is : later ≡ with_pair entries k v = f ∙ inserted entries k v in
-    rw is (put_in_place order entries kept k v (sym e ∙ t) (subst HasNoKeyTwice is d))
+    → later ≡ with_pair entries k v → HasNoKeyTwice later → (in_order order later ≡ with_pair (in_order order entries) k v) × AreEntries order later
+put_there_so order entries later k v b kept e t f d = rw f (put_in_place order entries kept k v (sym e ∙ t) (subst HasNoKeyTwice f d))
 
 -- what goes with a key that is found
 pub removed_one : (order : Option (List ℕ)) (entries : Pairs) (k : Key) (number : ℕ) → AreEntries order entries → position (same_key k) (keys_of entries) ≡ Some number

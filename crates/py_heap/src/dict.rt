@@ -85,6 +85,40 @@ fn take_number(order: &mut Option<EntryOrder>, number: usize)
     }
 }
 
+/// Puts a pair into a table. After an error nothing is changed.
+fn insert_pair(table: &mut IndexMap<Key, Value>, key: Key, value: Value) -> Result<(), AllocError>
+    ensures ok { OnOk result (table.new.entries ≡ with_pair table.old.entries key value) }
+    ensures err { OnErr result (table.new.entries ≡ table.old.entries) }
+    ensures unique { HasNoKeyTwice table.new.entries }
+{
+    table.insert(key, value)?;
+    Ok(())
+}
+
+/// Puts a pair with a new key last. After an error nothing is changed.
+fn put_last(
+    order: &mut Option<EntryOrder>,
+    table: &mut IndexMap<Key, Value>,
+    key: Key,
+    value: Value,
+) -> Result<(), AllocError>
+    requires kept { AreEntries order.old table.old.entries }
+    requires lacks { value_under (in_order order.old table.old.entries) key ≡ None }
+    ensures kept { AreEntries order.new table.new.entries }
+    ensures ok { OnOk result (in_order order.new table.new.entries ≡ with_pair (in_order order.old table.old.entries) key value) }
+    ensures err { OnErr result (in_order order.new table.new.entries ≡ in_order order.old table.old.entries) }
+{
+    let number = table.len();
+    add_number(order)?;
+    match insert_pair(table, key, value) {
+        Ok(()) => Ok(()),
+        Err(refused) => {
+            take_number(order, number);
+            Err(refused)
+        }
+    }
+}
+
 /// Begins an order, if there is none and many entries come after one that is to be taken out. Says whether there is one.
 fn begin_order(order: &mut Option<EntryOrder>, table: &IndexMap<Key, Value>, number: usize) -> bool
     requires kept { AreEntries order.old table.now.entries }
@@ -217,23 +251,6 @@ impl Dict {
         }
     }
 
-    /// Puts a new key last. After an error nothing is changed.
-    fn put_last(&mut self, key: Key, value: Value) -> Result<(), AllocError>
-        requires { value_under self.old key ≡ None }
-        ensures ok { OnOk result (self.new ≡ self.old ++ (key, value) ∷ []) }
-        ensures err { OnErr result (self.new ≡ self.old) }
-    {
-        let number = self.table.len();
-        add_number(&mut self.order)?;
-        match self.table.insert(key, value) {
-            Ok(_old) => Ok(()),
-            Err(_refused) => {
-                take_number(&mut self.order, number);
-                Err(AllocError)
-            }
-        }
-    }
-
     /// Puts a value under a key. A key that is there keeps its position and its spelling; a new one goes last. After an error
     /// nothing is changed.
     pub fn put(&mut self, key: Key, value: Value) -> Result<(), AllocError>
@@ -241,9 +258,9 @@ impl Dict {
         ensures err { OnErr result (self.new ≡ self.old) }
     {
         if goes_last(&self.order, &self.table, &key) {
-            return self.put_last(key, value);
+            return put_last(&mut self.order, &mut self.table, key, value);
         }
-        self.table.insert(key, value)?;
+        insert_pair(&mut self.table, key, value)?;
         Ok(())
     }
 

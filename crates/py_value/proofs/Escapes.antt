@@ -1,15 +1,15 @@
 -- What shows as itself between quotes.
-use Rattle.std.proofs.Common.{◌≡◌, ℕ, ◌+◌, ◌-◌, ◌<◌, ◌≤◌, Bool, true, false, ◌==◌, nat_lt, nat_le, not, ◌&&◌, List, [], ◌∷◌, ◌++◌, length, get_or, take, drop, refl, ap, sym, ◌∙◌, subst, inl, inr, append_assoc, arith}
+use Rattle.std.proofs.Common.{◌≡◌, ℕ, ◌+◌, ◌-◌, ◌<◌, ◌≤◌, Bool, true, false, ◌==◌, nat_lt, nat_le, not, List, [], ◌∷◌, ◌++◌, length, get_or, take, drop, refl, ap, sym, ◌∙◌, subst, inl, inr, append_assoc, arith}
 use Rattle.std.specs.Prelude.{slice_range}
-use Rattle.std.proofs.lemmas.List.{take-append-drop, take_all, drop_all, drop_more, length-take-le, get_or-take, nil_from_length}
+use Rattle.std.proofs.lemmas.List.{take-append-drop, drop_more, length-take-le, get_or-take, nil_from_length}
 use Rattle.std.proofs.lemmas.List.Edits.{get_or-between, length-between}
 use Rattle.std.proofs.lemmas.List.Elements.{All-from_get_or}
 use Rattle.std.proofs.lemmas.List.Sums.{AllPass-from_list_all, list_all-from_AllPass}
 use Rattle.std.proofs.lemmas.Bool.{le-ltb, le-leb, and_parts, and_from, cases_lt, ne_eqb, not_from_false, true≢false}
 use Rattle.std.proofs.lemmas.Grind.{common_steps, flat_map-append}
 use Rattle.std.specs.List.{flat_map, list_all}
-use Rattle.std.specs.Str.{IsUtf8, IsCharBoundary}
-use Rattle.std.proofs.lemmas.Str.{IsCharBoundary-before_ascii, IsCharBoundary-after_ascii, IsCharBoundary-end}
+use Rattle.std.specs.Str.{IsCharBoundary}
+use Rattle.std.proofs.lemmas.Str.{IsCharBoundary-before_ascii, IsCharBoundary-end}
 use Rattle.py_value.specs.Reprs.{escaped, is_plain}
 
 different : (a b : ℕ) → (a ≡ b → ⊥) → (a == b) ≡ false

@@ -7,13 +7,13 @@ use Rattle.py_heap.proofs.dict.take_out.Goals as goal
 pub returns-then-begin_order-clause-rest : goal.returns-then-begin_order-clause-rest
 returns-then-begin_order-clause-rest c = c.swap_out.ensures.rest ∙ ap (λ ps. without_key ps (entry_in c.args.table.now.entries c.args.number).0) c.begin_order.ensures.pairs
 
-pub returns-clause-kept : goal.returns-clause-kept
-returns-clause-kept c =
+pub returns-else-begin_order-clause-kept : goal.returns-else-begin_order-clause-kept
+returns-else-begin_order-clause-kept c =
     (shifted_kept c.begin_order.new.order c.args.table.now.entries c.shift_out.new.table.entries (entry_in c.args.table.now.entries c.args.number).0 (sym c.begin_order.ensures.order ∙ c.if-begin_order.false)
     c.shift_out.ensures.unique c.shift_out.ensures.rest).0
 
-pub returns-clause-rest : goal.returns-clause-rest
-returns-clause-rest c =
+pub returns-else-begin_order-clause-rest : goal.returns-else-begin_order-clause-rest
+returns-else-begin_order-clause-rest c =
     (shifted_kept c.begin_order.new.order c.args.table.now.entries c.shift_out.new.table.entries (entry_in c.args.table.now.entries c.args.number).0 (sym c.begin_order.ensures.order ∙ c.if-begin_order.false)
     c.shift_out.ensures.unique c.shift_out.ensures.rest).1
     ∙ ap (λ ps. without_key ps (entry_in c.args.table.now.entries c.args.number).0) c.begin_order.ensures.pairs

@@ -1,4 +1,4 @@
-use Rattle.std.proofs.Common.{◌≡◌, ◌≤◌, ◌+◌, length, sym, ◌∙◌, arith}
+use Rattle.std.proofs.Common.{◌≤◌, ◌+◌, length, sym, ◌∙◌, arith}
 use Rattle.py_value.proofs.Escapes.{run_more}
 use Rattle.py_value.proofs.repr.plain_runs.Goals as goal
 

@@ -48,7 +48,7 @@ returns-then-len-count-clause-order c =
     let t = c.self.inside in
     subst IsOrder (sym (ap held c.keep_held.ensures ∙ held_twice t.places.items)) (order_of t.places.items t.slots.items t.sums.items (length t.sums.items / 2) c.self.invariant)
 
-pub returns-clause-order : goal.returns-clause-order
-returns-clause-order c =
+pub returns-else-len-count-clause-order : goal.returns-else-len-count-clause-order
+returns-else-len-count-clause-order c =
     let t = c.self.inside in
     order_of t.places.items t.slots.items t.sums.items (length t.sums.items / 2) c.self.invariant
