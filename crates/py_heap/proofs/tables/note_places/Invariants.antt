@@ -1,4 +1,4 @@
-use Rattle.std.proofs.Common.{◌≡◌, ◌<◌, ℕ, get_or, length}
+use Rattle.std.proofs.Common.{◌≡◌, ◌<◌, ℕ, get_or}
 use Rattle.py_heap.proofs.tables.note_places.Given as goal
 
 abbrev pub invariant-loop-place : goal.invariant-loop-place

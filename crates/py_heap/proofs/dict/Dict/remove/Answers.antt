@@ -5,7 +5,7 @@ use Rattle.py_heap.proofs.dict.Dict.remove.Goals as goal
 pub returns-in_err-number-clause-value : goal.returns-in_err-number-clause-value
 returns-in_err-number-clause-value c =
     let d = c.self.inside in
-    rw (← c.self.view_is) (removed_none d.order d.table.entries c.args.key.now c.self.invariant (sym c.in_err-number.ensures.found)).0
+    rw (← c.self.view_is) (c.from_residual.ensures ∙ (removed_none d.order d.table.entries c.args.key.now c.self.invariant (sym c.in_err-number.ensures.found)).0)
 
 pub returns-in_err-number-clause-rest : goal.returns-in_err-number-clause-rest
 returns-in_err-number-clause-rest c =

@@ -51,4 +51,4 @@ returns-then-len-count-clause-order c =
 pub returns-else-len-count-clause-order : goal.returns-else-len-count-clause-order
 returns-else-len-count-clause-order c =
     let t = c.self.inside in
-    order_of t.places.items t.slots.items t.sums.items (length t.sums.items / 2) c.self.invariant
+    subst (λ (s : Tabled). IsOrder (held s.places)) c.self.view_is (order_of t.places.items t.slots.items t.sums.items (length t.sums.items / 2) c.self.invariant)
