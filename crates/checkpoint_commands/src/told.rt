@@ -27,7 +27,7 @@ pub fn restored(alloc: Global, bytes: &[u8]) -> Result<Said, AllocError>
 {
     match restore(alloc, bytes, 0) {
         Ok(restored) => {
-            let text = state_lines(alloc, &restored.kernel.state)?;
+            let text = state_lines(alloc, restored.kernel.state())?;
             Ok(Said {
                 status: status::DONE,
                 text,

@@ -41,7 +41,7 @@ abbrev FoundObject : List ℕ → ℕ → Spot → Spot → Object → Type 0
 FoundObject bytes tag s t o = IsObject o × After bytes tag (object_bytes o) (object_refs o) s t
 
 -- the text of a function that was read is its source
-has_text : (code : List ℕ) (def : Def) → DefinitionVerdict code (Ok def) → def.source ≡ code
+pub has_text : (code : List ℕ) (def : Def) → DefinitionVerdict code (Ok def) → def.source ≡ code
 has_text _ _ (functions.whole {code} {tokens} {called} {takes} {block} l e is start shallow end) =
     ap (λ (x : Def-F Stmt Arm Def). x.source) (out-roll-Def (record { name = called; params = tree_params takes; body = tree_block block; source = code }))
 

@@ -1,11 +1,14 @@
--- A cell that is read began with a meter within the limit.
-use Rattle.std.proofs.Common.{ℕ, ◌≤◌, Bool, Ok, Err, inl, inr}
-use Rattle.std.specs.Prelude.{nat_le, List}
-use Rattle.std.proofs.lemmas.Bool.{cases_Bool, leb-true}
+-- A cell that is read is within its bounds, and a version that is read has no handle and no size if its name was deleted.
+use Rattle.std.proofs.Common.{◌≡◌, ℕ, ◌≤◌, Bool, true, false, List, length, Ok, Err, refl, sym, subst, inl, inr}
+use Rattle.std.specs.Prelude.{nat_le, ◌==◌, ◌||◌}
+use Rattle.std.specs.Str.{is_utf8}
+use Rattle.std.proofs.lemmas.Bool.{cases_Bool, leb-true, eqb-true}
 use Rattle.graph_model.specs.declared.graph.CellRecord.{CellRecord}
+use Rattle.graph_model.specs.declared.graph.Version.{Version}
+use Rattle.checkpoint_bytes.specs.Sessions.{IsWithinBounds}
 use Rattle.checkpoint_reader.specs.Reads.{Answer, Read, place, after, ◌>>=◌}
-use Rattle.checkpoint_reader.specs.Fields.{bounded, code, four, at_most, truth, numbers, names, cell}
-use Rattle.checkpoint_reader.specs.Numbered.{BeganWithin}
+use Rattle.checkpoint_reader.specs.Fields.{bounded, as_text_field, code_of, size_of, taken, code, four, at_most, truth, numbers, names, cell, flag, size, version}
+use Rattle.checkpoint_reader.specs.Numbered.{IsEmptyIfAbsent}
 
 -- what was read is such
 abbrev pub Has : {A : Type 0} → (A → Type 0) → Answer A → Type 0
@@ -42,16 +45,67 @@ unfolding at_most
 at_most_gives bytes most = then_gives (λ n. n ≤ most) place (λ at. four bytes >>= λ n. bounded most at n)
     (λ at. then_gives (λ n. n ≤ most) (four bytes) (λ n. bounded most at n) (λ n. record { has = λ to. bounded_has most at n to }))
 
-module _ (bytes : List ℕ) where
-  abbrev Began : CellRecord × Bool → Type 0
-  Began c = BeganWithin c.0
+abbrev IsShort : List ℕ → Type 0
+IsShort xs = length xs ≤ 262148
 
-  pub cell_began : Gives Began (cell bytes)
+short_text : (at : ℕ) (xs : List ℕ) (to : ℕ) → IsShort xs → Has IsShort (as_text_field at xs to)
+short_text at xs to l = elim (cases_Bool (is_utf8 xs)) [
+  | inl u ↦ rw u l
+  | inr u ↦ rw u tt
+]
+
+short_code : (at : ℕ) (xs : List ℕ) (to : ℕ) → Has IsShort (code_of at xs to)
+short_code at xs to = elim (cases_Bool (nat_le (length xs) 262148)) [
+  | inl l ↦ rw l (short_text at xs to (leb-true (length xs) 262148 l))
+  | inr l ↦ rw l tt
+]
+
+-- only a part without a handle has a size
+abbrev HasSizeBy : ℕ → ℕ → Type 0
+HasSizeBy kind n = ((kind == 0) || (n == 0)) ≡ true
+
+sized_by : (kind at n to : ℕ) → Has (HasSizeBy kind) (size_of kind at n to)
+sized_by kind at n to = elim (cases_Bool ((kind == 0) || (n == 0))) [
+  | inl e ↦ rw e e
+  | inr e ↦ rw e tt
+]
+
+empty_by : (kind n : ℕ) → HasSizeBy kind n → (kind == 1) ≡ true → ((kind == 2) ≡ false) × (n ≡ 0)
+empty_by kind n h e =
+    let one : kind ≡ 1 = eqb-true kind 1 e in
+    let none : (n == 0) ≡ true = subst (λ (k : ℕ). HasSizeBy k n) one h in
+    (subst (λ (k : ℕ). (k == 2) ≡ false) (sym one) refl, eqb-true n 0 none)
+
+module _ (bytes : List ℕ) where
+  code_gives : Gives IsShort (code bytes)
+  unfolding code
+  code_gives = then_gives IsShort place _ (λ at. then_gives IsShort (four bytes) _ (λ n. then_gives IsShort (taken bytes at n) _ (λ xs. record { has = λ to. short_code at xs to })))
+
+  size_gives : (kind : ℕ) → Gives (HasSizeBy kind) (size bytes kind)
+  unfolding size
+  size_gives kind = then_gives (HasSizeBy kind) place _ (λ at. then_gives (HasSizeBy kind) (four bytes) _ (λ n. record { has = λ to. sized_by kind at n to }))
+
+  abbrev Bounded : CellRecord × Bool → Type 0
+  Bounded c = IsWithinBounds c.0
+
+  pub cell_bounded : Gives Bounded (cell bytes)
   unfolding cell
-  cell_began = then_gives Began (code bytes) _ (λ text.
-      then_knowing Began (λ n. n ≤ 16777216) (at_most bytes 16777216) _ (at_most_gives bytes 16777216) (λ meter within.
-      then_gives Began (at_most bytes 1000000) _ (λ steps.
-      then_gives Began (truth bytes) _ (λ drew.
-      then_gives Began (truth bytes) _ (λ rerun.
-      then_gives Began (numbers bytes) _ (λ reads.
-      then_gives Began (names bytes) _ (λ missing. record { has = λ to. within })))))))
+  cell_bounded = then_knowing Bounded IsShort (code bytes) _ code_gives (λ text short.
+      then_knowing Bounded (λ n. n ≤ 16777216) (at_most bytes 16777216) _ (at_most_gives bytes 16777216) (λ meter within.
+      then_knowing Bounded (λ n. n ≤ 1000000) (at_most bytes 1000000) _ (at_most_gives bytes 1000000) (λ steps few.
+      then_gives Bounded (truth bytes) _ (λ drew.
+      then_gives Bounded (truth bytes) _ (λ rerun.
+      then_gives Bounded (numbers bytes) _ (λ reads.
+      then_gives Bounded (names bytes) _ (λ missing. record { has = λ to. record { code = short; meter = within; steps = few } })))))))
+
+  abbrev Empty : Version × Bool → Type 0
+  Empty x = IsEmptyIfAbsent x.0
+
+  pub version_empty : Gives Empty (version bytes)
+  unfolding version
+  version_empty = then_gives Empty (four bytes) _ (λ writer.
+      then_gives Empty (four bytes) _ (λ replaced.
+      then_gives Empty (flag bytes) _ (λ kind.
+      then_knowing Empty (HasSizeBy kind) (size bytes kind) _ (size_gives kind) (λ len told.
+      then_gives Empty (names bytes) _ (λ all.
+      then_gives Empty (truth bytes) _ (λ copied. record { has = λ to e. empty_by kind len told e }))))))

@@ -1,6 +1,6 @@
 -- The numbers of what the plan runs again or copies ascend, and what is copied holds at the end.
 use Rattle.std.proofs.Common.{◌≡◌, ℕ, zero, suc, ◌+◌, ◌-◌, ◌<◌, Bool, true, false, List, [], ◌∷◌, ◌++◌, length, Option, Some, None, refl, sym, ap, ◌∙◌, subst, inl, inr, arith}
-use Rattle.std.specs.Prelude.{slice_get, not, nat_eq, Ok}
+use Rattle.std.specs.Prelude.{slice_get, not, nat_eq, Ok, All}
 use Rattle.std.specs.List.{AllZip}
 use Rattle.std.proofs.lemmas.Bool.{or_parts, not-false, eqb-true}
 use Rattle.std.proofs.lemmas.List.{length-append}
@@ -8,12 +8,13 @@ use Rattle.std.proofs.lemmas.List.Elements.{Contains-push_cases, All-nil, All-co
 use Rattle.graph_model.specs.declared.graph.CellRecord.{CellRecord}
 use Rattle.graph_model.specs.declared.graph.Version.{Version}
 use Rattle.graph_model.proofs.Ascending.{ascends-push}
+use Rattle.checkpoint_bytes.specs.Sessions.{IsWithinBounds}
 use Rattle.part_bytes.specs.declared.part.PartValue.{PartValue}
 use Rattle.checkpoint_reader.specs.PartReading.{part_read}
 use Rattle.checkpoint_reader.specs.declared.fields.Cells.{Cells}
 use Rattle.checkpoint_reader.specs.declared.fields.Versions.{Versions}
 use Rattle.checkpoint_reader.specs.Fields.{marked, with_cell, with_version, with_copy, first_found, is_unlike}
-use Rattle.checkpoint_reader.specs.Numbered.{AreNumbers, BeganWithin, AreCells, AreVersions, IsKeptActive, IsCopyAt}
+use Rattle.checkpoint_reader.specs.Numbered.{AreNumbers, AreCells, IsEmptyIfAbsent, AreVersions, IsKeptActive, IsCopyAt}
 
 numbers_stay : (n : ℕ) (xs : List ℕ) → AreNumbers n xs → AreNumbers (n + 1) xs
 numbers_stay n xs a = record { ascend = a.ascend; within = λ m c. let p = a.within m c in (p.0, omega (arith, p.1)) }
@@ -34,10 +35,10 @@ numbers_marked n xs false a = numbers_stay n xs a
 one_longer : {X : Type 0} (n : ℕ) (xs : List X) (x : X) → length xs ≡ n → length (xs ++ x ∷ []) ≡ n + 1
 one_longer n xs x e = length-append xs (x ∷ []) ∙ ap (λ k. k + 1) e
 
-pub cells_grow : (n : ℕ) (before : Cells) (cell : CellRecord × Bool) → AreCells n before → BeganWithin cell.0 → AreCells (n + 1) (with_cell before cell)
+pub cells_grow : (n : ℕ) (before : Cells) (cell : CellRecord × Bool) → AreCells n before → IsWithinBounds cell.0 → AreCells (n + 1) (with_cell before cell)
 cells_grow n before cell a within = record {
   size = one_longer n before.records cell.0 a.size;
-  meters = All-append BeganWithin before.records (cell.0 ∷ []) a.meters (All-cons BeganWithin cell.0 [] within (All-nil BeganWithin));
+  bounds = All-append IsWithinBounds before.records (cell.0 ∷ []) a.bounds (All-cons IsWithinBounds cell.0 [] within (All-nil IsWithinBounds));
   rerun = subst (λ k. AreNumbers (n + 1) (marked before.rerun (k + 1) cell.1)) (sym a.size) (numbers_marked n before.rerun cell.1 a.rerun);
 }
 
@@ -73,10 +74,14 @@ copies_stay : (records : List Version) (x : Version) (copied : List ℕ) (parts 
 copies_stay records x copied parts h =
     zip_weaker (IsCopyAt records) (IsCopyAt (records ++ x ∷ [])) (λ v part c. (c.0, stays_at records (x ∷ []) (v - 1) c.0 c.1, c.2)) copied parts h
 
-pub versions_grow : (n : ℕ) (before : Versions) (x : Version) → AreVersions n before → AreVersions (n + 1) (with_version before x)
-versions_grow n before x a = record {
+empty_grow : (records : List Version) (x : Version) → All IsEmptyIfAbsent records → IsEmptyIfAbsent x → All IsEmptyIfAbsent (records ++ x ∷ [])
+empty_grow records x h e = All-append IsEmptyIfAbsent records (x ∷ []) h (All-cons IsEmptyIfAbsent x [] e (All-nil IsEmptyIfAbsent))
+
+pub versions_grow : (n : ℕ) (before : Versions) (x : Version) → AreVersions n before → IsEmptyIfAbsent x → AreVersions (n + 1) (with_version before x)
+versions_grow n before x a e = record {
   size = one_longer n before.records x a.size;
   copied = numbers_stay n before.copied a.copied;
+  absent = empty_grow before.records x a.absent e;
   active = λ u v c. active_stays before.records x v (a.active u v c);
   copies = λ u. copies_stay before.records x before.copied before.parts (a.copies u);
 }
@@ -98,14 +103,15 @@ last_copy records x copy front was like =
     let at : length records + 1 - 1 ≡ length records = omega arith in
     (x, ap (slice_get (records ++ x ∷ [])) at ∙ stands_last records x, record { bytes = front; size = copy.1; was_read = was; agrees = like })
 
-pub copies_grow : (n : ℕ) (before : Versions) (x : Version) (copy : PartValue × ℕ) (front : List ℕ) → part_read front ≡ Ok copy → AreVersions n before → AreVersions (n + 1) (with_copy before x copy)
-copies_grow n before x copy front was a = record {
+pub copies_grow : (n : ℕ) (before : Versions) (x : Version) (copy : PartValue × ℕ) (front : List ℕ) → part_read front ≡ Ok copy → AreVersions n before → IsEmptyIfAbsent x → AreVersions (n + 1) (with_copy before x copy)
+copies_grow n before x copy front was a e = record {
   size = one_longer n before.records x a.size;
+  absent = empty_grow before.records x a.absent e;
   copied = subst (λ k. AreNumbers (n + 1) (before.copied ++ (k + 1) ∷ [])) (sym a.size) (numbers_put n before.copied a.copied);
   active = λ u v c. let none = none_found before.unlike (length before.records + 1) (is_unlike x copy.0 copy.1) u in
       elim (Contains-push_cases before.copied (length before.records + 1) v c) [
         | inl old ↦ active_stays before.records x v (a.active none.0 v old)
-        | inr e ↦ copy_active n before.records x v a.size (ap (λ k. k + 1) (sym a.size) ∙ e) (like_is_active x copy.0 copy.1 none.1)
+        | inr last ↦ copy_active n before.records x v a.size (ap (λ k. k + 1) (sym a.size) ∙ last) (like_is_active x copy.0 copy.1 none.1)
       ];
   copies = λ u. let none = none_found before.unlike (length before.records + 1) (is_unlike x copy.0 copy.1) u in
       zip_put (IsCopyAt (before.records ++ x ∷ [])) before.copied before.parts (length before.records + 1) copy.0 (copies_stay before.records x before.copied before.parts (a.copies none.0))

@@ -1,10 +1,10 @@
--- What is known of what was read: the numbers of some of it ascend, meters are within the limit, and each version that the plan
--- copies has a part that was read for it.
-use Rattle.std.specs.Prelude.{◌≡◌, ℕ, ◌-◌, ◌<◌, ◌≤◌, false, List, All, Contains, length, Some, None, Ok, slice_get, ◌^◌}
+-- What is known of what was read: the numbers of some of it ascend, the meter and the cells are within their bounds, deleted names have
+-- no handle and no size, and each version that the plan copies has a part that was read for it.
+use Rattle.std.specs.Prelude.{◌≡◌, ℕ, ◌-◌, ◌<◌, ◌≤◌, true, false, List, All, Contains, length, Some, None, Ok, slice_get, ◌^◌}
 use Rattle.std.specs.List.{AllZip}
-use Rattle.graph_model.specs.declared.graph.CellRecord.{CellRecord}
 use Rattle.graph_model.specs.declared.graph.Version.{Version}
 use Rattle.graph_model.specs.Faults.{Ascends}
+use Rattle.checkpoint_bytes.specs.Sessions.{IsWithinBounds}
 use Rattle.part_bytes.specs.declared.part.PartValue.{PartValue}
 use Rattle.checkpoint_reader.specs.PartReading.{part_read}
 use Rattle.checkpoint_reader.specs.declared.checkpoint.Checkpoint.{Checkpoint}
@@ -18,15 +18,15 @@ pub record AreNumbers (n : ℕ) (numbers : List ℕ) : Type 0 where
   pub ascend : Ascends (λ m n. m < n) numbers
   pub within : (m : ℕ) → Contains numbers m → (0 < m) × (m ≤ n)
 
--- the cell began with a meter within the limit
-abbrev pub BeganWithin : CellRecord → Type 0
-BeganWithin x = x.meter ≤ 16777216
-
 -- n cells
 pub record AreCells (n : ℕ) (cells : Cells) : Type 0 where
   pub size : length cells.records ≡ n
   pub rerun : AreNumbers n cells.rerun
-  pub meters : All BeganWithin cells.records
+  pub bounds : All IsWithinBounds cells.records
+
+-- a name that was deleted has no handle and no size
+abbrev pub IsEmptyIfAbsent : Version → Type 0
+IsEmptyIfAbsent x = x.absent ≡ true → (x.handle ≡ false) × (x.size ≡ 0)
 
 -- version v of these holds at the end
 abbrev pub IsKeptActive : List Version → ℕ → Type 0
@@ -47,13 +47,16 @@ IsCopyAt records v part = (x : Version) × (slice_get records (v - 1) ≡ Some x
 pub record AreVersions (n : ℕ) (versions : Versions) : Type 0 where
   pub size : length versions.records ≡ n
   pub copied : AreNumbers n versions.copied
+  pub absent : All IsEmptyIfAbsent versions.records
   pub active : versions.unlike ≡ None → (v : ℕ) → Contains versions.copied v → IsKeptActive versions.records v
   pub copies : versions.unlike ≡ None → AllZip (IsCopyAt versions.records) versions.copied versions.parts
 
--- a checkpoint that was read can be restored: its meters are within the limit, and each version that its plan copies has its part
+-- a checkpoint that was read can be restored: its meter and its cells are within their bounds, its deleted names have no handle and no
+-- size, and each version that its plan copies has its part
 pub record IsRestorable (k : Checkpoint) : Type 0 where
   pub meter : k.meter ≤ 16777216
-  pub meters : All BeganWithin k.graph.cells
+  pub bounds : All IsWithinBounds k.graph.cells
+  pub absent : All IsEmptyIfAbsent k.graph.versions
   pub copies : AllZip (IsCopyAt k.graph.versions) k.plan.copied k.parts
 
 pub record AreFields (read : Fields) : Type 0 where

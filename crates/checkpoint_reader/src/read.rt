@@ -83,7 +83,8 @@ fn read_fields(alloc: Global, bytes: &[u8], spot: &mut usize) -> Result<Fields, 
 /// left; then the graph; then the plan.
 pub fn read_checkpoint(alloc: Global, bytes: &[u8]) -> Result<Checkpoint, CheckpointFault>
     ensures exact { tells result ≡ true → IsAnswer (spec.fields bytes.now 0) result }
-    // What its text brings: its meters are within the limit, and each version that its plan copies has its part.
+    // What its text brings: its meter and its cells are within their bounds, its deleted names have no handle and no size, and each version
+    // that its plan copies has its part.
     ensures restorable { IfOk result IsRestorable }
 {
     let mut spot = 0;

@@ -17,7 +17,7 @@ use Rattle.graph_model.specs.Networks.{PlanArc, cell_numbers, actives, old_write
 use Rattle.plan_model.proofs.Listing.{every-append, every-map, every-flat_map}
 use Rattle.plan_model.proofs.Reading.{actives-rise, rank-below, rank-at, cell_numbers-at, old_writers-from}
 use Rattle.plan_model.proofs.Cutting.{cell-number, writer-numbered}
-use Rattle.flow_arcs.specs.Ends.{no_arc}
+use Rattle.flow_arcs.specs.Arcs.{no_arc}
 use Rattle.cut_network.specs.Shown.{inner_node, node_of, shown}
 
 -- a node is found by its number

@@ -32,7 +32,7 @@ raised_valid : (e : ListedCell) (s : State) → IsValidState s → IsValidState 
 raised_valid e s v = record { closed = record { names = v.closed.names; objects = v.closed.objects }; names = v.names; objects = v.objects; meter = v.meter }
 
 -- a code without a tree has no statements
-allowed_in : (code : List ℕ) → IsUtf8 code → (o : Judged) → verdict code ≡ o → AreAllowed IsItsText (statements (tree_in o))
+pub allowed_in : (code : List ℕ) → IsUtf8 code → (o : Judged) → verdict code ≡ o → AreAllowed IsItsText (statements (tree_in o))
 allowed_in code u (Ok body) e = cell_allowed code body u e
 allowed_in code u (Err fault) e = All-nil (IsAllowed IsItsText)
 

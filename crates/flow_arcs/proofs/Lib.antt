@@ -6,4 +6,3 @@ pub mod Partners
 pub mod Ways
 pub mod Listing
 pub mod Resting
-pub mod Chaining

@@ -1,27 +1,25 @@
--- One arc more in the lists, and what a walk along a node's list adds up.
-use Rattle.std.proofs.Common.{◌≡◌, ◌≢◌, ℕ, zero, suc, ◌+◌, ◌-◌, ◌*◌, ◌^◌, ◌/◌, ◌%◌, ◌<◌, ◌≤◌, cond, ◌==◌, Bool, true, false, List, [], ◌∷◌, ◌++◌, length, get_or, set, refl, sym, ap, ◌∙◌, inl, inr, arith}
+-- One arc more in the lists, lists of the arcs that may carry more, and what a walk along a node's list adds up.
+use Rattle.std.proofs.Common.{◌≡◌, ◌≢◌, ℕ, zero, suc, ◌+◌, ◌-◌, ◌*◌, ◌^◌, ◌/◌, ◌%◌, ◌<◌, ◌≤◌, cond, ◌==◌, Bool, true, false, List, [], ◌∷◌, ◌++◌, length, get_or, set, take, replicate, refl, sym, ap, ◌∙◌, subst, inl, inr, arith}
 use Rattle.std.proofs.lemmas.Bool.{cases_eq, eq-eqb, ne_eqb}
-use Rattle.std.proofs.lemmas.List.{get_or_append_left, get_or_push, get_or-set_same, get_or-set_other, length-set, length_push}
+use Rattle.std.proofs.lemmas.List.{get_or_read, take_more, take_all, length-take-le, get_or_append_left, get_or_push, get_or-set_same, get_or-set_other, length-set, length_push}
 use Rattle.std.specs.List.{AllByRecursion}
 use Rattle.flow_model.specs.declared.Arc.{Arc}
-use Rattle.flow_model.specs.Flows.{Joins, given, taken}
-use Rattle.flow_arcs.specs.Pairs.{tails}
-use Rattle.flow_arcs.specs.Lists.{IsLists, IsListed}
+use Rattle.flow_model.specs.Flows.{Net, Joins, given, taken}
+use Rattle.flow_arcs.specs.Pairs.{tails, heads}
+use Rattle.flow_arcs.specs.Lists.{AreListsOf, IsLists, IsListed}
+use Rattle.flow_arcs.specs.Ways.{IsLinks}
 use Rattle.flow_arcs.proofs.Partners.{length_heads, length_tails}
 
--- one directed arc more
-module _ (ts first next : List ℕ) (node : ℕ) (h : IsLists ts first next) (within : node < length first) where
+-- one directed arc more, in the list of its node or not
+module _ (wanted : ℕ → Type 0) (ts first next : List ℕ) (node : ℕ) (h : AreListsOf wanted ts first next) where
   old_tail : (e : ℕ) → e < length ts → get_or (ts ++ node ∷ []) e 0 ≡ get_or ts e 0
   old_tail e l = get_or_append_left ts (node ∷ []) 0 e l
 
   new_tail : (e : ℕ) → length ts ≡ e → get_or (ts ++ node ∷ []) e 0 ≡ node
   new_tail e l = get_or_push ts node 0 e l
 
-  new_first : get_or (set first node (length next + 1)) node 0 ≡ length next + 1
-  new_first = get_or-set_same first node (length next + 1) 0 within
-
-  old_first : (n : ℕ) → n ≢ node → get_or (set first node (length next + 1)) n 0 ≡ get_or first n 0
-  old_first n ne = get_or-set_other first node n (length next + 1) 0 ne
+  more_tails : length (ts ++ node ∷ []) ≡ length ts + 1
+  more_tails = length_push ts node
 
   old_next : (d : ℕ) → d < length next → get_or (next ++ get_or first node 0 ∷ []) d 0 ≡ get_or next d 0
   old_next d l = get_or_append_left next (get_or first node 0 ∷ []) 0 d l
@@ -29,46 +27,139 @@ module _ (ts first next : List ℕ) (node : ℕ) (h : IsLists ts first next) (wi
   new_next : (d : ℕ) → length next ≡ d → get_or (next ++ get_or first node 0 ∷ []) d 0 ≡ get_or first node 0
   new_next d l = get_or_push next (get_or first node 0) 0 d l
 
-  pub lists_more : IsLists (ts ++ node ∷ []) (set first node (length next + 1)) (next ++ get_or first node 0 ∷ [])
-  lists_more =
-      let k = h.nexts in
-      let l = length_push ts node in
-      let m = length_push next (get_or first node 0) in
+  more_nexts : length (next ++ get_or first node 0 ∷ []) ≡ length (ts ++ node ∷ [])
+  more_nexts = let k = h.nexts in let l = more_tails in let m = length_push next (get_or first node 0) in omega arith
+
+  more_low : (d : ℕ) → d < length (ts ++ node ∷ []) → get_or (next ++ get_or first node 0 ∷ []) d 0 ≤ d
+  more_low d b = let k = h.nexts in let l = more_tails in elim (cases_eq d (length next)) [
+    | inl q ↦ (let a = h.first_low node in rw (new_next d (sym q)) (omega arith))
+    | inr q ↦ (let a = h.next_low d (omega arith) in rw (old_next d (omega arith)) a)
+  ]
+
+  more_leaves : (d e : ℕ) → d < length (ts ++ node ∷ []) → get_or (next ++ get_or first node 0 ∷ []) d 0 ≡ e + 1 → get_or (ts ++ node ∷ []) e 0 ≡ get_or (ts ++ node ∷ []) d 0
+  more_leaves d e b f = let k = h.nexts in let l = more_tails in elim (cases_eq d (length next)) [
+    | inl q ↦ (let g = new_next d (sym q) in let a = h.first_low node in
+        old_tail e (omega arith) ∙ (h.first_leaves node e (sym g ∙ f) ∙ sym (new_tail d (omega arith))))
+    | inr q ↦ (let g = old_next d (omega arith) in let a = h.next_low d (omega arith) in
+        old_tail e (omega arith) ∙ (h.next_leaves d e (omega arith) (sym g ∙ f) ∙ sym (old_tail d (omega arith))))
+  ]
+
+  more_skips : (d e : ℕ) → d < length (ts ++ node ∷ []) → get_or (next ++ get_or first node 0 ∷ []) d 0 ≤ e → e < d → wanted e → get_or (ts ++ node ∷ []) e 0 ≢ get_or (ts ++ node ∷ []) d 0
+  more_skips d e b f c w = let k = h.nexts in let l = more_tails in elim (cases_eq d (length next)) [
+    | inl q ↦ (let g = new_next d (sym q) in
+        λ z. h.first_skips node e (omega arith) (omega arith) w (sym (old_tail e (omega arith)) ∙ (z ∙ new_tail d (omega arith))))
+    | inr q ↦ (let g = old_next d (omega arith) in
+        λ z. h.next_skips d e (omega arith) (omega arith) c w (sym (old_tail e (omega arith)) ∙ (z ∙ old_tail d (omega arith))))
+  ]
+
+  old_leaves : (n e : ℕ) → get_or first n 0 ≡ e + 1 → get_or (ts ++ node ∷ []) e 0 ≡ n
+  old_leaves n e f = let a = h.first_low n in old_tail e (omega arith) ∙ h.first_leaves n e f
+
+  -- it isn't wanted
+  pub lists_passed : (wanted (length ts) → ⊥) → AreListsOf wanted (ts ++ node ∷ []) first (next ++ get_or first node 0 ∷ [])
+  lists_passed none =
+      let l = more_tails in
       record {
-        nexts = omega arith;
-        first_low = λ n. elim (cases_eq n node) [
-          | inl q ↦ rw (q, new_first) (omega arith)
-          | inr q ↦ (let a = h.first_low n in rw (old_first n q) (omega arith))
+        nexts = more_nexts;
+        first_low = λ n. let a = h.first_low n in omega arith;
+        first_leaves = old_leaves;
+        first_skips = λ n e f b w. elim (cases_eq e (length ts)) [
+          | inl s ↦ absurd (none (subst wanted s w))
+          | inr s ↦ (λ z. h.first_skips n e f (omega arith) w (sym (old_tail e (omega arith)) ∙ z))
         ];
-        first_leaves = λ n e f. elim (cases_eq n node) [
-          | inl q ↦ (let a = new_first in let g = rw q at f in new_tail e (omega arith) ∙ sym q)
-          | inr q ↦ (let g = old_first n q in let a = h.first_low n in old_tail e (omega arith) ∙ h.first_leaves n e (sym g ∙ f))
-        ];
-        first_skips = λ n e f b. elim (cases_eq n node) [
-          | inl q ↦ absurd (let a = new_first in let g = rw q at f in omega arith)
-          | inr q ↦ (let g = old_first n q in
-              elim (cases_eq e (length ts)) [
-                | inl s ↦ (λ z. q (sym z ∙ new_tail e (sym s)))
-                | inr s ↦ (λ z. h.first_skips n e (omega arith) (omega arith) (sym (old_tail e (omega arith)) ∙ z))
-              ])
-        ];
-        next_low = λ d b. elim (cases_eq d (length next)) [
-          | inl q ↦ (let a = h.first_low node in rw (new_next d (sym q)) (omega arith))
-          | inr q ↦ (let a = h.next_low d (omega arith) in rw (old_next d (omega arith)) a)
-        ];
-        next_leaves = λ d e b f. elim (cases_eq d (length next)) [
-          | inl q ↦ (let g = new_next d (sym q) in let a = h.first_low node in
-              old_tail e (omega arith) ∙ (h.first_leaves node e (sym g ∙ f) ∙ sym (new_tail d (omega arith))))
-          | inr q ↦ (let g = old_next d (omega arith) in let a = h.next_low d (omega arith) in
-              old_tail e (omega arith) ∙ (h.next_leaves d e (omega arith) (sym g ∙ f) ∙ sym (old_tail d (omega arith))))
-        ];
-        next_skips = λ d e b f c. elim (cases_eq d (length next)) [
-          | inl q ↦ (let g = new_next d (sym q) in
-              λ z. h.first_skips node e (omega arith) (omega arith) (sym (old_tail e (omega arith)) ∙ (z ∙ new_tail d (omega arith))))
-          | inr q ↦ (let g = old_next d (omega arith) in
-              λ z. h.next_skips d e (omega arith) (omega arith) c (sym (old_tail e (omega arith)) ∙ (z ∙ old_tail d (omega arith))))
-        ];
+        next_low = more_low;
+        next_leaves = more_leaves;
+        next_skips = more_skips;
       }
+
+  module _ (within : node < length first) where
+    new_first : get_or (set first node (length next + 1)) node 0 ≡ length next + 1
+    new_first = get_or-set_same first node (length next + 1) 0 within
+
+    old_first : (n : ℕ) → n ≢ node → get_or (set first node (length next + 1)) n 0 ≡ get_or first n 0
+    old_first n ne = get_or-set_other first node n (length next + 1) 0 ne
+
+    pub lists_more : AreListsOf wanted (ts ++ node ∷ []) (set first node (length next + 1)) (next ++ get_or first node 0 ∷ [])
+    lists_more =
+        let k = h.nexts in
+        let l = more_tails in
+        record {
+          nexts = more_nexts;
+          first_low = λ n. elim (cases_eq n node) [
+            | inl q ↦ rw (q, new_first) (omega arith)
+            | inr q ↦ (let a = h.first_low n in rw (old_first n q) (omega arith))
+          ];
+          first_leaves = λ n e f. elim (cases_eq n node) [
+            | inl q ↦ (let a = new_first in let g = rw q at f in new_tail e (omega arith) ∙ sym q)
+            | inr q ↦ old_leaves n e (sym (old_first n q) ∙ f)
+          ];
+          first_skips = λ n e f b w. elim (cases_eq n node) [
+            | inl q ↦ absurd (let a = new_first in let g = rw q at f in omega arith)
+            | inr q ↦ (let g = old_first n q in
+                elim (cases_eq e (length ts)) [
+                  | inl s ↦ (λ z. q (sym z ∙ new_tail e (sym s)))
+                  | inr s ↦ (λ z. h.first_skips n e (omega arith) (omega arith) w (sym (old_tail e (omega arith)) ∙ z))
+                ])
+          ];
+          next_low = more_low;
+          next_leaves = more_leaves;
+          next_skips = more_skips;
+        }
+
+-- the lists of the first arcs, and of one more
+module _ (wanted : ℕ → Type 0) (ts first next : List ℕ) (i node position : ℕ) (l : i < length ts) (leaves : node ≡ get_or ts i 0) (within : node < length first)
+    (h : AreListsOf wanted (take i ts) first next) (read : position ≡ get_or first node position) where
+  one_more : take (i + 1) ts ≡ take i ts ++ node ∷ []
+  one_more = take_more ts i 0 l ∙ ap (λ n. take i ts ++ n ∷ []) (sym leaves)
+
+  pub relinked : (first' next' : List ℕ) → first' ≡ set first node (i + 1) → next' ≡ next ++ position ∷ [] → AreListsOf wanted (take (i + 1) ts) first' next'
+  relinked first' next' f n =
+      let e : length next ≡ i = h.nexts ∙ length-take-le i ts (omega arith) in
+      let m = lists_more wanted (take i ts) first next node h within in
+      rw (f, n, one_more, get_or_read first node position within read 0) (rw e at m)
+
+  pub passed : (first' next' : List ℕ) → first' ≡ first → next' ≡ next ++ position ∷ [] → (wanted i → ⊥) → AreListsOf wanted (take (i + 1) ts) first' next'
+  passed first' next' f n none =
+      rw (f, n, one_more, get_or_read first node position within read 0)
+      (lists_passed wanted (take i ts) first next node h (λ w. none (subst wanted (length-take-le i ts (omega arith)) w)))
+
+-- no arc is in a list yet
+pub none_linked : (wanted : ℕ → Type 0) (n : ℕ) → AreListsOf wanted [] (replicate n 0) []
+none_linked wanted n = record {
+  nexts = refl;
+  first_low = λ node. let z = zero_at n node in omega arith;
+  first_leaves = λ node e q. absurd (let z = zero_at n node in omega arith);
+  first_skips = λ node e q b. absurd (omega arith);
+  next_low = λ d b. absurd (omega arith);
+  next_leaves = λ d e b. absurd (omega arith);
+  next_skips = λ d e b. absurd (omega arith);
+}
+  where
+    zero_at : (m v : ℕ) → get_or {A = ℕ} (replicate m 0) v 0 ≡ 0
+    zero_at zero v = refl
+    zero_at (suc m) zero = refl
+    zero_at (suc m) (suc v) = zero_at m v
+
+-- all arcs are in their lists
+pub all_linked : (net : Net) (wanted : ℕ → Type 0) (to first next : List ℕ) (i : ℕ) → to ≡ heads net.arcs → length first ≡ net.nodes → length (tails net.arcs) ≤ i → AreListsOf wanted (take i (tails net.arcs)) first next
+    → IsLinks net to first next × AreListsOf wanted (tails net.arcs) first next
+all_linked net wanted to first next i e f l h =
+    let t = length_tails net.arcs in
+    let k : AreListsOf wanted (tails net.arcs) first next = subst (λ ts. AreListsOf wanted ts first next) (take_all i (tails net.arcs) l) h in (
+      record {
+        ends = e;
+        firsts = f;
+        nexts = let n = k.nexts in omega arith;
+        leaves = λ node e q. (let a = k.first_low node in omega arith, k.first_leaves node e q);
+        goes_on = λ d e q. let b = entry_below next d e q in let n = k.nexts in (let a = k.next_low d (omega arith) in omega arith, k.next_leaves d e (omega arith) q);
+      },
+      k,
+    )
+  where
+    entry_below : (xs : List ℕ) (d e : ℕ) → get_or xs d 0 ≡ e + 1 → d < length xs
+    entry_below [] d e q = absurd (omega arith)
+    entry_below (x ∷ xs) zero e q = omega arith
+    entry_below (x ∷ xs) (suc d) e q = let r = entry_below xs d e q in omega arith
 
 -- another list of firsts that reads the same
 pub lists_read : (ts first first' next : List ℕ) → ((n : ℕ) → get_or first' n 0 ≡ get_or first n 0) → IsLists ts first next → IsLists ts first' next
@@ -76,7 +167,7 @@ lists_read ts first first' next r h = record {
   nexts = h.nexts;
   first_low = λ n. rw (r n) (h.first_low n);
   first_leaves = λ n e f. h.first_leaves n e (sym (r n) ∙ f);
-  first_skips = λ n e f b. h.first_skips n e (rw (r n) at f) b;
+  first_skips = λ n e f b w. h.first_skips n e (rw (r n) at f) b w;
   next_low = h.next_low;
   next_leaves = h.next_leaves;
   next_skips = h.next_skips;
@@ -231,8 +322,8 @@ listed_more nodes arcs arc first first' next h j f r a b = record {
     few = let l = length_push arcs arc in omega arith;
   };
   lists = rw (tails_push arcs arc)
-      (lists_more (tails arcs ++ arc.from ∷ []) (set first' arc.from (length next + 1)) (next ++ get_or first' arc.from 0 ∷ []) arc.to
-      (lists_more (tails arcs) first' next arc.from (lists_read (tails arcs) first first' next r h.lists) a)
+      (lists_more (λ e. Unit {0}) (tails arcs ++ arc.from ∷ []) (set first' arc.from (length next + 1)) (next ++ get_or first' arc.from 0 ∷ []) arc.to
+      (lists_more (λ e. Unit {0}) (tails arcs) first' next arc.from (lists_read (tails arcs) first first' next r h.lists) a)
       (let l = length-set first' arc.from (length next + 1) in omega arith));
 }
 

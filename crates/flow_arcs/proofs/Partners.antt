@@ -1,8 +1,9 @@
 -- What a push along a directed arc changes.
-use Rattle.std.proofs.Common.{◌≡◌, ◌≢◌, ℕ, zero, suc, ◌+◌, ◌-◌, ◌^◌, ◌%◌, ◌<◌, ◌≤◌, cond, ◌==◌, Bool, true, false, List, [], ◌∷◌, length, get_or, set, drop, ◌*◌, refl, ap, arith}
+use Rattle.std.proofs.Common.{◌≡◌, ◌≢◌, ℕ, zero, suc, ◌+◌, ◌-◌, ◌^◌, ◌%◌, ◌<◌, ◌≤◌, cond, ◌==◌, Bool, true, false, List, [], ◌∷◌, length, get_or, set, drop, ◌*◌, refl, ap, ◌∙◌, arith}
 use Rattle.std.proofs.lemmas.List.{drop_all, get_or_read, length-set}
 use Rattle.flow_model.specs.declared.Arc.{Arc}
 use Rattle.flow_model.specs.Flows.{given, taken, IsWithin}
+use Rattle.flow_arcs.specs.Arcs.{arc_at}
 use Rattle.flow_arcs.specs.Pairs.{tails, heads, partner, IsPaired, carried, pushed}
 
 -- the lists have two entries for each arc
@@ -12,6 +13,9 @@ pairs_length [] (x ∷ rest) h = absurd h
 pairs_length (arc ∷ arcs) [] h = absurd h
 pairs_length (arc ∷ arcs) (x ∷ []) h = absurd h
 pairs_length (arc ∷ arcs) (x ∷ y ∷ rest) h = let e = pairs_length arcs rest h.1 in omega arith
+
+pub rest_below : (arcs : List Arc) (rest : List ℕ) (e : ℕ) → IsPaired arcs rest → e < length rest → e < length (heads arcs)
+rest_below arcs rest e h l = let s = pairs_length arcs rest h in omega arith
 
 pub partner_below : (arcs : List Arc) (e : ℕ) → e < length (heads arcs) → partner e < length (heads arcs)
 partner_below [] e h = absurd (omega arith)
@@ -113,6 +117,15 @@ partner_odd zero h = absurd (h refl)
 partner_odd (suc zero) h = refl
 partner_odd (suc (suc e)) h = let r = partner_odd e (λ q. h (omega arith)) in omega arith
 
+partner_twice : (e : ℕ) → partner (partner e) ≡ e
+partner_twice zero = refl
+partner_twice (suc zero) = refl
+partner_twice (suc (suc e)) = ap (λ n. suc (suc n)) (partner_twice e)
+
+-- the partner of an arc's partner is that arc
+pub partner_back : (e p : ℕ) → p ≡ partner e → partner p ≡ e
+partner_back e p q = ap partner q ∙ partner_twice e
+
 pub pushed_read : (rest : List ℕ) (e p amount x y : ℕ) → p ≡ partner e → e < length rest → partner e < length rest → x ≡ get_or rest e x → y ≡ get_or (set rest e (x - amount)) p y
     → set (set rest e (x - amount)) p (y + amount) ≡ pushed rest e amount
 pushed_read rest e p amount x y q h k a b =
@@ -140,6 +153,13 @@ tail_partner [] e h = absurd (omega arith)
 tail_partner (arc ∷ arcs) zero h = refl
 tail_partner (arc ∷ arcs) (suc zero) h = refl
 tail_partner (arc ∷ arcs) (suc (suc e)) h = tail_partner arcs e (omega arith)
+
+-- the node that a partner is read to enter
+pub tail_read : (arcs : List Arc) (to : List ℕ) (e p node : ℕ) → to ≡ heads arcs → e < length (heads arcs) → p ≡ partner e → node ≡ get_or to p node → node ≡ get_or (tails arcs) e 0
+tail_read arcs to e p node h l q r =
+    let b = partner_below arcs e l in
+    let k : p < length to = (let s = ap length h in omega arith) in
+    get_or_read to p node k r 0 ∙ (ap (λ xs. get_or xs p 0) h ∙ (ap (λ d. get_or (heads arcs) d 0) q ∙ tail_partner arcs e l))
 
 -- what the arcs carry, arc by arc
 pair_at : (arcs : List Arc) (rest : List ℕ) (i j : ℕ) → IsPaired arcs rest → i < length arcs → j ≡ 2 * i
@@ -174,3 +194,41 @@ pub partner_near : (e : ℕ) → partner e ≤ e + 1
 partner_near zero = omega arith
 partner_near (suc zero) = omega arith
 partner_near (suc (suc e)) = let r = partner_near e in omega arith
+
+-- the two directed arcs of an arc
+pub record AreBoth (arcs : List Arc) (rest : List ℕ) (a e : ℕ) : Type 0 where
+  pub numbered : suc e < length (heads arcs)
+  pub along_from : get_or (tails arcs) e 0 ≡ (arc_at arcs a).from
+  pub along_to : get_or (heads arcs) e 0 ≡ (arc_at arcs a).to
+  pub back_from : get_or (tails arcs) (suc e) 0 ≡ (arc_at arcs a).to
+  pub back_to : get_or (heads arcs) (suc e) 0 ≡ (arc_at arcs a).from
+  pub sum : get_or rest e 0 + get_or (carried rest) a 0 ≡ (arc_at arcs a).capacity
+  pub back : get_or rest (suc e) 0 ≡ get_or (carried rest) a 0
+
+pub both_arcs : (arcs : List Arc) (rest : List ℕ) (a e : ℕ) → IsPaired arcs rest → a < length arcs → e ≡ 2 * a → AreBoth arcs rest a e
+both_arcs [] rest a e h l q = absurd (omega arith)
+both_arcs (arc ∷ arcs) [] a e h l q = absurd h
+both_arcs (arc ∷ arcs) (x ∷ []) a e h l q = absurd h
+both_arcs (arc ∷ arcs) (x ∷ y ∷ rest) zero zero h l q = record {
+  numbered = omega arith;
+  along_from = refl;
+  along_to = refl;
+  back_from = refl;
+  back_to = refl;
+  sum = h.0.sum;
+  back = refl;
+}
+both_arcs (arc ∷ arcs) (x ∷ y ∷ rest) zero (suc e) h l q = absurd (omega arith)
+both_arcs (arc ∷ arcs) (x ∷ y ∷ rest) (suc a) zero h l q = absurd (omega arith)
+both_arcs (arc ∷ arcs) (x ∷ y ∷ rest) (suc a) (suc zero) h l q = absurd (omega arith)
+both_arcs (arc ∷ arcs) (x ∷ y ∷ rest) (suc a) (suc (suc e)) h l q =
+    let r = both_arcs arcs rest a e h.1 (omega arith) (omega arith) in
+    record {
+      numbered = let n = r.numbered in omega arith;
+      along_from = r.along_from;
+      along_to = r.along_to;
+      back_from = r.back_from;
+      back_to = r.back_to;
+      sum = r.sum;
+      back = r.back;
+    }

@@ -1,175 +1,220 @@
 -- A search keeps its facts as it reaches one node more.
-use Rattle.std.proofs.Common.{◌≡◌, ◌≢◌, ℕ, zero, suc, pred, replicate, ◌+◌, ◌<◌, ◌≤◌, Bool, true, false, List, [], ◌∷◌, ◌++◌, length, get_or, set, refl, sym, ap, ◌∙◌, subst, inl, inr, arith}
+use Rattle.std.proofs.Common.{◌≡◌, ◌≢◌, ℕ, zero, suc, replicate, ◌+◌, ◌^◌, ◌<◌, ◌≤◌, List, [], ◌∷◌, ◌++◌, length, get_or, set, refl, sym, ap, ◌∙◌, subst, inl, inr, arith}
 use Rattle.std.proofs.lemmas.Bool.{cases_eq, cases_lt, eq-eqb, ne_eqb}
-use Rattle.std.proofs.lemmas.List.{get_or_append_left, get_or_push, get_or-set_same, get_or-set_other, get_or_past, length-set, length_push, length-replicate, get_or-replicate}
-use Rattle.std.specs.List.{AllByRecursion}
+use Rattle.std.proofs.lemmas.List.{get_or_append_left, get_or_push, get_or_past, get_or-set_same, get_or-set_other, length-set, length_push, length-replicate, get_or-replicate}
+use Rattle.flow_model.specs.Flows.{Net, IsNet}
 use Rattle.flow_model.specs.declared.Arc.{Arc}
-use Rattle.flow_model.specs.Flows.{Net, Joins, IsNet, IsWithin}
-use Rattle.flow_arcs.specs.declared.search.Reached.{Reached}
-use Rattle.flow_arcs.specs.Ends.{arc_at, far_end}
-use Rattle.flow_arcs.specs.Searches.{reached_at, IsLinked, zeros, IsSearch, IsDone, IsClosed}
+use Rattle.flow_arcs.specs.Lists.{AreListsOf}
+use Rattle.flow_arcs.specs.Pairs.{heads, tails}
+use Rattle.flow_arcs.specs.Searches.{zeros, IsReached, IsSearch, Grows, IsShut, IsDone, IsClosed}
+use Rattle.flow_arcs.proofs.Partners.{length_tails}
+use Rattle.flow_arcs.proofs.Ways.{heads_below}
 
 -- an index with a number that isn't 0 is within the list
 pub below_length : (xs : List ℕ) (i : ℕ) → 0 < get_or xs i 0 → i < length xs
 below_length xs i h = elim (cases_lt i (length xs)) [ inl l ↦ l | inr g ↦ absurd (let e = get_or_past xs i 0 g in omega arith) ]
 
+-- what is reached is a node
+pub reached_below : (net : Net) (rest level by order : List ℕ) (node : ℕ) → IsSearch net rest level by order → 0 < get_or level node 0 → node < net.nodes
+reached_below net rest level by order node h r = let b = below_length level node r in let l = h.levels in omega arith
+
 -- a 0 that is written over
-zeros_set : (xs : List ℕ) (i y : ℕ) → i < length xs → get_or xs i 0 ≡ 0 → 0 < y → zeros (set xs i y) + 1 ≡ zeros xs
+pub zeros_set : (xs : List ℕ) (i y : ℕ) → i < length xs → get_or xs i 0 ≡ 0 → 0 < y → zeros (set xs i y) + 1 ≡ zeros xs
 zeros_set [] i y l h p = absurd (omega arith)
 zeros_set (x ∷ xs) zero y l h p = rw (eq-eqb x 0 h, ne_eqb y 0 (λ e. omega arith)) (omega arith)
 zeros_set (x ∷ xs) (suc i) y l h p = let e = zeros_set xs i y (omega arith) h p in omega arith
 
-at_old : (tree : List Reached) (e : Reached) (k : ℕ) → k < length tree → reached_at (tree ++ e ∷ []) k ≡ reached_at tree k
-at_old tree e k h = get_or_append_left tree (e ∷ []) _ k h
-
-at_new : (tree : List Reached) (e : Reached) (k : ℕ) → length tree ≡ k → reached_at (tree ++ e ∷ []) k ≡ e
-at_new tree e k h = get_or_push tree e _ k h
-
-linked_more : (arcs : List Arc) (on : List ℕ) (tree : List Reached) (e : Reached) (k : ℕ) (x : Reached) → k ≤ length tree → IsLinked arcs on tree k x → IsLinked arcs on (tree ++ e ∷ []) k x
-linked_more arcs on tree e k x l h =
-    let b = at_old tree e x.back (let q = h.earlier in omega arith) in
-    record {
-      earlier = h.earlier;
-      numbered = h.numbered;
-      begins = h.begins ∙ ap (λ (r : Reached). r.node) (sym b);
-      arrives = h.arrives;
-      some = h.some;
-      least = subst (λ (r : Reached). x.room ≤ r.room) (sym b) h.least;
-      capped = h.capped;
-      fits = h.fits;
-    }
-
 -- one node more
-module _ (arcs : List Arc) (on : List ℕ) (tree : List Reached) (seen : List ℕ) (e : Reached)
-    (h : IsSearch arcs on tree seen) (l : IsLinked arcs on tree (length tree) e) (unseen : get_or seen e.node 0 ≡ 0) where
-  node_below : e.node < length seen
-  node_below = subst (λ n. n < length seen) l.arrives (h.joined e.leaving e.arc l.numbered)
+module _ (net : Net) (rest level by order : List ℕ) (node head e : ℕ) (n : IsNet net) (h : IsSearch net rest level by order) (reached : 0 < get_or level node 0)
+    (numbered : e < length (heads net.arcs)) (leaves : get_or (tails net.arcs) e 0 ≡ node) (enters : get_or (heads net.arcs) e 0 ≡ head) (unseen : get_or level head 0 ≡ 0) where
+  head_below : head < net.nodes
+  head_below = subst (λ v. v < net.nodes) enters (heads_below net.nodes net.arcs n.joined e numbered)
 
-  longer : length (tree ++ e ∷ []) ≡ length tree + 1
-  longer = length_push tree e
-
-  new_mark : get_or (set seen e.node (length tree + 1)) e.node 0 ≡ length tree + 1
-  new_mark = get_or-set_same seen e.node (length tree + 1) 0 node_below
-
-  old_mark : (node : ℕ) → node ≢ e.node → get_or (set seen e.node (length tree + 1)) node 0 ≡ get_or seen node 0
-  old_mark node ne = get_or-set_other seen e.node node (length tree + 1) 0 ne
-
-  new_marked : (k : ℕ) → k < length tree + 1 → get_or (set seen e.node (length tree + 1)) (reached_at (tree ++ e ∷ []) k).node 0 ≡ k + 1
-  new_marked k b = elim (cases_eq k (length tree)) [
-    | inl q ↦ rw (at_new tree e k (sym q)) (new_mark ∙ ap (λ n. n + 1) (sym q))
-    | inr q ↦ (let s : k < length tree = omega arith in
-        let m = h.marked k s in
-        rw (at_old tree e k s) (old_mark (reached_at tree k).node (λ r. let z = ap (λ n. get_or seen n 0) r in omega arith) ∙ m))
-  ]
-
-  new_low : (node : ℕ) → get_or (set seen e.node (length tree + 1)) node 0 ≤ length tree + 1
-  new_low node = elim (cases_eq node e.node) [
-    | inl q ↦ rw (q, new_mark) (omega arith)
-    | inr q ↦ (let m = h.found_low node in rw (old_mark node q) (omega arith))
-  ]
-
-  new_found : (node k : ℕ) → get_or (set seen e.node (length tree + 1)) node 0 ≡ k + 1 → (reached_at (tree ++ e ∷ []) k).node ≡ node
-  new_found node k f = elim (cases_eq node e.node) [
-    | inl q ↦ (let m = new_mark in let g = rw q at f in rw (at_new tree e k (omega arith)) (sym q))
-    | inr q ↦ (let g = old_mark node q in
-        let m = h.found_low node in
-        rw (at_old tree e k (omega arith)) (h.found node k (omega arith)))
-  ]
-
-  new_linked : (k : ℕ) → 0 < k → k < length tree + 1 → IsLinked arcs on (tree ++ e ∷ []) k (reached_at (tree ++ e ∷ []) k)
-  new_linked k p b = elim (cases_eq k (length tree)) [
-    | inl q ↦ rw (at_new tree e k (sym q), q) (linked_more arcs on tree e (length tree) e (omega arith) l)
-    | inr q ↦ rw (at_old tree e k (omega arith)) (linked_more arcs on tree e k (reached_at tree k) (omega arith) (h.linked k p (omega arith)))
-  ]
-
-  pub search_push : IsSearch arcs on (tree ++ e ∷ []) (set seen e.node (length tree + 1))
-  search_push =
-      let z = zeros_set seen e.node (length tree + 1) node_below unseen (omega arith) in
+  -- its level fits
+  pub level_fits : get_or level node 0 + 1 < 2 ^ 32
+  level_fits =
+      let l = h.levels in
+      let b = head_below in
+      let z = zeros_set level head 1 (omega arith) unseen (omega arith) in
       let c = h.counted in
-      let n = longer in
-      let r = h.rooted in
-      let s = length-set seen e.node (length tree + 1) in
+      let w = h.low node in
+      let f = h.few in
+      omega arith
+
+  new_level : get_or (set level head (get_or level node 0 + 1)) head 0 ≡ get_or level node 0 + 1
+  new_level = let l = h.levels in let b = head_below in get_or-set_same level head (get_or level node 0 + 1) 0 (omega arith)
+
+  old_level : (v : ℕ) → v ≢ head → get_or (set level head (get_or level node 0 + 1)) v 0 ≡ get_or level v 0
+  old_level v ne = get_or-set_other level head v (get_or level node 0 + 1) 0 ne
+
+  other : (v : ℕ) → 0 < get_or level v 0 → v ≢ head
+  other v l q = let z = ap (λ m. get_or level m 0) q in omega arith
+
+  kept_level : (v : ℕ) → 0 < get_or level v 0 → get_or (set level head (get_or level node 0 + 1)) v 0 ≡ get_or level v 0
+  kept_level v l = old_level v (other v l)
+
+  old_order : (k : ℕ) → k < length order → get_or (order ++ head ∷ []) k 0 ≡ get_or order k 0
+  old_order k l = get_or_append_left order (head ∷ []) 0 k l
+
+  new_order : get_or (order ++ head ∷ []) (length order) 0 ≡ head
+  new_order = get_or_push order head 0 (length order) refl
+
+  more_linked : (v d : ℕ) → 0 < get_or level v 0 → IsReached net.arcs rest level v d → IsReached net.arcs rest (set level head (get_or level node 0 + 1)) v d
+  more_linked v d l r = record {
+    numbered = r.numbered;
+    enters = r.enters;
+    from = let f = r.from in let k = kept_level (get_or (tails net.arcs) d 0) f in omega arith;
+    above = let f = r.from in let k = kept_level (get_or (tails net.arcs) d 0) f in let g = r.above in let m = kept_level v l in omega arith;
+    room = r.room;
+  }
+
+  pub search_push : 0 < get_or rest e 0 → IsSearch net rest (set level head (get_or level node 0 + 1)) (set by head e) (order ++ head ∷ [])
+  search_push room =
+      let b = head_below in
+      let o = length_push order head in
       record {
-        within = h.within;
-        joined = λ w a q. let j = h.joined w a q in omega arith;
-        rooted = omega arith;
-        root = rw (at_old tree e 0 r) h.root;
-        root_room = rw (at_old tree e 0 r) h.root_room;
-        counted = omega arith;
-        marked = λ k b. new_marked k (omega arith);
-        found_low = λ node. let m = new_low node in omega arith;
-        found = new_found;
-        linked = λ k p b. new_linked k p (omega arith);
+        few = h.few;
+        levels = length-set level head (get_or level node 0 + 1) ∙ h.levels;
+        arcs = length-set by head e ∙ h.arcs;
+        root = let r = h.root in kept_level 0 (omega arith) ∙ r;
+        counted =
+            let l = h.levels in
+            let z = zeros_set level head (get_or level node 0 + 1) (omega arith) unseen (omega arith) in
+            let c = h.counted in
+            let s = length-set level head (get_or level node 0 + 1) in
+            omega arith;
+        low = λ v. elim (cases_eq v head) [
+          | inl q ↦ (let w = h.low node in rw (q, new_level) (omega arith))
+          | inr q ↦ (let w = h.low v in rw (old_level v q) (omega arith))
+        ];
+        listed = λ k l. elim (cases_eq k (length order)) [
+          | inl q ↦ rw (q, new_order, new_level) (omega arith)
+          | inr q ↦ rw (old_order k (omega arith)) (let f = h.listed k (omega arith) in let g = kept_level (get_or order k 0) f in omega arith)
+        ];
+        found = λ v l. elim (cases_eq v head) [
+          | inl q ↦ (length order, omega arith, new_order ∙ sym q)
+          | inr q ↦ (let f = h.found v (rw (old_level v q) at l) in let k = f.1 in (f.0, omega arith, old_order f.0 f.1 ∙ f.2))
+        ];
+        linked = λ v i l. elim (cases_eq v head) [
+          | inl q ↦ (let a = h.arcs in rw (q, get_or-set_same by head e 0 (omega arith)) (record {
+            numbered = numbered;
+            enters = enters;
+            from = rw leaves (let k = kept_level node reached in omega arith);
+            above = rw leaves (let k = kept_level node reached in let m = new_level in omega arith);
+            room = room;
+          }))
+          | inr q ↦ (let m = rw (old_level v q) at l in rw (get_or-set_other by head v e 0 q) (more_linked v (get_or by v 0) m (h.linked v i m)))
+        ];
       }
 
--- each entry has room
-pub some_room : (arcs : List Arc) (on : List ℕ) (tree : List Reached) (seen : List ℕ) (k : ℕ) → IsSearch arcs on tree seen → k < length tree → 0 < (reached_at tree k).room
-some_room arcs on tree seen zero h l = h.root_room
-some_room arcs on tree seen (suc k) h l = (h.linked (suc k) (omega arith) l).some
+  pub search_grows : Grows level (set level head (get_or level node 0 + 1)) order (order ++ head ∷ [])
+  search_grows =
+      let o = length_push order head in
+      record {
+        longer = omega arith;
+        same = old_order;
+        kept = λ v l. let k = kept_level v l in omega arith;
+      }
+
+  pub search_shuts : IsShut net.arcs rest (set level head (get_or level node 0 + 1)) e
+  search_shuts = λ r. rw (enters, new_level) (omega arith)
 
 -- no node is reached
 abbrev pub blank : ℕ → List ℕ
 blank n = replicate n 0
 
+zero_at : (n v : ℕ) → get_or (blank n) v 0 ≡ 0
+zero_at zero v = refl
+zero_at (suc n) zero = refl
+zero_at (suc n) (suc v) = zero_at n v
+
 zeros-replicate : (n : ℕ) → zeros (blank n) ≡ n
 zeros-replicate zero = refl
 zeros-replicate (suc n) = let e = zeros-replicate n in omega arith
 
-far_joined : (nodes : ℕ) (arcs : List Arc) → AllByRecursion (Joins nodes) arcs → (leaving : Bool) (a : ℕ) → a < length arcs → far_end leaving (arc_at arcs a) < nodes
-far_joined nodes [] j leaving a l = absurd (omega arith)
-far_joined nodes (arc ∷ arcs) j true zero l = j.0.to
-far_joined nodes (arc ∷ arcs) j false zero l = j.0.from
-far_joined nodes (arc ∷ arcs) j leaving (suc a) l = far_joined nodes arcs j.1 leaving a (omega arith)
-
 -- the search that has reached the source alone
-module _ (net : Net) (on : List ℕ) (r : Reached) (n : IsNet net) (w : IsWithin net.arcs on) (node : r.node ≡ 0) (room : 0 < r.room) where
-  blank_length : 0 < length (blank net.nodes)
-  blank_length = let e = n.ends in let l : length (blank net.nodes) ≡ net.nodes = length-replicate net.nodes 0 in omega arith
+module _ (net : Net) (rest : List ℕ) (n : IsNet net) (f : net.nodes < 2 ^ 32) where
+  blank_length : length (blank net.nodes) ≡ net.nodes
+  blank_length = length-replicate net.nodes 0
 
-  first_mark : get_or (set (blank net.nodes) 0 1) 0 0 ≡ 1
-  first_mark = get_or-set_same (blank net.nodes) 0 1 0 blank_length
+  first_level : get_or (set (blank net.nodes) 0 1) 0 0 ≡ 1
+  first_level = let e = n.ends in let l = blank_length in get_or-set_same (blank net.nodes) 0 1 0 (omega arith)
 
-  other_mark : (v : ℕ) → v ≢ 0 → get_or (set (blank net.nodes) 0 1) v 0 ≡ 0
-  other_mark v ne = get_or-set_other (blank net.nodes) 0 v 1 0 ne ∙ zero_at net.nodes v
-    where
-      zero_at : (m v : ℕ) → get_or (blank m) v 0 ≡ 0
-      zero_at zero v = refl
-      zero_at (suc m) zero = refl
-      zero_at (suc m) (suc v) = zero_at m v
+  other_level : (v : ℕ) → v ≢ 0 → get_or (set (blank net.nodes) 0 1) v 0 ≡ 0
+  other_level v ne = get_or-set_other (blank net.nodes) 0 v 1 0 ne ∙ zero_at net.nodes v
 
-  pub search_begins : IsSearch net.arcs on (r ∷ []) (set (blank net.nodes) 0 1)
+  pub search_begins : IsSearch net rest (set (blank net.nodes) 0 1) (blank net.nodes) (0 ∷ [])
   search_begins =
       let e = n.ends in
-      let l : length (blank net.nodes) ≡ net.nodes = length-replicate net.nodes 0 in
+      let l = blank_length in
       let s = length-set (blank net.nodes) 0 1 in
       let z = zeros_set (blank net.nodes) 0 1 (omega arith) (get_or-replicate net.nodes 0 0 0 (omega arith)) (omega arith) in
       let q = zeros-replicate net.nodes in
+      let r = first_level in
       record {
-        within = w;
-        joined = λ v a k. let f = far_joined net.nodes net.arcs n.joined v a k in omega arith;
-        rooted = omega arith;
-        root = node;
-        root_room = room;
+        few = f;
+        levels = omega arith;
+        arcs = l;
+        root = omega arith;
         counted = omega arith;
-        marked = λ k b. let z : k ≡ 0 = omega arith in rw (z, node) first_mark;
-        found_low = λ v. elim (cases_eq v 0) [ inl q ↦ rw (q, first_mark) (omega arith) | inr q ↦ rw (other_mark v q) (omega arith) ];
-        found = λ v k f. elim (cases_eq v 0) [
-          | inl q ↦ (let g = rw (q, first_mark) at f in let z : k ≡ 0 = omega arith in rw (z, q) node)
-          | inr q ↦ absurd (let g = other_mark v q in omega arith)
+        low = λ v. elim (cases_eq v 0) [ inl q ↦ rw (q, first_level) (omega arith) | inr q ↦ rw (other_level v q) (omega arith) ];
+        listed = λ k b. let z : k ≡ 0 = omega arith in rw (z, first_level) (omega arith);
+        found = λ v g. elim (cases_eq v 0) [
+          | inl q ↦ (0, omega arith, sym q)
+          | inr q ↦ absurd (let o = other_level v q in omega arith)
         ];
-        linked = λ k p b. absurd (omega arith);
+        linked = λ v i g. absurd (let o = other_level v i in omega arith);
       }
 
--- a search that has looked from each entry is closed
-pub closed_from_done : (arcs : List Arc) (on : List ℕ) (tree : List Reached) (seen : List ℕ) (done : ℕ) → IsSearch arcs on tree seen → length tree ≤ done
-    → ((leaving : Bool) (k : ℕ) → k < done → k < length tree → IsDone leaving arcs on seen (reached_at tree k).node) → IsClosed arcs on seen
-closed_from_done arcs on tree seen done h l d leaving node s =
-    let k = pred (get_or seen node 0) in
-    let low = h.found_low node in
-    let e : get_or seen node 0 ≡ pred (get_or seen node 0) + 1 = suc_pred (get_or seen node 0) s in
-    let at = h.found node k e in
-    subst (λ v. IsDone leaving arcs on seen v) at (d leaving k (omega arith) (omega arith))
-  where
-    suc_pred : (n : ℕ) → 0 < n → n ≡ pred n + 1
-    suc_pred zero p = absurd (omega arith)
-    suc_pred (suc n) p = omega arith
+-- nothing more is reached
+pub grows_none : (level order : List ℕ) → Grows level level order order
+grows_none level order = record { longer = omega arith; same = λ k l. refl; kept = λ node l. l }
+
+pub grows_along : (level level' level'' order order' order'' : List ℕ) → Grows level level' order order' → Grows level' level'' order' order'' → Grows level level'' order order''
+grows_along level level' level'' order order' order'' g h = record {
+  longer = let a = g.longer in let b = h.longer in omega arith;
+  same = λ k l. h.same k (let a = g.longer in omega arith) ∙ g.same k l;
+  kept = λ node l. h.kept node (g.kept node l);
+}
+
+-- a walk along the list of a node
+module _ (net : Net) (rest level first next : List ℕ) (node position : ℕ) (h : AreListsOf (λ e. 0 < get_or rest e 0) (tails net.arcs) first next) where
+  -- begins before each arc that may carry more
+  pub shut_first : position ≡ get_or first node 0 → (e : ℕ) → e < length (heads net.arcs) → position ≤ e → get_or (tails net.arcs) e 0 ≡ node → IsShut net.arcs rest level e
+  shut_first q e l b t = let k = length_tails net.arcs in λ r. absurd (h.first_skips node e (omega arith) (omega arith) r t)
+
+  -- and skips none
+  module _ (level' : List ℕ) (arc after : ℕ) (p : position ≡ arc + 1) (low : position ≤ length (tails net.arcs)) (t : get_or (tails net.arcs) arc 0 ≡ node) (q : after ≡ get_or next arc 0) where
+    pub next_below : after < position
+    next_below = let b = h.next_low arc (omega arith) in omega arith
+
+    pub next_leaves : (e : ℕ) → after ≡ e + 1 → get_or (tails net.arcs) e 0 ≡ node
+    next_leaves e s = h.next_leaves arc e (omega arith) (sym q ∙ s) ∙ t
+
+    pub shut_more : IsShut net.arcs rest level' arc → ((v : ℕ) → 0 < get_or level v 0 → 0 < get_or level' v 0)
+        → ((e : ℕ) → e < length (heads net.arcs) → position ≤ e → get_or (tails net.arcs) e 0 ≡ node → IsShut net.arcs rest level e)
+        → (e : ℕ) → e < length (heads net.arcs) → after ≤ e → get_or (tails net.arcs) e 0 ≡ node → IsShut net.arcs rest level' e
+    shut_more s k d e l b u = λ r. elim (cases_lt e arc) [
+      | inl f ↦ absurd (h.next_skips arc e (omega arith) (omega arith) f r (u ∙ sym t))
+      | inr f ↦ elim (cases_eq e arc) [
+        | inl g ↦ subst (λ v. IsShut net.arcs rest level' v) (sym g) s r
+        | inr g ↦ k (get_or (heads net.arcs) e 0) (d e l (omega arith) u r)
+      ]
+    ]
+
+-- one node more from which the search has looked
+pub done_more : (arcs : List Arc) (rest level level' order order' : List ℕ) (done node : ℕ) → Grows level level' order order' → done < length order → node ≡ get_or order done 0
+    → ((k : ℕ) → k < done → k < length order → IsDone arcs rest level (get_or order k 0)) → IsDone arcs rest level' node
+    → (k : ℕ) → k < done + 1 → k < length order' → IsDone arcs rest level' (get_or order' k 0)
+done_more arcs rest level level' order order' done node g l r d n k b m = elim (cases_eq k done) [
+  | inl q ↦ subst (λ v. IsDone arcs rest level' v) (r ∙ (sym (g.same done l) ∙ ap (λ i. get_or order' i 0) (sym q))) n
+  | inr q ↦ (λ e f t s. g.kept (get_or (heads arcs) e 0) (d k (omega arith) (omega arith) e f (t ∙ g.same k (omega arith)) s))
+]
+
+-- a search that has looked from each node that it reached is closed
+pub closed_from_done : (net : Net) (rest level by order : List ℕ) (done : ℕ) → IsSearch net rest level by order → length order ≤ done
+    → ((k : ℕ) → k < done → k < length order → IsDone net.arcs rest level (get_or order k 0)) → IsClosed net.arcs rest level
+closed_from_done net rest level by order done h l d node s =
+    let f = h.found node s in
+    let b = f.1 in
+    subst (λ v. IsDone net.arcs rest level v) f.2 (d f.0 (omega arith) f.1)

@@ -1,14 +1,15 @@
 -- The flow that carries nothing, the bound on every value, and a closed search as a cut.
-use Rattle.std.proofs.Common.{◌≡◌, ℕ, zero, suc, ◌+◌, ◌-◌, ◌<◌, ◌≤◌, Bool, true, false, not, ◌&&◌, cond, ◌==◌, ltb, List, [], ◌∷◌, length, get_or, replicate, map, refl, sym, ap, ◌∙◌, inl, inr, arith}
+use Rattle.std.proofs.Common.{◌≡◌, ℕ, zero, suc, ◌+◌, ◌*◌, ◌<◌, ◌≤◌, Bool, true, false, not, ◌&&◌, cond, ◌==◌, ltb, List, [], ◌∷◌, length, get_or, replicate, map, refl, sym, ap, ◌∙◌, inl, inr, arith}
 use Rattle.std.proofs.lemmas.Bool.{cases_lt, lt-ltb, le-ltb, ltb-true, ltb-false}
 use Rattle.flow_model.specs.declared.Arc.{Arc}
 use Rattle.flow_model.specs.Flows.{Net, IsNet, given, taken, IsWithin, IsLegal, value, IsCut, cut_capacity, IsGreatest}
 use Rattle.flow_model.proofs.Cuts.{leaving, entering, leaving-entering, a_cut_bounds}
-use Rattle.flow_arcs.specs.declared.search.Reached.{Reached}
-use Rattle.flow_arcs.specs.Ends.{arc_at}
+use Rattle.flow_arcs.specs.Arcs.{arc_at}
+use Rattle.flow_arcs.specs.Pairs.{tails, heads, carried, IsPaired}
 use Rattle.flow_arcs.specs.Searches.{IsSearch, IsClosed}
 use Rattle.flow_arcs.specs.Sides.{side}
-use Rattle.flow_arcs.proofs.Sums.{within_length, within_at}
+use Rattle.flow_arcs.proofs.Sums.{within_length}
+use Rattle.flow_arcs.proofs.Partners.{both_arcs}
 
 -- the flow that carries nothing
 idle_within : (arcs : List Arc) → IsWithin arcs (replicate (length arcs) 0)
@@ -67,47 +68,53 @@ tight side (arc ∷ arcs) (x ∷ flow) l f g =
 
 -- the nodes that were reached, as a list
 abbrev pub reached : List ℕ → List Bool
-reached seen = map (λ (mark : ℕ). ltb 0 mark) seen
+reached level = map (λ (mark : ℕ). ltb 0 mark) level
 
-side_reached : (seen : List ℕ) (node : ℕ) → side (reached seen) node ≡ ltb 0 (get_or seen node 0)
+side_reached : (level : List ℕ) (node : ℕ) → side (reached level) node ≡ ltb 0 (get_or level node 0)
 side_reached [] node = refl
-side_reached (x ∷ seen) zero = refl
-side_reached (x ∷ seen) (suc node) = side_reached seen node
+side_reached (x ∷ level) zero = refl
+side_reached (x ∷ level) (suc node) = side_reached level node
 
-pub cut_reached : (arcs : List Arc) (on : List ℕ) (tree : List Reached) (seen : List ℕ) → IsSearch arcs on tree seen → get_or seen 1 0 ≡ 0 → IsCut (side (reached seen))
-cut_reached arcs on tree seen h s = record {
-  source = side_reached seen 0 ∙ lt-ltb 0 (get_or seen 0 0) (let m = h.marked 0 h.rooted in let r = ap (λ n. get_or seen n 0) h.root in omega arith);
-  sink = side_reached seen 1 ∙ le-ltb 0 (get_or seen 1 0) (omega arith);
+pub cut_reached : (net : Net) (rest level by order : List ℕ) → IsSearch net rest level by order → get_or level 1 0 ≡ 0 → IsCut (side (reached level))
+cut_reached net rest level by order h s = record {
+  source = side_reached level 0 ∙ lt-ltb 0 (get_or level 0 0) (let r = h.root in omega arith);
+  sink = side_reached level 1 ∙ le-ltb 0 (get_or level 1 0) (omega arith);
 }
 
 -- a closed search is a cut whose capacity is the value
-pub capacity_reached : (net : Net) (on : List ℕ) (tree : List Reached) (seen : List ℕ) → IsNet net → IsLegal net on → IsSearch net.arcs on tree seen → get_or seen 1 0 ≡ 0 → IsClosed net.arcs on seen
-    → cut_capacity (side (reached seen)) net.arcs ≡ value net on
-capacity_reached net on tree seen n l h s c =
-    let e = leaving-entering net on (side (reached seen)) n l (cut_reached net.arcs on tree seen h s) in
-    let t = tight (side (reached seen)) net.arcs on (within_length net.arcs on l.within) full empty in
-    omega arith
-  where
-    inside : (node : ℕ) → side (reached seen) node ≡ true → 0 < get_or seen node 0
-    inside node e = ltb-true 0 (get_or seen node 0) (sym (side_reached seen node) ∙ e)
+module _ (net : Net) (rest level by order : List ℕ) (n : IsNet net) (p : IsPaired net.arcs rest) (l : IsLegal net (carried rest)) (h : IsSearch net rest level by order)
+    (s : get_or level 1 0 ≡ 0) (c : IsClosed net.arcs rest level) where
+  inside : (node : ℕ) → side (reached level) node ≡ true → 0 < get_or level node 0
+  inside node e = ltb-true 0 (get_or level node 0) (sym (side_reached level node) ∙ e)
 
-    outside : (node : ℕ) → side (reached seen) node ≡ false → get_or seen node 0 ≡ 0
-    outside node e = let z = ltb-false 0 (get_or seen node 0) (sym (side_reached seen node) ∙ e) in omega arith
+  outside : (node : ℕ) → side (reached level) node ≡ false → get_or level node 0 ≡ 0
+  outside node e = let z = ltb-false 0 (get_or level node 0) (sym (side_reached level node) ∙ e) in omega arith
 
-    full : (a : ℕ) → a < length net.arcs → side (reached seen) (arc_at net.arcs a).from ≡ true → side (reached seen) (arc_at net.arcs a).to ≡ false → get_or on a 0 ≡ (arc_at net.arcs a).capacity
-    full a k p q =
-        let w = within_at net.arcs on a l.within k in
-        let i = inside (arc_at net.arcs a).from p in
-        let o = outside (arc_at net.arcs a).to q in
-        let d : 0 < (arc_at net.arcs a).capacity - get_or on a 0 → 0 < get_or seen (arc_at net.arcs a).to 0 = c true (arc_at net.arcs a).from i a k refl in
-        elim (cases_lt (get_or on a 0) (arc_at net.arcs a).capacity) [ inl b ↦ absurd (let r = d (omega arith) in omega arith) | inr b ↦ omega arith ]
+  -- a directed arc out of the set may carry no more
+  shut : (e m k : ℕ) → e < length (heads net.arcs) → get_or (tails net.arcs) e 0 ≡ m → get_or (heads net.arcs) e 0 ≡ k → side (reached level) m ≡ true → side (reached level) k ≡ false → get_or rest e 0 ≡ 0
+  shut e m k b t f i o =
+      let z = outside k o in
+      let w = ap (λ v. get_or level v 0) f in
+      elim (cases_lt 0 (get_or rest e 0)) [ inl r ↦ absurd (let d = c m (inside m i) e b t r in omega arith) | inr r ↦ omega arith ]
 
-    empty : (a : ℕ) → a < length net.arcs → side (reached seen) (arc_at net.arcs a).from ≡ false → side (reached seen) (arc_at net.arcs a).to ≡ true → get_or on a 0 ≡ 0
-    empty a k p q =
-        let i = inside (arc_at net.arcs a).to q in
-        let o = outside (arc_at net.arcs a).from p in
-        let d : 0 < get_or on a 0 → 0 < get_or seen (arc_at net.arcs a).from 0 = c false (arc_at net.arcs a).to i a k refl in
-        elim (cases_lt 0 (get_or on a 0)) [ inl b ↦ absurd (let r = d b in omega arith) | inr b ↦ omega arith ]
+  full : (a : ℕ) → a < length net.arcs → side (reached level) (arc_at net.arcs a).from ≡ true → side (reached level) (arc_at net.arcs a).to ≡ false → get_or (carried rest) a 0 ≡ (arc_at net.arcs a).capacity
+  full a k i o =
+      let r = both_arcs net.arcs rest a (2 * a) p k refl in
+      let b = r.numbered in
+      let z = shut (2 * a) _ _ (omega arith) r.along_from r.along_to i o in
+      let q = r.sum in
+      omega arith
+
+  empty : (a : ℕ) → a < length net.arcs → side (reached level) (arc_at net.arcs a).from ≡ false → side (reached level) (arc_at net.arcs a).to ≡ true → get_or (carried rest) a 0 ≡ 0
+  empty a k o i =
+      let r = both_arcs net.arcs rest a (2 * a) p k refl in
+      sym r.back ∙ shut (suc (2 * a)) _ _ r.numbered r.back_from r.back_to i o
+
+  pub capacity_reached : cut_capacity (side (reached level)) net.arcs ≡ value net (carried rest)
+  capacity_reached =
+      let e = leaving-entering net (carried rest) (side (reached level)) n l (cut_reached net rest level by order h s) in
+      let t = tight (side (reached level)) net.arcs (carried rest) (within_length net.arcs (carried rest) l.within) full empty in
+      omega arith
 
 -- a legal flow whose value is a cut's capacity is greatest
 pub greatest_from_cut : (net : Net) (on : List ℕ) (s : ℕ → Bool) → IsNet net → IsCut s → cut_capacity s net.arcs ≡ value net on → IsGreatest net on

@@ -2,7 +2,7 @@
 use Rattle.std.proofs.Common.{◌≡◌, ℕ, zero, suc, ◌<◌, ◌≤◌, List, [], ◌∷◌, length, get_or, refl, ap, arith}
 use Rattle.flow_model.specs.declared.Arc.{Arc}
 use Rattle.flow_model.specs.Flows.{IsWithin}
-use Rattle.flow_arcs.specs.Ends.{no_arc}
+use Rattle.flow_arcs.specs.Arcs.{no_arc}
 
 -- flows within the capacities, arc by arc
 pub within_length : (arcs : List Arc) (flow : List ℕ) → IsWithin arcs flow → length flow ≡ length arcs

@@ -1,15 +1,16 @@
 -- The steps of a sender keep what it holds.
-use Rattle.std.proofs.Common.{◌≡◌, ◌≢◌, ◌⊎◌, ℕ, zero, suc, ◌+◌, ◌-◌, ◌^◌, ◌<◌, ◌≤◌, cond, ◌==◌, Bool, true, false, List, [], ◌∷◌, length, get_or, set, replicate, refl, sym, ap, ◌∙◌, subst, arith, inl, inr}
+use Rattle.std.proofs.Common.{◌≡◌, ◌≢◌, ◌⊎◌, ℕ, zero, suc, ◌+◌, ◌-◌, ◌*◌, ◌^◌, ◌<◌, ◌≤◌, cond, ◌==◌, Bool, true, false, List, [], ◌∷◌, length, get_or, set, refl, sym, ap, ◌∙◌, subst, arith, inl, inr}
 use Rattle.std.proofs.lemmas.Bool.{cases_eq, ne_eqb}
-use Rattle.std.proofs.lemmas.List.{get_or-set_same, get_or-set_other, get_or_read, length-set, length-replicate}
+use Rattle.std.proofs.lemmas.List.{get_or-set_same, get_or-set_other, get_or_read, length-set}
 use Rattle.std.specs.List.{AllByRecursion}
 use Rattle.flow_model.specs.declared.Arc.{Arc}
 use Rattle.flow_model.specs.Flows.{Net, Joins, IsNet, IsLegal, value}
 use Rattle.flow_model.proofs.Cuts.{taken-source}
 use Rattle.flow_arcs.specs.declared.send.Stop.{Stop}
+use Rattle.flow_arcs.specs.Arcs.{no_arc}
 use Rattle.flow_arcs.specs.Pairs.{tails, heads, IsPaired, carried, pushed}
-use Rattle.flow_arcs.specs.Ways.{LeavesEach, IsTurns, IsWay, owed, IsSending, IsCarried}
-use Rattle.flow_arcs.proofs.Partners.{pairs_length, pushed_paired, pushed_other, pushed_moves, carried_within}
+use Rattle.flow_arcs.specs.Ways.{LeavesEach, IsLinks, IsWay, owed, IsSending, IsCarried}
+use Rattle.flow_arcs.proofs.Partners.{pairs_length, pushed_paired, pushed_other, pushed_moves, carried_within, both_arcs}
 
 -- the directed arcs enter nodes
 pub heads_below : (nodes : ℕ) (arcs : List Arc) → AllByRecursion (Joins nodes) arcs → (e : ℕ) → e < length (heads arcs) → get_or (heads arcs) e 0 < nodes
@@ -24,65 +25,65 @@ tails_below nodes (arc ∷ arcs) j zero h = j.0.from
 tails_below nodes (arc ∷ arcs) j (suc zero) h = j.0.to
 tails_below nodes (arc ∷ arcs) j (suc (suc e)) h = tails_below nodes arcs j.1 e (omega arith)
 
--- a push along an arc from a node of no greater rank keeps the way
-pub way_pushed : (arcs : List Arc) (rest rank : List ℕ) (stop : Stop) (more : List Stop) (e amount : ℕ)
-    → get_or rank (get_or (tails arcs) e 0) 0 ≤ get_or rank stop.node 0 → IsWay arcs rest rank stop more → IsWay arcs (pushed rest e amount) rank stop more
-way_pushed arcs rest rank stop [] e amount l h = h
-way_pushed arcs rest rank stop (before ∷ more) e amount l h =
-    let w = h.0.lower in
+-- a push along an arc from a node of no lower level keeps the way
+pub way_pushed : (arcs : List Arc) (rest level : List ℕ) (stop : Stop) (more : List Stop) (e amount : ℕ)
+    → get_or level stop.node 0 ≤ get_or level (get_or (tails arcs) e 0) 0 → IsWay arcs rest level stop more → IsWay arcs (pushed rest e amount) level stop more
+way_pushed arcs rest level stop [] e amount l h = h
+way_pushed arcs rest level stop (before ∷ more) e amount l h =
+    let w = h.0.higher in
     let f = h.0.fits in
     let o = pushed_other rest e amount stop.arc (λ q.
     let a : get_or (tails arcs) e 0 ≡ before.node = subst (λ d. get_or (tails arcs) d 0 ≡ before.node) q h.0.begins in
-    let b = ap (λ n. get_or rank n 0) a in omega arith) in (
+    let b = ap (λ n. get_or level n 0) a in omega arith) in (
       record {
         numbered = h.0.numbered;
         begins = h.0.begins;
         arrives = h.0.arrives;
         fits = omega arith;
         asked = h.0.asked;
-        lower = h.0.lower;
+        higher = h.0.higher;
       },
-      way_pushed arcs rest rank before more e amount (omega arith) h.1,
+      way_pushed arcs rest level before more e amount (omega arith) h.1,
     )
 
--- another rank of a node of lower rank keeps the way
-pub way_ranked : (arcs : List Arc) (rest rank : List ℕ) (stop : Stop) (more : List Stop) (node mark : ℕ)
-    → get_or rank node 0 < get_or rank stop.node 0 → IsWay arcs rest rank stop more → IsWay arcs rest (set rank node mark) stop more
-way_ranked arcs rest rank stop [] node mark l h = h
-way_ranked arcs rest rank stop (before ∷ more) node mark l h =
-    let w = h.0.lower in
-    let a = get_or-set_other rank node stop.node mark 0 (λ q. let b = ap (λ n. get_or rank n 0) q in omega arith) in
-    let c = get_or-set_other rank node before.node mark 0 (λ q. let b = ap (λ n. get_or rank n 0) q in omega arith) in (
+-- another level of a node of a higher level keeps the way
+pub way_levelled : (arcs : List Arc) (rest level : List ℕ) (stop : Stop) (more : List Stop) (node mark : ℕ)
+    → get_or level stop.node 0 < get_or level node 0 → IsWay arcs rest level stop more → IsWay arcs rest (set level node mark) stop more
+way_levelled arcs rest level stop [] node mark l h = h
+way_levelled arcs rest level stop (before ∷ more) node mark l h =
+    let w = h.0.higher in
+    let a = get_or-set_other level node stop.node mark 0 (λ q. let b = ap (λ n. get_or level n 0) q in omega arith) in
+    let c = get_or-set_other level node before.node mark 0 (λ q. let b = ap (λ n. get_or level n 0) q in omega arith) in (
       record {
         numbered = h.0.numbered;
         begins = h.0.begins;
         arrives = h.0.arrives;
         fits = h.0.fits;
         asked = h.0.asked;
-        lower = omega arith;
+        higher = omega arith;
       },
-      way_ranked arcs rest rank before more node mark (omega arith) h.1,
+      way_levelled arcs rest level before more node mark (omega arith) h.1,
     )
 
 -- what a stop asks and sent fits 64 bits
-pub way_fits : (arcs : List Arc) (rest rank : List ℕ) (stop : Stop) (more : List Stop) → IsWay arcs rest rank stop more → stop.need + stop.got < 2 ^ 64
-way_fits arcs rest rank stop [] h = h.1
-way_fits arcs rest rank stop (before ∷ more) h = let r = way_fits arcs rest rank before more h.1 in let a = h.0.asked in omega arith
+pub way_fits : (arcs : List Arc) (rest level : List ℕ) (stop : Stop) (more : List Stop) → IsWay arcs rest level stop more → stop.need + stop.got < 2 ^ 64
+way_fits arcs rest level stop [] h = h.1
+way_fits arcs rest level stop (before ∷ more) h = let r = way_fits arcs rest level before more h.1 in let a = h.0.asked in omega arith
 
 -- a stop that sent on some of what it asks
 abbrev pub sent : Stop → ℕ → Stop
 sent stop amount = record { node = stop.node; arc = stop.arc; need = stop.need - amount; got = stop.got + amount }
 
-way_sent : (arcs : List Arc) (rest rank : List ℕ) (stop : Stop) (more : List Stop) (amount : ℕ) → amount ≤ stop.need → IsWay arcs rest rank stop more → IsWay arcs rest rank (sent stop amount) more
-way_sent arcs rest rank stop [] amount l h = (h.0, let r = h.1 in omega arith)
-way_sent arcs rest rank stop (before ∷ more) amount l h = (
+way_sent : (arcs : List Arc) (rest level : List ℕ) (stop : Stop) (more : List Stop) (amount : ℕ) → amount ≤ stop.need → IsWay arcs rest level stop more → IsWay arcs rest level (sent stop amount) more
+way_sent arcs rest level stop [] amount l h = (h.0, let r = h.1 in omega arith)
+way_sent arcs rest level stop (before ∷ more) amount l h = (
   record {
     numbered = h.0.numbered;
     begins = h.0.begins;
     arrives = h.0.arrives;
     fits = let f = h.0.fits in omega arith;
     asked = let f = h.0.asked in omega arith;
-    lower = h.0.lower;
+    higher = h.0.higher;
   },
   h.1,
 )
@@ -102,46 +103,46 @@ leave_sums false true g g' t t' x f o h = omega arith
 leave_sums false false g g' t t' x f o h = omega arith
 
 -- an amount goes from the last stop to the sink
-pub delivered : (net : Net) (rest rank turn : List ℕ) (stop : Stop) (more : List Stop) (e amount : ℕ) → IsSending net rest rank turn stop more → e < length (heads net.arcs)
+pub delivered : (net : Net) (rest level turn : List ℕ) (stop : Stop) (more : List Stop) (e amount : ℕ) → IsSending net rest level turn stop more → e < length (heads net.arcs)
     → get_or (tails net.arcs) e 0 ≡ stop.node → amount ≤ get_or rest e 0 → amount ≤ stop.need
-    → IsSending net (pushed rest e amount) rank turn (sent stop amount) more
-delivered net rest rank turn stop more e amount h k t f a = record {
+    → IsSending net (pushed rest e amount) level turn (sent stop amount) more
+delivered net rest level turn stop more e amount h k t f a = record {
   paired = pushed_paired net.arcs rest e amount h.paired f;
-  ranks = h.ranks;
+  levels = h.levels;
   turns = h.turns;
   leaves = h.leaves;
-  way = way_sent net.arcs (pushed rest e amount) rank stop more amount a (way_pushed net.arcs rest rank stop more e amount (let q = ap (λ n. get_or rank n 0) t in omega arith) h.way);
+  way = way_sent net.arcs (pushed rest e amount) level stop more amount a (way_pushed net.arcs rest level stop more e amount (let q = ap (λ n. get_or level n 0) t in omega arith) h.way);
 }
 
-pub delivered_carries : (net : Net) (rest rank turn : List ℕ) (stop : Stop) (more : List Stop) (e amount : ℕ) → IsSending net rest rank turn stop more → e < length (heads net.arcs)
+pub delivered_carries : (net : Net) (rest level turn : List ℕ) (stop : Stop) (more : List Stop) (e amount : ℕ) → IsSending net rest level turn stop more → e < length (heads net.arcs)
     → get_or (tails net.arcs) e 0 ≡ stop.node → get_or (heads net.arcs) e 0 ≡ 1 → amount ≤ get_or rest e 0
     → IsCarried net.arcs rest (pushed rest e amount) (stop ∷ more) (sent stop amount ∷ more)
-delivered_carries net rest rank turn stop more e amount h k t i f = λ node ne.
+delivered_carries net rest level turn stop more e amount h k t i f = λ node ne.
     let l = pairs_length net.arcs rest h.paired in
     let m = pushed_moves net.arcs rest e amount node h.paired (omega arith) f in
     let n = rw (i, t, ne_eqb 1 node (λ q. ne (sym q))) at m in
     deliver_sums (stop.node == node) _ _ _ _ stop.got amount (owed more node) n
 
--- the last stop is left, at its rank or shut
-pub left : (net : Net) (rest rank rank' turn : List ℕ) (stop before : Stop) (more : List Stop) (mark : ℕ) → IsSending net rest rank turn stop (before ∷ more)
-    → (rank' ≡ rank) ⊎ (rank' ≡ set rank stop.node mark)
-    → IsSending net (pushed rest stop.arc stop.got) rank' turn (sent before stop.got) more
-left net rest rank rank' turn stop before more mark h r =
+-- the last stop is left, at its level or shut
+pub left : (net : Net) (rest level level' turn : List ℕ) (stop before : Stop) (more : List Stop) (mark : ℕ) → IsSending net rest level turn stop (before ∷ more)
+    → (level' ≡ level) ⊎ (level' ≡ set level stop.node mark)
+    → IsSending net (pushed rest stop.arc stop.got) level' turn (sent before stop.got) more
+left net rest level level' turn stop before more mark h r =
     let s = h.way.0 in
     let a = s.asked in
     let f = s.fits in
-    let w = way_sent net.arcs (pushed rest stop.arc stop.got) rank before more stop.got (omega arith) (way_pushed net.arcs rest rank before more stop.arc stop.got (let q = ap (λ n. get_or rank n 0) s.begins in omega arith) h.way.1) in
+    let w = way_sent net.arcs (pushed rest stop.arc stop.got) level before more stop.got (omega arith) (way_pushed net.arcs rest level before more stop.arc stop.got (let q = ap (λ n. get_or level n 0) s.begins in omega arith) h.way.1) in
     record {
       paired = pushed_paired net.arcs rest stop.arc stop.got h.paired (omega arith);
-      ranks = elim r [ inl e ↦ rw e h.ranks | inr e ↦ rw e (let l = length-set rank stop.node mark in let k = h.ranks in omega arith) ];
+      levels = elim r [ inl e ↦ rw e h.levels | inr e ↦ rw e (let l = length-set level stop.node mark in let k = h.levels in omega arith) ];
       turns = h.turns;
       leaves = h.leaves;
-      way = elim r [ inl e ↦ rw e w | inr e ↦ rw e (way_ranked net.arcs (pushed rest stop.arc stop.got) rank (sent before stop.got) more stop.node mark s.lower w) ];
+      way = elim r [ inl e ↦ rw e w | inr e ↦ rw e (way_levelled net.arcs (pushed rest stop.arc stop.got) level (sent before stop.got) more stop.node mark s.higher w) ];
     }
 
-pub left_carries : (net : Net) (rest rank turn : List ℕ) (stop before : Stop) (more : List Stop) → IsSending net rest rank turn stop (before ∷ more)
+pub left_carries : (net : Net) (rest level turn : List ℕ) (stop before : Stop) (more : List Stop) → IsSending net rest level turn stop (before ∷ more)
     → IsCarried net.arcs rest (pushed rest stop.arc stop.got) (stop ∷ before ∷ more) (sent before stop.got ∷ more)
-left_carries net rest rank turn stop before more h = λ node ne.
+left_carries net rest level turn stop before more h = λ node ne.
     let s = h.way.0 in
     let f = s.fits in
     let n = s.numbered in
@@ -151,31 +152,20 @@ left_carries net rest rank turn stop before more h = λ node ne.
     leave_sums (before.node == node) (stop.node == node) _ _ _ _ before.got stop.got (owed more node) q
 
 -- the node of the last stop is a node
-pub way_node : (net : Net) (rest rank : List ℕ) (stop : Stop) (more : List Stop) → IsNet net → IsWay net.arcs rest rank stop more → stop.node < net.nodes
-way_node net rest rank stop [] n h = let e = n.ends in let z = h.0 in omega arith
-way_node net rest rank stop (before ∷ more) n h = subst (λ x. x < net.nodes) h.0.arrives (heads_below net.nodes net.arcs n.joined stop.arc h.0.numbered)
-
--- the source is left, at its rank or shut
-pub left_source : (net : Net) (rest rank rank' turn : List ℕ) (stop : Stop) (mark : ℕ) → IsSending net rest rank turn stop [] → (rank' ≡ rank) ⊎ (rank' ≡ set rank stop.node mark)
-    → IsSending net rest rank' turn stop []
-left_source net rest rank rank' turn stop mark h r = record {
-  paired = h.paired;
-  ranks = elim r [ inl e ↦ rw e h.ranks | inr e ↦ rw e (let l = length-set rank stop.node mark in let k = h.ranks in omega arith) ];
-  turns = h.turns;
-  leaves = h.leaves;
-  way = h.way;
-}
+pub way_node : (net : Net) (rest level : List ℕ) (stop : Stop) (more : List Stop) → IsNet net → IsWay net.arcs rest level stop more → stop.node < net.nodes
+way_node net rest level stop [] n h = let e = n.ends in let z = h.0 in omega arith
+way_node net rest level stop (before ∷ more) n h = subst (λ x. x < net.nodes) h.0.arrives (heads_below net.nodes net.arcs n.joined stop.arc h.0.numbered)
 
 -- another entry of the list of the last stop's node
-pub went_on : (net : Net) (rest rank turn : List ℕ) (stop : Stop) (more : List Stop) (arc position : ℕ) → IsNet net → IsSending net rest rank turn stop more → get_or (tails net.arcs) arc 0 ≡ stop.node
+pub went_on : (net : Net) (rest level turn : List ℕ) (stop : Stop) (more : List Stop) (arc position : ℕ) → IsNet net → IsSending net rest level turn stop more → get_or (tails net.arcs) arc 0 ≡ stop.node
     → ((e : ℕ) → position ≡ e + 1 → (e < length (heads net.arcs)) × (get_or (tails net.arcs) e 0 ≡ get_or (tails net.arcs) arc 0))
-    → IsSending net rest rank (set turn stop.node position) stop more
-went_on net rest rank turn stop more arc position n h t p = record {
+    → IsSending net rest level (set turn stop.node position) stop more
+went_on net rest level turn stop more arc position n h t p = record {
   paired = h.paired;
-  ranks = h.ranks;
+  levels = h.levels;
   turns = let l = length-set turn stop.node position in let k = h.turns in omega arith;
   leaves = λ node e q. elim (cases_eq node stop.node) [
-    | inl s ↦ (let b : stop.node < length turn = (let w = way_node net rest rank stop more n h.way in let k = h.turns in omega arith) in
+    | inl s ↦ (let b : stop.node < length turn = (let w = way_node net rest level stop more n h.way in let k = h.turns in omega arith) in
         let g = get_or-set_same turn stop.node position 0 b in
         let r = rw (s, g) at q in
         let f = p e r in
@@ -192,9 +182,9 @@ pub begins_carried : (arcs : List Arc) (rest : List ℕ) (stop : Stop) → stop.
 begins_carried arcs rest stop z = λ node ne. rw z (let c = cond_none (stop.node == node) in omega arith)
 
 -- back at the source, the flow is legal, and its value has grown by what was sent
-pub sent_all : (net : Net) (old new rank turn : List ℕ) (stop : Stop) → IsNet net → IsLegal net (carried old) → IsSending net new rank turn stop [] → IsCarried net.arcs old new [] (stop ∷ [])
+pub sent_all : (net : Net) (old new level turn : List ℕ) (stop : Stop) → IsNet net → IsLegal net (carried old) → IsSending net new level turn stop [] → IsCarried net.arcs old new [] (stop ∷ [])
     → IsLegal net (carried new) × (value net (carried new) ≡ value net (carried old) + stop.got)
-sent_all net old new rank turn stop n l h c = (
+sent_all net old new level turn stop n l h c = (
   record {
     within = carried_within net.arcs new h.paired;
     balanced = λ node low high.
@@ -210,22 +200,31 @@ sent_all net old new rank turn stop n l h c = (
       omega arith),
 )
 
+-- an arc of the source leaves the stop at the source
+pub source_arc : (net : Net) (rest level turn : List ℕ) (stop : Stop) (before : List Stop) (a e : ℕ) → IsSending net rest level turn stop before → before ≡ [] → a < length net.arcs → e ≡ 2 * a → (get_or net.arcs a no_arc).from ≡ 0
+    → (e < length (heads net.arcs)) × (get_or (tails net.arcs) e 0 ≡ stop.node)
+source_arc net rest level turn stop before a e h b l q z =
+    let s = subst (λ xs. IsSending net rest level turn stop xs) b h in
+    let k = both_arcs net.arcs rest a e s.paired l q in
+    let n = k.numbered in
+    (omega arith, k.along_from ∙ (z ∙ sym s.way.0))
+
 -- the stop at the source with which a sender begins
-pub begins_sending : (net : Net) (rest rank turn : List ℕ) (stop : Stop) → IsNet net → IsPaired net.arcs rest → length rank ≡ net.nodes → length turn ≡ net.nodes → LeavesEach net.arcs turn
-    → stop.node ≡ 0 → stop.need + stop.got < 2 ^ 64 → IsSending net rest rank turn stop []
-begins_sending net rest rank turn stop n p r t l z f = record { paired = p; ranks = r; turns = t; leaves = l; way = (z, f) }
+pub begins_sending : (net : Net) (rest level turn : List ℕ) (stop : Stop) → IsNet net → IsPaired net.arcs rest → length level ≡ net.nodes → length turn ≡ net.nodes → LeavesEach net.arcs turn
+    → stop.node ≡ 0 → stop.need + stop.got < 2 ^ 64 → IsSending net rest level turn stop []
+begins_sending net rest level turn stop n p r t l z f = record { paired = p; levels = r; turns = t; leaves = l; way = (z, f) }
 
 -- the arc whose turn it is
-pub turn_arc : (net : Net) (rest rank turn : List ℕ) (stop : Stop) (more : List Stop) (position : ℕ) → IsNet net → IsSending net rest rank turn stop more → position ≡ get_or turn stop.node position → position ≢ 0
+pub turn_arc : (net : Net) (rest level turn : List ℕ) (stop : Stop) (more : List Stop) (position : ℕ) → IsNet net → IsSending net rest level turn stop more → position ≡ get_or turn stop.node position → position ≢ 0
     → (position - 1 < length (heads net.arcs)) × (get_or (tails net.arcs) (position - 1) 0 ≡ stop.node)
-turn_arc net rest rank turn stop more position n h r z =
-    let w = way_node net rest rank stop more n h.way in
+turn_arc net rest level turn stop more position n h r z =
+    let w = way_node net rest level stop more n h.way in
     let k = h.turns in
     let g = get_or_read turn stop.node position (omega arith) r 0 in
     h.leaves stop.node (position - 1) (omega arith)
 
 -- where a node's list goes on
-pub next_arc : (net : Net) (to first next : List ℕ) (arc position : ℕ) → IsTurns net to first next → arc < length (heads net.arcs) → position ≡ get_or next arc position
+pub next_arc : (net : Net) (to first next : List ℕ) (arc position : ℕ) → IsLinks net to first next → arc < length (heads net.arcs) → position ≡ get_or next arc position
     → (e : ℕ) → position ≡ e + 1 → (e < length (heads net.arcs)) × (get_or (tails net.arcs) e 0 ≡ get_or (tails net.arcs) arc 0)
 next_arc net to first next arc position t k r e q =
     let l = t.nexts in
@@ -233,48 +232,7 @@ next_arc net to first next arc position t k r e q =
     t.goes_on arc e (omega arith)
 
 -- the node that an arc enters
-pub enters : (net : Net) (to first next : List ℕ) (arc node : ℕ) → IsTurns net to first next → arc < length (heads net.arcs) → node ≡ get_or to arc node → get_or (heads net.arcs) arc 0 ≡ node
+pub enters : (net : Net) (to first next : List ℕ) (arc node : ℕ) → IsLinks net to first next → arc < length (heads net.arcs) → node ≡ get_or to arc node → get_or (heads net.arcs) arc 0 ≡ node
 enters net to first next arc node t k r =
     let e : length to ≡ length (heads net.arcs) = ap length t.ends in
     rw (← t.ends) (sym (get_or_read to arc node (omega arith) r 0))
-
--- an arc is put before the others of its node
-pub linked : (net : Net) (to first next : List ℕ) (e node position : ℕ) → IsNet net → IsTurns net to first next → e < length (heads net.arcs) → node ≡ get_or (tails net.arcs) e 0 → position ≡ get_or first node 0
-    → IsTurns net to (set first node (e + 1)) (set next e position)
-linked net to first next e node position n h k q p = record {
-  ends = h.ends;
-  firsts = let l = length-set first node (e + 1) in let f = h.firsts in omega arith;
-  nexts = let l = length-set next e position in let f = h.nexts in omega arith;
-  leaves = λ x d r. elim (cases_eq x node) [
-    | inl s ↦ (let b : node < length first = (let t = tails_below net.nodes net.arcs n.joined e k in let f = h.firsts in omega arith) in
-        let g = get_or-set_same first node (e + 1) 0 b in
-        let w = rw (s, g) at r in
-        let z : d ≡ e = omega arith in
-        (omega arith, rw (z, s) (sym q)))
-    | inr s ↦ h.leaves x d (sym (get_or-set_other first node x (e + 1) 0 s) ∙ r)
-  ];
-  goes_on = λ x d r. elim (cases_eq x e) [
-    | inl s ↦ (let f = h.nexts in
-        let b : e < length next = omega arith in
-        let g = get_or-set_same next e position 0 b in
-        let w = rw (s, g) at r in
-        let m = h.leaves node d (sym p ∙ w) in
-        (m.0, rw s (m.1 ∙ q)))
-    | inr s ↦ h.goes_on x d (sym (get_or-set_other next e x position 0 s) ∙ r)
-  ];
-}
-
--- no arc is in a list yet
-pub none_linked : (net : Net) (to first next : List ℕ) → to ≡ heads net.arcs → first ≡ replicate net.nodes 0 → next ≡ replicate (length (heads net.arcs)) 0 → IsTurns net to first next
-none_linked net to first next t f x = rw (f, x) (record {
-  ends = t;
-  firsts = length-replicate net.nodes 0;
-  nexts = length-replicate (length (heads net.arcs)) 0;
-  leaves = λ node e q. absurd (let z = zero_at net.nodes node in omega arith);
-  goes_on = λ d e q. absurd (let z = zero_at (length (heads net.arcs)) d in omega arith);
-})
-  where
-    zero_at : (m v : ℕ) → get_or {A = ℕ} (replicate m 0) v 0 ≡ 0
-    zero_at zero v = refl
-    zero_at (suc m) zero = refl
-    zero_at (suc m) (suc v) = zero_at m v

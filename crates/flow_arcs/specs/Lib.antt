@@ -1,8 +1,7 @@
 pub mod Networks
 pub mod Sides
 pub mod Faults
-pub mod Ends
-pub mod Chains
+pub mod Arcs
 pub mod Searches
 pub mod Pairs
 pub mod Ways

@@ -1,59 +1,49 @@
--- What a search from the source has reached along arcs with room.
-use Rattle.std.specs.Prelude.{◌≡◌, ℕ, ◌+◌, ◌^◌, ◌<◌, ◌≤◌, Bool, false, cond, ◌==◌, List, [], ◌∷◌, length, slice_index, slice_index_or}
+-- What a search from the source has reached along directed arcs that may carry more.
+use Rattle.std.specs.Prelude.{◌≡◌, ◌≢◌, ℕ, ◌+◌, ◌^◌, ◌<◌, ◌≤◌, cond, ◌==◌, List, [], ◌∷◌, length, slice_index}
 use Rattle.flow_model.specs.declared.Arc.{Arc}
-use Rattle.flow_model.specs.Flows.{IsWithin}
-use Rattle.flow_arcs.specs.declared.search.Reached.{Reached}
-use Rattle.flow_arcs.specs.Ends.{arc_at, near_end, far_end, spare_room}
-
--- the entry at an index of the tree
-abbrev pub reached_at : List Reached → ℕ → Reached
-reached_at tree k = slice_index_or tree k (record { node = 0; arc = 0; back = 0; leaving = false; room = 0 })
-
--- an entry of the tree: an arc with room leads to its node from the node of an earlier entry, and its room is at most that
--- of each arc on the way
-pub record IsLinked (arcs : List Arc) (on : List ℕ) (tree : List Reached) (k : ℕ) (entry : Reached) : Type 0 where
-  pub earlier : entry.back < k
-  pub numbered : entry.arc < length arcs
-  pub begins : near_end entry.leaving (arc_at arcs entry.arc) ≡ (reached_at tree entry.back).node
-  pub arrives : far_end entry.leaving (arc_at arcs entry.arc) ≡ entry.node
-  pub some : 0 < entry.room
-  pub least : entry.room ≤ (reached_at tree entry.back).room
-  pub capped : (arc_at arcs entry.arc).capacity < 2 ^ 64
-  pub fits : entry.room ≤ spare_room entry.leaving (arc_at arcs entry.arc) (slice_index on entry.arc)
+use Rattle.flow_model.specs.Flows.{Net}
+use Rattle.flow_arcs.specs.Pairs.{heads, tails}
 
 -- how many entries are 0
 abbrev pub zeros : List ℕ → ℕ
 zeros [] = 0
 zeros (x ∷ xs) = cond (x == 0) 1 0 + zeros xs
 
--- a tree of reached nodes, and for each node one more than its index there, or 0
-pub record IsSearch (arcs : List Arc) (on : List ℕ) (tree : List Reached) (seen : List ℕ) : Type 0 where
-  pub within : IsWithin arcs on
-  pub joined : (leaving : Bool) (a : ℕ) → a < length arcs → far_end leaving (arc_at arcs a) < length seen
-  pub rooted : 0 < length tree
-  pub root : (reached_at tree 0).node ≡ 0
-  pub root_room : 0 < (reached_at tree 0).room
-  pub counted : zeros seen + length tree ≡ length seen
-  pub marked : (k : ℕ) → k < length tree → slice_index seen (reached_at tree k).node ≡ k + 1
-  pub found_low : (node : ℕ) → slice_index seen node ≤ length tree
-  pub found : (node k : ℕ) → slice_index seen node ≡ k + 1 → (reached_at tree k).node ≡ node
-  pub linked : (k : ℕ) → 0 < k → k < length tree → IsLinked arcs on tree k (reached_at tree k)
+-- a node was reached by that directed arc, which may carry more and comes from a reached node, whose level is one less
+pub record IsReached (arcs : List Arc) (rest level : List ℕ) (node e : ℕ) : Type 0 where
+  pub numbered : e < length (heads arcs)
+  pub enters : slice_index (heads arcs) e ≡ node
+  pub from : 0 < slice_index level (slice_index (tails arcs) e)
+  pub above : slice_index level node ≡ slice_index level (slice_index (tails arcs) e) + 1
+  pub room : 0 < slice_index rest e
+
+-- the level of each node, 1 for the source and 0 if it isn't reached; the arc by which it was; and the reached nodes in
+-- their order
+pub record IsSearch (net : Net) (rest level by order : List ℕ) : Type 0 where
+  pub few : net.nodes < 2 ^ 32
+  pub levels : length level ≡ net.nodes
+  pub arcs : length by ≡ net.nodes
+  pub root : slice_index level 0 ≡ 1
+  pub counted : zeros level + length order ≡ length level
+  pub low : (node : ℕ) → slice_index level node ≤ length order
+  pub listed : (k : ℕ) → k < length order → 0 < slice_index level (slice_index order k)
+  pub found : (node : ℕ) → 0 < slice_index level node → (k : ℕ) × (k < length order) × (slice_index order k ≡ node)
+  pub linked : (node : ℕ) → node ≢ 0 → 0 < slice_index level node → IsReached net.arcs rest level node (slice_index by node)
 
 -- a later state of the same search
-pub record Grows (tree tree' : List Reached) (seen seen' : List ℕ) : Type 0 where
-  pub longer : length tree ≤ length tree'
-  pub sized : length seen' ≡ length seen
-  pub same : (k : ℕ) → k < length tree → reached_at tree' k ≡ reached_at tree k
-  pub kept : (node : ℕ) → 0 < slice_index seen node → 0 < slice_index seen' node
+pub record Grows (level level' order order' : List ℕ) : Type 0 where
+  pub longer : length order ≤ length order'
+  pub same : (k : ℕ) → k < length order → slice_index order' k ≡ slice_index order k
+  pub kept : (node : ℕ) → 0 < slice_index level node → 0 < slice_index level' node
 
--- an arc that has no room, or whose far end is reached
-abbrev pub IsShut : Bool → List Arc → List ℕ → List ℕ → ℕ → Type 0
-IsShut leaving arcs on seen a = 0 < spare_room leaving (arc_at arcs a) (slice_index on a) → 0 < slice_index seen (far_end leaving (arc_at arcs a))
+-- a directed arc may not carry more, or the node that it enters is reached
+abbrev pub IsShut : List Arc → List ℕ → List ℕ → ℕ → Type 0
+IsShut arcs rest level e = 0 < slice_index rest e → 0 < slice_index level (slice_index (heads arcs) e)
 
--- each arc from a node is shut
-abbrev pub IsDone : Bool → List Arc → List ℕ → List ℕ → ℕ → Type 0
-IsDone leaving arcs on seen node = (a : ℕ) → a < length arcs → near_end leaving (arc_at arcs a) ≡ node → IsShut leaving arcs on seen a
+-- each directed arc that leaves the node is shut
+abbrev pub IsDone : List Arc → List ℕ → List ℕ → ℕ → Type 0
+IsDone arcs rest level node = (e : ℕ) → e < length (heads arcs) → slice_index (tails arcs) e ≡ node → IsShut arcs rest level e
 
--- no arc with room leads out of the reached nodes
+-- no directed arc that may carry more leads out of the reached nodes
 abbrev pub IsClosed : List Arc → List ℕ → List ℕ → Type 0
-IsClosed arcs on seen = (leaving : Bool) (node : ℕ) → 0 < slice_index seen node → IsDone leaving arcs on seen node
+IsClosed arcs rest level = (node : ℕ) → 0 < slice_index level node → IsDone arcs rest level node

@@ -9,6 +9,12 @@ use plain_data::Items;
 use std::alloc::{AllocError, Global};
 use std::marker::Model;
 
+/// The number of the source.
+pub const SOURCE: u32 = 0;
+
+/// The number of the sink.
+pub const SINK: u32 = 1;
+
 /// One more than the most arcs that a network has: each has two directed arcs, whose numbers fit 32 bits.
 const MOST_ARCS: usize = 1 << 31;
 

@@ -1,10 +1,15 @@
-ghost use Rattle.std.specs.Prelude.{◌≡◌, ◌<◌, ◌≤◌, ◌+◌, ◌^◌, length, slice_index};
-ghost use Rattle.flow_arcs.specs.Pairs.{partner, pushed};
+ghost use Rattle.std.specs.Prelude.{◌≡◌, ◌<◌, ◌≤◌, ◌+◌, ◌^◌, length, slice_index, IfOk};
+ghost use Rattle.flow_model.specs.Flows.{IsLegal};
+ghost use Rattle.flow_arcs.specs.Pairs.{partner, pushed, carried, IsPaired};
+
+use crate::network::Network;
+use std::alloc::{AllocError, Global};
 
 /// The other directed arc of the same arc: 2i and 2i + 1 are partners.
 pub fn partner(arc: u32) -> u32
     requires { partner arc < 2 ^ 32 }
-    ensures { result ≡ partner arc }
+    ensures value { result ≡ partner arc }
+    ensures back { partner result ≡ arc }
 {
     if arc % 2 == 0 { arc + 1 } else { arc - 1 }
 }
@@ -21,4 +26,30 @@ pub fn push(rest: &mut Vec<u64>, arc: u32, amount: u64)
     let back = partner(arc) as usize;
     rest[arc as usize] -= amount;
     rest[back] += amount;
+}
+
+/// How much more each directed arc may carry when nothing flows.
+pub fn idle_rests(alloc: Global, net: &Network) -> Result<Vec<u64>, AllocError>
+    ensures paired { IfOk result (λ rest. IsPaired net.now.arcs rest.items) }
+    ensures legal { IfOk result (λ rest. IsLegal net.now (carried rest.items)) }
+{
+    let arcs = net.arcs();
+    let mut rest = Vec::new(alloc);
+    for arc in arcs {
+        rest.push(arc.capacity)?;
+        rest.push(0)?;
+    }
+    Ok(rest)
+}
+
+/// What each arc carries: what the second of its directed arcs may carry back.
+pub fn carried_flow(alloc: Global, net: &Network, rest: &[u64]) -> Result<Vec<u64>, AllocError>
+    requires { IsPaired net.now.arcs rest.now }
+    ensures { IfOk result (λ on. on.items ≡ carried rest.now) }
+{
+    let mut on = Vec::new(alloc);
+    for i in 0..net.arcs().len() {
+        on.push(rest[2 * i + 1])?;
+    }
+    Ok(on)
 }

@@ -1,128 +1,139 @@
-ghost use Rattle.std.specs.Prelude.{◌≡◌, ℕ, ◌+◌, ◌<◌, ◌≤◌, ◌^◌, true, false, length, IfOk, OnOk, slice_index};
-ghost use Rattle.flow_model.specs.Flows.{IsWithin};
-ghost use Rattle.flow_arcs.specs.Ends.{arc_at, near_end};
-ghost use Rattle.flow_arcs.specs.Chains.{IsChain};
-ghost use Rattle.flow_arcs.specs.Searches.{reached_at, IsSearch, Grows, IsShut, IsDone, IsClosed};
+ghost use Rattle.std.specs.Prelude.{◌≡◌, ℕ, ◌+◌, ◌<◌, ◌^◌, List, length, IfOk, OnOk, slice_index};
+ghost use Rattle.flow_model.specs.Flows.{IsNet, IsLegal, value};
+ghost use Rattle.flow_arcs.specs.Lists.{AreListsOf};
+ghost use Rattle.flow_arcs.specs.Pairs.{heads, tails, carried, IsPaired};
+ghost use Rattle.flow_arcs.specs.Searches.{IsSearch, Grows, IsShut, IsDone, IsClosed};
+ghost use Rattle.flow_arcs.specs.Ways.{IsLinks};
 
-use crate::chains::{Chain, chain_arcs};
-use crate::ends::{far_end, spare_room};
-use crate::network::Network;
-use flow_model::Arc;
+use crate::links::Links;
+use crate::network::{Network, SINK, SOURCE};
+use crate::pairs::{partner, push};
 use std::alloc::{AllocError, Global};
 
-/// A node that a search reached: by which arc, whether along it, from the entry at which index, and how much may be
-/// pushed there from the source.
-#[derive(Clone, Copy)]
-pub struct Reached {
-    pub node: u32,
-    pub arc: u32,
-    pub back: usize,
-    pub leaving: bool,
-    pub room: u64,
-}
-
-/// What a search reached, in the order in which it did, and for each node one more than its index there, or 0.
+/// What a search from the source has reached.
 #[derive(Drop)]
-pub struct RoomSearch {
-    pub tree: Vec<Reached>,
-    pub seen: Vec<usize>,
+pub struct Search {
+    /// The level of each node: 1 for the source, one more with each arc, and 0 for a node that isn't reached.
+    pub level: Vec<u32>,
+    /// The directed arc by which each node was reached.
+    pub by: Vec<u32>,
+    /// The reached nodes, in the order in which they were.
+    pub order: Vec<u32>,
 }
 
-/// Reaches the far end of an arc that has room, if it wasn't reached before.
-fn look_along(
-    arcs: &[Arc],
-    on: &[u64],
-    number: u32,
-    at: usize,
-    leaving: bool,
-    search: &mut RoomSearch,
-) -> Result<(), AllocError>
-    requires search { IsSearch arcs.now on.now search.old.tree.items search.old.seen.items }
-    requires at { at < length search.old.tree.items }
-    requires number { number < length arcs.now }
-    requires begins { near_end leaving (arc_at arcs.now number) ≡ (reached_at search.old.tree.items at).node }
-    ensures search { OnOk result (IsSearch arcs.now on.now search.new.tree.items search.new.seen.items) }
-    ensures grows { OnOk result (Grows search.old.tree.items search.new.tree.items search.old.seen.items search.new.seen.items) }
-    ensures shut { OnOk result (IsShut leaving arcs.now on.now search.new.seen.items number) }
-{
-    let arc = arcs[number as usize];
-    let node = far_end(&arc, leaving);
-    let room = spare_room(&arc, on[number as usize], leaving);
-    if room > 0 && search.seen[node as usize] == 0 {
-        let reached = Reached {
-            node,
-            arc: number,
-            back: at,
-            leaving,
-            room: room.min(search.tree[at].room),
-        };
-        search.tree.push(reached)?;
-        search.seen[node as usize] = search.tree.len();
+impl Search {
+    /// The search that has reached the source alone, whatever the arcs may carry.
+    fn new(alloc: Global, net: &Network) -> Result<Search, AllocError>
+        ensures { IfOk result (λ it. (rest : List ℕ) → IsSearch net.now rest it.level.items it.by.items it.order.items) }
+    {
+        let nodes = net.nodes() as usize;
+        let mut level = vec![in alloc; 0u32; nodes]?;
+        let by = vec![in alloc; 0u32; nodes]?;
+        let mut order = Vec::new(alloc);
+        order.push(SOURCE)?;
+        level[SOURCE as usize] = 1;
+        Ok(Search { level, by, order })
     }
-    Ok(())
-}
 
-/// Looks along each arc from the node of an entry, on one side.
-fn spread_from(
-    arcs: &[Arc],
-    on: &[u64],
-    chain: &Chain,
-    at: usize,
-    leaving: bool,
-    search: &mut RoomSearch,
-) -> Result<(), AllocError>
-    requires few { length arcs.now < 2 ^ 32 }
-    requires search { IsSearch arcs.now on.now search.old.tree.items search.old.seen.items }
-    requires at { at < length search.old.tree.items }
-    requires chain { IsChain leaving (length search.old.seen.items) arcs.now on.now (length arcs.now) chain.now.first.items chain.now.next.items }
-    ensures search { OnOk result (IsSearch arcs.now on.now search.new.tree.items search.new.seen.items) }
-    ensures grows { OnOk result (Grows search.old.tree.items search.new.tree.items search.old.seen.items search.new.seen.items) }
-    ensures done { OnOk result (IsDone leaving arcs.now on.now search.new.seen.items (reached_at search.old.tree.items at).node) }
-{
-    let node = search.tree[at].node;
-    let mut number = chain.first[node as usize];
-    while number > 0 {
-        look_along(arcs, on, number - 1, at, leaving, search)?;
-        number = chain.next[number as usize - 1];
+    /// Reaches the node that an arc from a reached node enters, if the arc may carry more and the node wasn't reached before.
+    fn look_along(
+        &mut self,
+        net: &Network,
+        links: &Links,
+        rest: &[u64],
+        node: u32,
+        arc: u32,
+    ) -> Result<(), AllocError>
+        requires net { IsNet net.now }
+        requires links { IsLinks net.now links.now.to.items links.now.first.items links.now.next.items }
+        requires paired { IsPaired net.now.arcs rest.now }
+        requires search { IsSearch net.now rest.now self.old.level.items self.old.by.items self.old.order.items }
+        requires reached { 0 < slice_index self.old.level.items node }
+        requires arc { arc < length (heads net.now.arcs) }
+        requires leaves { slice_index (tails net.now.arcs) arc ≡ node }
+        ensures search { OnOk result (IsSearch net.now rest.now self.new.level.items self.new.by.items self.new.order.items) }
+        ensures grows { OnOk result (Grows self.old.level.items self.new.level.items self.old.order.items self.new.order.items) }
+        ensures shut { OnOk result (IsShut net.now.arcs rest.now self.new.level.items arc) }
+    {
+        let head = links.to[arc as usize];
+        if rest[arc as usize] > 0 && self.level[head as usize] == 0 {
+            let level = self.level[node as usize] + 1;
+            self.order.push(head)?;
+            self.level[head as usize] = level;
+            self.by[head as usize] = arc;
+        }
+        Ok(())
     }
-    Ok(())
+
+    /// Looks along each arc in the list of a reached node.
+    fn spread(
+        &mut self,
+        net: &Network,
+        links: &Links,
+        rest: &[u64],
+        node: u32,
+    ) -> Result<(), AllocError>
+        requires net { IsNet net.now }
+        requires links { IsLinks net.now links.now.to.items links.now.first.items links.now.next.items }
+        requires lists { AreListsOf (λ e. 0 < slice_index rest.now e) (tails net.now.arcs) links.now.first.items links.now.next.items }
+        requires paired { IsPaired net.now.arcs rest.now }
+        requires search { IsSearch net.now rest.now self.old.level.items self.old.by.items self.old.order.items }
+        requires reached { 0 < slice_index self.old.level.items node }
+        ensures search { OnOk result (IsSearch net.now rest.now self.new.level.items self.new.by.items self.new.order.items) }
+        ensures grows { OnOk result (Grows self.old.level.items self.new.level.items self.old.order.items self.new.order.items) }
+        ensures done { OnOk result (IsDone net.now.arcs rest.now self.new.level.items node) }
+    {
+        let mut position = links.first[node as usize];
+        'arcs: while position > 0 {
+            let arc = position - 1;
+            self.look_along(net, links, rest, node, arc)?;
+            position = links.next[arc as usize];
+        }
+        Ok(())
+    }
+
+    /// Sends one along the arcs by which the sink was reached.
+    pub fn push_one(&self, net: &Network, links: &Links, rest: &mut Vec<u64>)
+        requires few { length (heads net.now.arcs) < 2 ^ 32 }
+        requires net { IsNet net.now }
+        requires links { IsLinks net.now links.now.to.items links.now.first.items links.now.next.items }
+        requires paired { IsPaired net.now.arcs rest.old.items }
+        requires legal { IsLegal net.now (carried rest.old.items) }
+        requires search { IsSearch net.now rest.old.items self.now.level.items self.now.by.items self.now.order.items }
+        requires reached { 0 < slice_index self.now.level.items 1 }
+        ensures paired { IsPaired net.now.arcs rest.new.items }
+        ensures legal { IsLegal net.now (carried rest.new.items) }
+        ensures raised { value net.now (carried rest.new.items) ≡ value net.now (carried rest.old.items) + 1 }
+    {
+        let mut node = SINK;
+        'arcs: while node != SOURCE {
+            let arc = self.by[node as usize];
+            push(rest, arc, 1);
+            node = links.to[partner(arc) as usize];
+        }
+    }
 }
 
-/// Searches from the source along arcs with room, nearest nodes first, until the sink is reached or nothing is left.
-pub fn search_room(alloc: Global, net: &Network, on: &[u64]) -> Result<RoomSearch, AllocError>
-    requires within { IsWithin net.now.arcs on.now }
-    ensures search { IfOk result (λ search. IsSearch net.now.arcs on.now search.tree.items search.seen.items) }
-    ensures nodes { IfOk result (λ search. length search.seen.items ≡ net.now.nodes) }
-    ensures closed { IfOk result (λ search. slice_index search.seen.items 1 ≡ 0 → IsClosed net.now.arcs on.now search.seen.items) }
+/// Searches from the source along the arcs that may carry more, level by level, until the sink is reached or nothing is left.
+pub fn search_levels(
+    alloc: Global,
+    net: &Network,
+    links: &Links,
+    rest: &[u64],
+) -> Result<Search, AllocError>
+    requires net { IsNet net.now }
+    requires links { IsLinks net.now links.now.to.items links.now.first.items links.now.next.items }
+    requires lists { AreListsOf (λ e. 0 < slice_index rest.now e) (tails net.now.arcs) links.now.first.items links.now.next.items }
+    requires paired { IsPaired net.now.arcs rest.now }
+    ensures search { IfOk result (λ it. IsSearch net.now rest.now it.level.items it.by.items it.order.items) }
+    ensures closed { IfOk result (λ it. slice_index it.level.items 1 ≡ 0 → IsClosed net.now.arcs rest.now it.level.items) }
 {
-    let arcs = net.arcs();
-    let leaving = chain_arcs(alloc, net.nodes(), arcs, on, true)?;
-    let entering = chain_arcs(alloc, net.nodes(), arcs, on, false)?;
-    let mut search = begin_search(alloc, net, on)?;
+    let mut search = Search::new(alloc, net)?;
     let mut done = 0usize;
-    while done < search.tree.len() && search.seen[1] == 0 {
-        spread_from(arcs, on, &leaving, done, true, &mut search)?;
-        spread_from(arcs, on, &entering, done, false, &mut search)?;
+    'nodes: while done < search.order.len() && search.level[SINK as usize] == 0 {
+        let node = search.order[done];
+        search.spread(net, links, rest, node)?;
         done += 1;
     }
     Ok(search)
-}
-
-/// The search that has reached the source alone.
-fn begin_search(alloc: Global, net: &Network, on: &[u64]) -> Result<RoomSearch, AllocError>
-    requires { IsWithin net.now.arcs on.now }
-    ensures search { IfOk result (λ search. IsSearch net.now.arcs on.now search.tree.items search.seen.items) }
-    ensures nodes { IfOk result (λ search. length search.seen.items ≡ net.now.nodes) }
-{
-    let mut seen = vec![in alloc; 0usize; net.nodes() as usize]?;
-    seen[0] = 1;
-    let mut tree = Vec::new(alloc);
-    tree.push(Reached {
-        node: 0,
-        arc: 0,
-        back: 0,
-        leaving: true,
-        room: u64::MAX,
-    })?;
-    Ok(RoomSearch { tree, seen })
 }

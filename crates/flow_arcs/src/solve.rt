@@ -1,12 +1,15 @@
-ghost use Rattle.std.specs.Prelude.{◌≡◌, IfOk, length, map, nat_lt};
-ghost use Rattle.flow_model.specs.Flows.{IsLegal, IsGreatest, IsCut, value, cut_capacity};
+ghost use Rattle.std.specs.Prelude.{◌≡◌, IfOk, length, map, nat_lt, slice_index};
+ghost use Rattle.flow_model.specs.Flows.{IsNet, IsLegal, IsGreatest, IsCut, value, cut_capacity};
+ghost use Rattle.flow_arcs.specs.Pairs.{carried, IsPaired};
+ghost use Rattle.flow_arcs.specs.Searches.{IsSearch, IsClosed};
 ghost use Rattle.flow_arcs.specs.Sides.{side};
 
-use crate::fast::{levelled_flow, swept_flow};
 use crate::flow::{ArcFlow, Cut};
-use crate::network::Network;
-use crate::push::push_along;
-use crate::search::search_room;
+use crate::links::Links;
+use crate::network::{Network, SINK};
+use crate::pairs::carried_flow;
+use crate::search::{Search, search_levels};
+use crate::send::Sender;
 use plain_data::Items;
 use std::alloc::{AllocError, Global};
 
@@ -27,27 +30,53 @@ pub fn max_flow_with_cut(alloc: Global, net: &Network) -> Result<(ArcFlow, Cut),
     ensures greatest { IfOk result (λ both. IsGreatest net.now both.0.on) }
     ensures least { IfOk result (λ both. cut_capacity (side both.1.inside) net.now.arcs ≡ value net.now both.0.on) }
 {
-    let arcs = net.arcs();
-    let mut on = swept_flow(alloc, net)?;
-    loop {
-        let search = search_room(alloc, net, &on)?;
-        if search.seen[1] == 0 {
-            let flow = ArcFlow {
-                on: Items::from_vec(on),
-            };
-            let cut = Cut {
-                inside: Items::from_vec(reached_nodes(alloc, &search.seen)?),
-            };
-            return Ok((flow, cut));
+    let mut links = Links::new(alloc, net)?;
+    let mut sender = Sender::new(alloc, net)?;
+    links.relink(alloc, net, &sender.rest)?;
+    sender.send(alloc, net, &links)?;
+    'rounds: loop {
+        links.relink(alloc, net, &sender.rest)?;
+        let search = search_levels(alloc, net, &links, &sender.rest)?;
+        if search.level[SINK as usize] == 0 {
+            return flow_and_cut(alloc, net, &sender.rest, &search);
         }
-        push_along(net, &mut on, &search);
-        on = levelled_flow(alloc, net, &on)?;
+        sender.send_round(alloc, net, &links, search)?;
     }
 }
 
-/// For each node whether it was reached.
-fn reached_nodes(alloc: Global, seen: &[usize]) -> Result<Vec<bool>, AllocError>
-    ensures { IfOk result (λ inside. inside.items ≡ map (λ mark. nat_lt 0 mark) seen.now) }
+/// The flow and the cut that a search shows which hasn't reached the sink.
+fn flow_and_cut(
+    alloc: Global,
+    net: &Network,
+    rest: &[u64],
+    search: &Search,
+) -> Result<(ArcFlow, Cut), AllocError>
+    requires net { IsNet net.now }
+    requires paired { IsPaired net.now.arcs rest.now }
+    requires legal { IsLegal net.now (carried rest.now) }
+    requires search { IsSearch net.now rest.now search.now.level.items search.now.by.items search.now.order.items }
+    requires unreached { slice_index search.now.level.items 1 ≡ 0 }
+    requires closed { IsClosed net.now.arcs rest.now search.now.level.items }
+    ensures legal { IfOk result (λ both. IsLegal net.now both.0.on) }
+    ensures cut { IfOk result (λ both. IsCut (side both.1.inside)) }
+    ensures nodes { IfOk result (λ both. length both.1.inside ≡ net.now.nodes) }
+    ensures greatest { IfOk result (λ both. IsGreatest net.now both.0.on) }
+    ensures least { IfOk result (λ both. cut_capacity (side both.1.inside) net.now.arcs ≡ value net.now both.0.on) }
 {
-    seen.iter().map(|mark| *mark > 0).collect(alloc)
+    let on = carried_flow(alloc, net, rest)?;
+    let inside = reached_nodes(alloc, &search.level)?;
+    let flow = ArcFlow {
+        on: Items::from_vec(on),
+    };
+    let cut = Cut {
+        inside: Items::from_vec(inside),
+    };
+    Ok((flow, cut))
+}
+
+/// For each node whether it was reached.
+fn reached_nodes(alloc: Global, level: &[u32]) -> Result<Vec<bool>, AllocError>
+    ensures { IfOk result (λ inside. inside.items ≡ map (λ mark. nat_lt 0 mark) level.now) }
+{
+    level.iter().map(|mark| *mark > 0).collect(alloc)
 }

@@ -16,3 +16,4 @@ pub mod Judging
 pub mod Standing
 pub mod Told
 pub mod Staying
+pub mod Beginning

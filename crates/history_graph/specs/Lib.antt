@@ -5,6 +5,8 @@ pub mod Written
 pub mod Left
 pub mod Grown
 pub mod Texts
+pub mod Histories
 pub mod Tallies
 pub mod Room
 pub mod Ends
+pub mod Usable

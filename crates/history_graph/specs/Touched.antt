@@ -1,5 +1,5 @@
 -- What a cell reads and misses, by its marks and the versions that hold as it begins.
-use Rattle.std.specs.Prelude.{◌≡◌, ℕ, ◌<◌, ◌↔◌, Bool, ◌&&◌, ◌||◌, IsTrue, nat_lt, List, Contains, length}
+use Rattle.std.specs.Prelude.{◌≡◌, ℕ, ◌<◌, ◌↔◌, Bool, ◌&&◌, ◌||◌, IsTrue, nat_lt, List, [], ◌∷◌, ◌++◌, Contains, length}
 use Rattle.py_machine.specs.declared.marks.Marks.{Marks}
 use Rattle.py_machine.specs.Marked.{Name, has_member}
 use Rattle.graph_model.specs.declared.graph.CellRecord.{CellRecord}
@@ -54,3 +54,7 @@ pub record IsRecordOf (g : Graph) (text : List ℕ) (units taken : ℕ) (marks :
   pub reads : (v : ℕ) → Contains x.reads v ↔ Reads g marks v
   pub missing_ascends : Ascends TextBelow x.missing
   pub missing : (name : Name) → Contains x.missing name ↔ Misses g marks name
+
+-- k has the cells of g and then this one's record
+abbrev pub Records : Graph → List ℕ → ℕ → ℕ → Marks → Graph → Type 0
+Records g text units taken marks k = (x : CellRecord) × (k.cells ≡ g.cells ++ x ∷ []) × IsRecordOf g text units taken marks x

@@ -33,23 +33,24 @@ fn active_of(alloc: Global, graph: &Graph) -> Result<Items<u32>, AllocError>
     Ok(active)
 }
 
-/// A graph that knows which of its versions hold. Contracts see the graph.
+/// A graph that knows which of its versions hold, or finds them when they are asked for. Contracts see the graph.
 #[derive(Debug, Drop)]
-pub struct ActiveGraph {
+pub(crate) struct ActiveGraph {
     graph: Graph,
-    /// The numbers of the versions that hold, ascending.
-    active: Items<u32>,
+    /// The numbers of the versions that hold, ascending; None until they are asked for.
+    active: Option<Items<u32>>,
 }
 
 impl Model for ActiveGraph {
+    ghost use Rattle.std.specs.Prelude.{◌<◌, ◌^◌, length};
     ghost use Rattle.graph_model.specs.declared.graph.Graph.{Graph};
-    ghost use Rattle.history_graph.specs.Active.{AreActive};
+    ghost use Rattle.history_graph.specs.Active.{AreNoted};
 
     ghost Value = { Graph };
 
     ghost view = { λ it. it.graph };
 
-    ghost invariant = { λ it. AreActive it.graph it.active };
+    ghost invariant = { λ it. (length it.graph.versions < 2 ^ 32) × AreNoted it.graph it.active };
 }
 
 impl ActiveGraph {
@@ -62,17 +63,19 @@ impl ActiveGraph {
                 cells: Items::new(alloc),
                 versions: Items::new(alloc),
             },
-            active: Items::new(alloc),
+            active: Some(Items::new(alloc)),
         }
     }
 
-    /// This graph. Goes once over its versions.
-    pub(crate) fn of(alloc: Global, graph: Graph) -> Result<ActiveGraph, AllocError>
+    /// This graph. Takes no memory.
+    pub(crate) fn of(graph: Graph) -> ActiveGraph
         requires { length graph.versions < 2 ^ 32 }
-        ensures { IfOk result (λ it. it ≡ graph) }
+        ensures { result ≡ graph }
     {
-        let active = active_of(alloc, &graph)?;
-        Ok(ActiveGraph { graph, active })
+        ActiveGraph {
+            graph,
+            active: None,
+        }
     }
 
     /// The graph.
@@ -82,22 +85,28 @@ impl ActiveGraph {
         &self.graph
     }
 
-    /// The numbers of the versions that hold, ascending.
-    pub(crate) fn active(&self) -> &[u32]
-        ensures { AreActive self.now result.now }
+    /// The numbers of the versions that hold, ascending, which are taken out. If they aren't known, this goes once over the versions.
+    pub(crate) fn take_active(&mut self, alloc: Global) -> Result<Items<u32>, AllocError>
+        ensures active { IfOk result (AreActive self.old) }
+        ensures same { self.new ≡ self.old }
     {
-        self.active.as_slice()
+        match self.active.take() {
+            Some(active) => Ok(active),
+            None => active_of(alloc, &self.graph),
+        }
     }
 
     /// Adds a cell with its record and its versions, and marks the older versions that these replace. After an error nothing
-    /// is changed. Of the older versions it looks at those that hold.
+    /// is changed. Of the older versions it looks at those that hold, whose numbers are given.
     pub(crate) fn grow(
         &mut self,
         alloc: Global,
+        active: Items<u32>,
         cell: CellRecord,
         news: Items<Version>,
         writer: u32,
     ) -> Result<(), AllocError>
+        requires active { AreActive self.old active }
         requires writer { 0 < writer }
         requires news { All (λ x. x.replaced ≡ 0) news }
         requires few { length self.old.versions + length news < 2 ^ 32 }
@@ -105,17 +114,12 @@ impl ActiveGraph {
         ensures err { OnErr result (self.new ≡ self.old) }
     {
         let fresh = names_of(alloc, news.as_slice())?;
-        let Turnover { mut stay, go } = turnover_of(
-            alloc,
-            &self.graph,
-            self.active.as_slice(),
-            &fresh,
-        )?;
+        let Turnover { mut stay, go } = turnover_of(alloc, &self.graph, active.as_slice(), &fresh)?;
         let last = self.graph.versions.len() as u32;
         add_numbers(&mut stay, last, news.len() as u32)?;
         add_cell(alloc, &mut self.graph, cell, news)?;
         age(alloc, &mut self.graph.versions, go.as_slice(), writer);
-        self.active = stay;
+        self.active = Some(stay);
         Ok(())
     }
 }

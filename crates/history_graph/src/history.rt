@@ -2,13 +2,15 @@ ghost use Rattle.std.specs.Prelude.{◌≡◌, ◌<◌, ◌^◌, [], Err, IfOk, 
 ghost use Rattle.std.specs.FinMap as finite;
 ghost use Rattle.py_heap.specs.declared.state.State.{State};
 ghost use Rattle.py_heap.specs.References.{IsClosed};
+ghost use Rattle.py_heap.specs.States.{empty};
 ghost use Rattle.graph_model.specs.declared.plan.Tally.{Tally};
 ghost use Rattle.linked_parts.specs.Parts.{ArePartsOf};
-ghost use Rattle.checkpoint_bytes.specs.Sessions.{TellsOf};
 ghost use Rattle.history_graph.specs.Tallies.{OnTally, IsOver, IsFirstOver};
 ghost use Rattle.history_graph.specs.Texts.{HasManyTexts};
 ghost use Rattle.history_graph.specs.Room.{IsFirstWith};
+ghost use Rattle.history_graph.specs.Touched.{Records};
 ghost use Rattle.history_graph.specs.Ends.{Makes, LedTo};
+ghost use Rattle.history_graph.specs.Usable.{IsUsableHistory};
 
 use crate::active::ActiveGraph;
 use crate::fault::HistoryFault;
@@ -23,18 +25,54 @@ use plain_data::Items;
 use py_heap::State;
 use py_machine::Marks;
 use std::alloc::{AllocError, Global};
+use std::marker::Model;
+
+/// The first of the numbers of cells, of versions, of names and of distinct texts that is 2^32 or more, with a cell of this code
+/// that leaves `news` versions and ends in this state, whose parts these are.
+fn over(
+    alloc: Global,
+    kept: &ActiveGraph,
+    state: &State,
+    parts: &Parts,
+    code: &str,
+    news: usize,
+) -> Result<Option<Tally>, AllocError>
+    requires closed { IsClosed state.now }
+    requires parts { ArePartsOf state.now parts.now }
+    ensures { IfOk result (λ over. IsFirstWith (length kept.now.cells) (length kept.now.versions) news (length (finite.keys state.now.globals)) (HasManyTexts kept.now state.now code.now) over) }
+{
+    let names = state.names(alloc)?;
+    let graph = kept.graph();
+    let first = first_over(graph.cells.len(), graph.versions.len(), news, names.len());
+    if first.is_some() {
+        return Ok(first);
+    }
+    if are_many(alloc, graph, state, parts, names.as_slice(), code)? {
+        return Ok(Some(Tally::Texts));
+    }
+    Ok(None)
+}
 
 /// The graph of the cells of a session so far, and the parts of its state.
 #[derive(Debug, Drop)]
 pub struct History {
-    pub graph: ActiveGraph,
-    pub parts: Parts,
+    graph: ActiveGraph,
+    parts: Parts,
+}
+
+impl Model for History {
+    ghost use Rattle.history_graph.specs.Histories.{HistoryView};
+
+    ghost Value = { HistoryView };
+
+    ghost view = { λ h. record { graph = h.graph; parts = h.parts } };
 }
 
 impl History {
     /// That of no cells. Takes no memory.
     pub fn new(alloc: Global) -> History
-        ensures { result ≡ record { graph = record { cells = []; versions = [] }; parts = record { list = [] } } }
+        ensures nothing { result ≡ record { graph = record { cells = []; versions = [] }; parts = record { list = [] } } }
+        ensures usable { IsUsableHistory empty result }
     {
         History {
             graph: ActiveGraph::new(alloc),
@@ -44,13 +82,15 @@ impl History {
         }
     }
 
-    /// That with this graph and these parts. Goes once over the versions.
-    pub fn of(alloc: Global, graph: Graph, parts: Parts) -> Result<History, AllocError>
+    /// That with this graph and these parts. Takes no memory: which versions hold is looked for as the next cell ends.
+    pub fn of(graph: Graph, parts: Parts) -> History
         requires { length graph.versions < 2 ^ 32 }
-        ensures { IfOk result (λ it. it ≡ record { graph = graph; parts = parts }) }
+        ensures { result ≡ record { graph = graph; parts = parts } }
     {
-        let graph = ActiveGraph::of(alloc, graph)?;
-        Ok(History { graph, parts })
+        History {
+            graph: ActiveGraph::of(graph),
+            parts,
+        }
     }
 
     /// The graph.
@@ -58,32 +98,6 @@ impl History {
         ensures { result.now ≡ self.now.graph }
     {
         self.graph.graph()
-    }
-
-    /// The first of the numbers of cells, of versions, of names and of distinct texts that is 2^32 or more, with a cell of
-    /// this code that leaves `news` versions and ends in this state, whose parts these are.
-    fn over(
-        &self,
-        alloc: Global,
-        state: &State,
-        parts: &Parts,
-        code: &str,
-        news: usize,
-    ) -> Result<Option<Tally>, AllocError>
-        requires closed { IsClosed state.now }
-        requires parts { ArePartsOf state.now parts.now }
-        ensures { IfOk result (λ over. IsFirstWith (length self.now.graph.cells) (length self.now.graph.versions) news (length (finite.keys state.now.globals)) (HasManyTexts self.now.graph state.now code.now) over) }
-    {
-        let names = state.names(alloc)?;
-        let graph = self.graph.graph();
-        let first = first_over(graph.cells.len(), graph.versions.len(), news, names.len());
-        if first.is_some() {
-            return Ok(first);
-        }
-        if are_many(alloc, graph, state, parts, names.as_slice(), code)? {
-            return Ok(Some(Tally::Texts));
-        }
-        Ok(None)
     }
 
     /// Adds a cell that ended in this state, with its code, the meter as it began, its steps and its marks: its record, and
@@ -110,25 +124,27 @@ impl History {
     ) -> Result<(), HistoryFault>
         requires { IsClosed state.now }
         ensures next { OnOk result (Makes state.now code.now meter steps marks.now self.old self.new) }
+        ensures recorded { OnOk result (Records self.old.graph code.now meter steps marks.now self.new.graph) }
         ensures parts { OnOk result (ArePartsOf state.now self.new.parts) }
         ensures few { OnOk result ((length self.new.graph.cells < 2 ^ 32) × (length self.new.graph.versions < 2 ^ 32)) }
         ensures fits { OnOk result ((s : State) → ArePartsOf s self.old.parts → (t : Tally) → ¬ IsOver self.old state.now code.now marks.now t) }
         ensures too_many { IfErr result (OnTally (λ t. (s : State) → ArePartsOf s self.old.parts → IsFirstOver self.old state.now code.now marks.now t)) }
-        // Of every history, also of one that is none of a run: if before the cell its graph told of the state, it does after it.
-        ensures stays { OnOk result ((before : State) → ArePartsOf before self.old.parts → TellsOf self.old.graph before
-            → LedTo before meter marks.now state.now → TellsOf self.new.graph state.now) }
+        // Of every history, also of one that is none of a run: if it could go on from the state before the cell, it can from this one.
+        ensures stays { OnOk result ((before : State) → IsUsableHistory before self.old → LedTo before meter marks.now state.now → IsUsableHistory state.now self.new) }
         ensures memory { result ≡ Err HistoryFault.OutOfMemory → self.new ≡ self.old }
     {
         let parts = parts_of(alloc, state)?;
         let heads = heads_of(alloc, state, &self.parts, &parts, marks)?;
         let names = heads.names(alloc)?;
-        if let Some(tally) = self.over(alloc, state, &parts, code, names.len())? {
+        if let Some(tally) = over(alloc, &self.graph, state, &parts, code, names.len())? {
             return Err(HistoryFault::TooMany(tally));
         }
-        let cell = record_of(alloc, &self.graph, code, meter, steps, marks)?;
-        let writer = self.graph.graph().cells.len() as u32 + 1;
+        let active = self.graph.take_active(alloc)?;
+        let graph = self.graph.graph();
+        let cell = record_of(alloc, graph, active.as_slice(), code, meter, steps, marks)?;
+        let writer = graph.cells.len() as u32 + 1;
         let news = versions_of(alloc, state, &parts, &heads, names.as_slice(), writer)?;
-        self.graph.grow(alloc, cell, news, writer)?;
+        self.graph.grow(alloc, active, cell, news, writer)?;
         self.parts = parts;
         Ok(())
     }

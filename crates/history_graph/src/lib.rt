@@ -21,7 +21,6 @@ mod texts;
 mod versions;
 mod written;
 
-pub use active::ActiveGraph;
 pub use fault::HistoryFault;
 pub use history::History;
 pub use laws::{

@@ -34,62 +34,77 @@
 //!     bad checkpoint at 69
 #![tactic(auto)]
 
-ghost use Rattle.std.specs.Prelude.{OnOk};
-ghost use Rattle.py_heap.specs.References.{IsClosed};
-
 mod given;
 mod plans;
 mod reading;
-mod session;
 mod words;
 
 use anyhow::{Result, bail};
 use given::{bytes_of, feed_of, weights_of};
+use nb_outside::MemFeed;
+use notebook_engine::Notebook;
 use plain_data::Text;
 use plans::put_checkpoint;
 use reading::read_text;
-use restore_run::RestoreFault;
+use restore_run::{RestoreFault, restore};
 use serde_json::Value;
-use session::ShownSession;
+use session_core::{Ask, Engine, RunFault};
 use std::alloc::Global;
 use std::io::{BufRead, BufReader};
 use words::graph_text;
 
-/// Runs these cells in a session, if there are any.
-fn run_cells(alloc: Global, session: &mut ShownSession, cells: Option<&Value>) -> Result<()>
-    requires { IsClosed session.old.kernel.state }
-    ensures { OnOk result (IsClosed session.new.kernel.state) }
-{
+/// Runs a code in a notebook, as a request does that stores its history. What it answers is dropped.
+fn run_cell(alloc: Global, notebook: &mut Notebook, feed: &mut MemFeed, code: &str) -> Result<()> {
+    let ask = Ask::Execute {
+        code: Text::new(alloc, code)?,
+        silent: false,
+        store: true,
+    };
+    match notebook.run(alloc, &ask, feed) {
+        Ok(_done) => Ok(()),
+        Err(RunFault::OutOfMemory) => bail!("out of memory"),
+        Err(fault) => {
+            drop(fault);
+            bail!("the session is full")
+        }
+    }
+}
+
+/// Runs these cells in a notebook, if there are any.
+fn run_cells(
+    alloc: Global,
+    notebook: &mut Notebook,
+    feed: &mut MemFeed,
+    cells: Option<&Value>,
+) -> Result<()> {
     let Some(cells) = cells else {
         return Ok(());
     };
-    let Some(codes) = cells.as_array() else {
+    let Some(cells) = cells.as_array() else {
         bail!("the cells are no array of codes")
     };
-    for code in codes.as_slice() {
+    for code in cells.as_slice() {
         let Some(code) = code.as_str() else {
             bail!("a code is no text")
         };
-        session.end(alloc, code)?;
+        run_cell(alloc, notebook, feed, code)?;
     }
     Ok(())
 }
 
-/// What is shown of a session once the cells of a line ran in it.
+/// What is shown of a notebook once the cells of a line ran in it.
 fn shown_after(
     alloc: Global,
-    mut session: ShownSession,
+    mut notebook: Notebook,
+    mut feed: MemFeed,
     cells: Option<&Value>,
     weights: Option<&Value>,
-) -> Result<Text>
-    requires { IsClosed session.kernel.state }
-{
-    run_cells(alloc, &mut session, cells)?;
-    let graph = session.history.graph();
-    let mut text = graph_text(alloc, graph)?;
+) -> Result<Text> {
+    run_cells(alloc, &mut notebook, &mut feed, cells)?;
+    let mut text = graph_text(alloc, notebook.graph())?;
     if let Some(weights) = weights {
         let weights = weights_of(weights)?;
-        put_checkpoint(alloc, &mut text, &session.kernel.state, graph, &weights)?;
+        put_checkpoint(alloc, &mut text, &notebook, &weights)?;
     }
     Ok(text)
 }
@@ -104,11 +119,17 @@ fn shown(alloc: Global, line: &Value) -> Result<Text> {
     let weights = line.get("weights");
     let Some(checkpoint) = line.get("checkpoint") else {
         let cells = cells.unwrap_or(line);
-        return shown_after(alloc, ShownSession::new(alloc, feed), Some(cells), weights);
+        return shown_after(
+            alloc,
+            Notebook::opened(alloc, 0),
+            feed,
+            Some(cells),
+            weights,
+        );
     };
     let bytes = bytes_of(alloc, checkpoint)?;
-    match ShownSession::restored(alloc, bytes.as_slice(), feed) {
-        Ok(session) => shown_after(alloc, session, cells, weights),
+    match restore(alloc, bytes.as_slice(), 0) {
+        Ok(restored) => shown_after(alloc, Notebook::of(alloc, restored), feed, cells, weights),
         Err(RestoreFault::OutOfMemory) => bail!("out of memory"),
         Err(fault) => Ok(Text::from_string(format!(in alloc; "not restored: {fault}\n")?)),
     }

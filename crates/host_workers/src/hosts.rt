@@ -22,6 +22,8 @@ struct RunQueue {
     bell: Bell,
     /// Whether no worker works for the host.
     is_abandoned: AtomicBool,
+    /// Whether the feeder put a session there and didn't ring since.
+    has_more: AtomicBool,
 }
 
 /// The sessions of a run, and the run queue of each host. Feeder and workers share it.
@@ -76,33 +78,57 @@ impl<E: Engine + Drop, F: Feed, N: Name> Hosts<E, F, N> {
         cell
     }
 
-    /// Says that one more request waits for this session, which is on this host.
+    /// Says that one more request waits for this session, which is on this host. Workers that sleep aren't woken before
+    /// `ring_hosts`: to wake one costs more than a short cell.
     pub fn wake<R: Wait>(&self, rt: &R, host: u32, session: u32) {
         let Some(wakes) = self.wakes.get(session as usize) else {
             return;
         };
         if wakes.fetch_add(1, Ordering::SeqCst) == 0 {
             self.busy.fetch_add(1, Ordering::SeqCst);
-            self.push(rt, host, session);
+            if let Some(queue) = self.put(rt, host, session) {
+                queue.has_more.store(true, Ordering::SeqCst);
+            }
         }
     }
 
-    /// Puts a session on the run queue of a host. If there is no such host, or no room, the session is left, as any session is
-    /// that is in none.
-    pub(crate) fn push<R: Wait>(&self, rt: &R, host: u32, session: u32) {
+    /// Wakes the workers of each host that has more to do since the last time.
+    pub fn ring_hosts<R: Wait>(&self, rt: &R) {
+        for queue in &self.run_queues {
+            if queue.has_more.swap(false, Ordering::SeqCst) {
+                queue.bell.ring(rt);
+            }
+        }
+    }
+
+    /// Puts a session on the run queue of a host, and gives the queue. If there is no such host, no worker there, or no room, the
+    /// session is left, as any session is that is in none.
+    fn put<R: Wait>(&self, rt: &R, host: u32, session: u32) -> Option<&RunQueue> {
         let Some(queue) = self.run_queues.get(host as usize) else {
             self.rest(rt, session);
-            return;
+            return None;
         };
         if queue.ready.push(rt, session).is_err() {
             self.rest(rt, session);
-            return;
+            return None;
         }
         if queue.is_abandoned.load(Ordering::SeqCst) {
             self.rest_all(rt, queue);
-            return;
+            return None;
         }
-        queue.bell.ring(rt);
+        Some(queue)
+    }
+
+    /// Puts a session on the run queue of another host, and wakes its workers.
+    pub(crate) fn push<R: Wait>(&self, rt: &R, host: u32, session: u32) {
+        if let Some(queue) = self.put(rt, host, session) {
+            queue.bell.ring(rt);
+        }
+    }
+
+    /// Puts a session back on the run queue of its host. The worker that does so looks there next, so no other is woken.
+    pub(crate) fn put_back<R: Wait>(&self, rt: &R, host: u32, session: u32) {
+        let _ = self.put(rt, host, session);
     }
 
     /// Says that no worker works for a host. A session that waits for one there, now or later, is left, as any session is that is in
@@ -225,11 +251,11 @@ fn empty_queues(alloc: Global, hosts: u32) -> Result<Vec<RunQueue>, AllocError> 
     for _ in 0..hosts {
         let ready = ArrayQueue::new(alloc, SESSIONS)?;
         let bell = Bell::new();
-        let is_abandoned = AtomicBool::new(false);
         queues.push(RunQueue {
             ready,
             bell,
-            is_abandoned,
+            is_abandoned: AtomicBool::new(false),
+            has_more: AtomicBool::new(false),
         })?;
     }
     Ok(queues)

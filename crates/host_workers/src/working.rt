@@ -52,12 +52,12 @@ where
         Next::At(other) => node.push(rt, other, session),
         Next::Answered => {
             if node.worked_off(rt, session, 1) {
-                node.push(rt, host, session);
+                node.put_back(rt, host, session);
             }
         }
         Next::Rest => {
             if node.worked_off(rt, session, waiting) {
-                node.push(rt, host, session);
+                node.put_back(rt, host, session);
             }
         }
     }

@@ -105,6 +105,11 @@ abbrev pub with_message : ℕ → Node → Result Message MessageFault → Node
 with_message hosts node (Ok m) = with_kind hosts node m m.kind
 with_message hosts node (Err why) = unread node why
 
+-- messages more, one after the other
+abbrev pub with_messages : ℕ → Node → List (Result Message MessageFault) → Node
+with_messages hosts node [] = node
+with_messages hosts node (read ∷ more) = with_messages hosts (with_message hosts node read) more
+
 -- ---- a stream
 
 -- frames with these bodies more, on a node with this number of hosts

@@ -1,5 +1,5 @@
 -- What is taken in of a stream of bytes.
-use Rattle.std.specs.Prelude.{◌≡◌, ◌≢◌, ℕ, ◌⊎◌, Bool, true, false, List, [], length, Option, Some, None}
+use Rattle.std.specs.Prelude.{◌≡◌, ◌≢◌, ℕ, ◌+◌, ◌⊎◌, Bool, true, false, List, [], length, Option, Some, None}
 use Rattle.std.specs.List.{flat_map, AllByRecursion}
 use Rattle.nb_outside.specs.Streams.{IsAtEnd}
 use Rattle.jupyter_frames.specs.Framing.{frame, IsBody, IsBegun, IsBad, IsRest, stream, place_after, Held}
@@ -56,3 +56,9 @@ EndsOrGoesOn (Some end) left rest = EndsSo end left rest
 abbrev pub IsPlaceOf : Held → Option ℕ → Type 0
 IsPlaceOf held None = held.bytes ≡ []
 IsPlaceOf held (Some place) = (held.bytes ≢ []) × (place ≡ held.place)
+
+-- The frames with these bodies were cut off at the front. A place is counted from the stream's first byte.
+pub record IsCutOff (old : Held) (bodies : List (List ℕ)) (new : Held) : Type 0 where
+  pub are_bodies : AllByRecursion IsBody bodies
+  pub parts : old.bytes ≡ stream bodies new.bytes
+  pub place : (before : ℕ) → old.place ≡ place_after 0 before → new.place ≡ place_after 0 (before + length (flat_map frame bodies))

@@ -69,4 +69,7 @@ pub trait Desk: Drop {
         ensures ok { OnOk result ((ts : List Taken) (s : Taken) → holds self.old ts → slice_get ts at ≡ Some s → holds self.new (slice_set ts at (with_more s request))) }
         ensures err { OnErr result ((ts : List Taken) → holds self.old ts → holds self.new ts) }
         ensures kept { keeps self.old self.new };
+
+    /// Wakes who waits for what was opened and handed in. It is called once all frames that came are taken in.
+    fn notify(&self);
 }

@@ -3,18 +3,39 @@
 ghost use Rattle.std.specs.Prelude.{◌≡◌, ℕ, List, IfOk, OnOk, OnErr};
 ghost use Rattle.node_intake.specs.Sessions.{HasHosts};
 ghost use Rattle.node_intake.specs.Standing.{StandsFor, HasKept};
-ghost use Rattle.node_intake.specs.Taking.{TookSoFar, TookFront, Stands, IsPlaceOf};
+ghost use Rattle.node_intake.specs.Taking.{TookSoFar, TookFront, Stands, IsPlaceOf, IsCutOff};
 
 use crate::desk::Desk;
 use crate::node::Intake;
+use crate::reading::{HALVINGS, read_bodies};
 use crate::session::Handed;
 use jupyter_frames::{Framer, Next};
 use plain_data::Items;
 use std::alloc::{AllocError, Global};
+use std::thread::Threads;
 
-/// Takes in the whole frames that are held, and gives whether more may come: none may after a bad length. After an error perhaps some of
-/// them were taken in, the first.
-pub fn take_frames<D: Desk>(
+/// Cuts off the whole frames that are held, and gives their bodies, and whether more may come: none may after a bad length.
+fn cut_off(alloc: Global, framer: &mut Framer) -> Result<(Vec<Items<u8>>, bool), AllocError>
+    ensures cut { IfOk result (λ cut. IsCutOff framer.old cut.0.items framer.new) }
+    ensures stands { IfOk result (λ cut. Stands cut.1 framer.new.bytes) }
+{
+    let mut bodies = Vec::new(alloc);
+    loop {
+        match framer.next(alloc) {
+            Next::Frame(body) => {
+                bodies.push(body)?;
+            }
+            Next::NotYet => return Ok((bodies, true)),
+            Next::Bad(_) => return Ok((bodies, false)),
+            Next::OutOfMemory => return Err(AllocError),
+        }
+    }
+}
+
+/// Takes in the whole frames that are held, and gives whether more may come: none may after a bad length. If there are many, threads
+/// read them. After an error perhaps some of them were taken in, the first.
+pub fn take_frames<D: Desk, R: Threads + Sync>(
+    rt: &R,
     alloc: Global,
     hosts: u32,
     framer: &mut Framer,
@@ -26,14 +47,11 @@ pub fn take_frames<D: Desk>(
     ensures err { OnErr result ((bytes : List ℕ) → TookSoFar hosts bytes framer.old (StandsFor D.holds node.old) → TookFront hosts bytes (StandsFor D.holds node.new)) }
     ensures kept { HasKept D.keeps node.old node.new }
 {
-    loop {
-        match framer.next(alloc) {
-            Next::Frame(body) => node.take_body(alloc, hosts, body.as_slice())?,
-            Next::NotYet => return Ok(true),
-            Next::Bad(_) => return Ok(false),
-            Next::OutOfMemory => return Err(AllocError),
-        }
-    }
+    let (bodies, more) = cut_off(alloc, framer)?;
+    let all = read_bodies(rt, alloc, bodies.as_slice(), HALVINGS)?;
+    node.take_all(alloc, hosts, all)?;
+    node.desk.notify();
+    Ok(more)
 }
 
 /// Where the bytes that are held begin, if there are any.

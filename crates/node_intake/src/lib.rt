@@ -12,6 +12,7 @@ mod frames;
 pub mod laws;
 mod node;
 mod pieces;
+mod reading;
 mod session;
 
 pub use desk::Desk;

@@ -2,14 +2,14 @@
 
 ghost use Rattle.std.specs.Prelude.{◌≡◌, ◌<◌, List, [], ◌∷◌, ◌++◌, length, map, nat_le, slice_get, Some, None, true, Ok, MatchOption, OnOk, OnErr};
 ghost use Rattle.jupyter_messages.specs.Outcomes.{is_told};
-ghost use Rattle.jupyter_messages.specs.Reading.{message_in};
 ghost use Rattle.node_intake.specs.Intake as spec;
 ghost use Rattle.node_intake.specs.Intake.{Taken, Node};
 ghost use Rattle.node_intake.specs.Sessions.{IsAt, HasHosts, new_session};
-ghost use Rattle.node_intake.specs.Standing.{StandsFor, Becomes, HasKept};
+ghost use Rattle.node_intake.specs.Standing.{StandsFor, Becomes, BecomesFront, HasKept};
 
 use crate::desk::Desk;
-use jupyter_messages::{Message, MessageFault, MessageKind, read_message};
+use crate::reading::Read;
+use jupyter_messages::{Message, MessageFault, MessageKind};
 use plain_data::Text;
 use reply_frames::{About, NodeError, NodeErrorKind};
 use session_core::{Ask, Channel, Header, Request};
@@ -237,16 +237,34 @@ impl<D: Desk> Intake<D> {
         }
     }
 
-    /// Takes in one frame more, with this body. After an error what was taken in is as before.
-    pub fn take_body(&mut self, alloc: Global, hosts: u32, body: &[u8]) -> Result<(), AllocError>
+    /// Takes in what was read of one frame. After an error what was taken in is as before.
+    fn take_read(&mut self, alloc: Global, hosts: u32, read: Read) -> Result<(), AllocError>
         requires hosts { HasHosts D.is_host hosts }
-        ensures node { OnOk result (Becomes D.holds (λ node. spec.with_message hosts node (message_in body.now)) self.old self.new) }
+        ensures node { OnOk result (Becomes D.holds (λ node. spec.with_message hosts node read) self.old self.new) }
         ensures err { OnErr result (Becomes D.holds (λ node. node) self.old self.new) }
         ensures kept { HasKept D.keeps self.old self.new }
     {
-        match read_message(alloc, body) {
+        match read {
             Ok(message) => self.take_message(alloc, hosts, message),
             Err(fault) => self.take_fault(alloc, fault),
         }
+    }
+
+    /// Takes in what was read of some frames, one after the other. After an error perhaps that of some was taken in, the first.
+    pub(crate) fn take_all(
+        &mut self,
+        alloc: Global,
+        hosts: u32,
+        all: Vec<Read>,
+    ) -> Result<(), AllocError>
+        requires hosts { HasHosts D.is_host hosts }
+        ensures node { OnOk result (Becomes D.holds (λ node. spec.with_messages hosts node all.items) self.old self.new) }
+        ensures err { OnErr result (BecomesFront D.holds hosts all.items self.old self.new) }
+        ensures kept { HasKept D.keeps self.old self.new }
+    {
+        for read in all {
+            self.take_read(alloc, hosts, read)?;
+        }
+        Ok(())
     }
 }

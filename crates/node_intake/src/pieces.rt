@@ -15,6 +15,7 @@ use crate::session::{Handed, IntakeEnd};
 use jupyter_frames::Framer;
 use nb_outside::{ReadEnd, Source};
 use std::alloc::{AllocError, Global};
+use std::thread::Threads;
 
 /// How many bytes each read of a source asks for.
 const READ_LENGTH: usize = 65_536;
@@ -47,7 +48,8 @@ fn read_piece<S: Source>(
 }
 
 /// Reads one piece and takes in the frames that are whole with it. `None` if there may be more.
-fn take_piece<S: Source, D: Desk>(
+fn take_piece<S: Source, D: Desk, R: Threads + Sync>(
+    rt: &R,
     alloc: Global,
     hosts: u32,
     source: &mut S,
@@ -67,7 +69,7 @@ fn take_piece<S: Source, D: Desk>(
     ensures none_more { result ≢ Ok (Some IntakeEnd.TooMany) }
 {
     match read_piece(alloc, source, piece, framer) {
-        Ok(None) => match take_frames(alloc, hosts, framer, node) {
+        Ok(None) => match take_frames(rt, alloc, hosts, framer, node) {
             Ok(true) => Ok(None),
             Ok(false) => Ok(Some(IntakeEnd::End)),
             Err(error) => Err(error),
@@ -77,7 +79,8 @@ fn take_piece<S: Source, D: Desk>(
 }
 
 /// Takes in one piece after the other.
-fn take_pieces<S: Source, D: Desk>(
+fn take_pieces<S: Source, D: Desk, R: Threads + Sync>(
+    rt: &R,
     alloc: Global,
     hosts: u32,
     source: &mut S,
@@ -96,7 +99,7 @@ fn take_pieces<S: Source, D: Desk>(
     ensures faults_stay { S.faults source.old ≤ S.faults source.new }
 {
     for turn in 0..u32::MAX {
-        match take_piece(alloc, hosts, source, piece, framer, node) {
+        match take_piece(rt, alloc, hosts, source, piece, framer, node) {
             Ok(None) => {}
             Ok(Some(end)) => return Ok(end),
             Err(error) => return Err(error),
@@ -116,7 +119,8 @@ pub fn read_room(alloc: Global) -> Result<Vec<u8>, AllocError>
 /// opened on each of so many hosts. Each frame that is whole is taken in before the source is read again. A source that meets a
 /// fault, or gives a byte at each of 4,294,967,295 reads, is read no further. Even after an error, what the source had is what was
 /// taken of it, and then what it has left.
-pub fn take_in_at<S: Source, D: Desk>(
+pub fn take_in_at<S: Source, D: Desk, R: Threads + Sync>(
+    rt: &R,
     alloc: Global,
     source: &mut S,
     hosts: u32,
@@ -136,6 +140,7 @@ pub fn take_in_at<S: Source, D: Desk>(
     let mut framer = Framer::new(alloc);
     let mut node = Intake::new(alloc, desk);
     match take_pieces(
+        rt,
         alloc,
         hosts,
         source,

@@ -6,7 +6,7 @@ use Rattle.reply_frames.specs.declared.node.NodeError.{NodeError}
 use Rattle.reply_frames.specs.Nodes.{frame_of}
 use Rattle.reply_frames.specs.Replies.{entry_frames, entry_length}
 use Rattle.node_run.specs.Journals.{ServedSession, journal_of}
-use Rattle.node_run.specs.Frames.{error_frames, journal_frames, run_frames}
+use Rattle.node_run.specs.Frames.{error_frames, journal_frames, run_frames, parts_together}
 
 pub error_first : (first : ℕ) (e : NodeError) (errors : List NodeError) → error_frames first (e ∷ errors) ≡ frame_of first e ++ error_frames (first + 1) errors
 unfolding error_frames
@@ -55,3 +55,14 @@ run_next at r runs within is = ap run_frames (drop_more runs at r within ∙ ap 
 
 pub run_past : (at : ℕ) (runs : List ServedSession) → length runs ≤ at → run_frames (drop at runs) ≡ []
 run_past at runs past = ap run_frames (drop_all at runs past) ∙ run_end
+
+-- parts of frames, one after the other
+
+pub parts_end : parts_together [] ≡ []
+parts_end = refl
+
+pub parts_next : (at : ℕ) (part : List ℕ) (parts : List (List ℕ)) → at < length parts → part ≡ get_or parts at part → parts_together (drop at parts) ≡ part ++ parts_together (drop (at + 1) parts)
+parts_next at part parts within is = ap parts_together (drop_more parts at part within ∙ ap (λ z. z ∷ drop (at + 1) parts) (sym is))
+
+pub parts_past : (at : ℕ) (parts : List (List ℕ)) → length parts ≤ at → parts_together (drop at parts) ≡ []
+parts_past at parts past = ap parts_together (drop_all at parts past)

@@ -6,3 +6,4 @@ pub mod Asking
 pub mod Serving
 pub mod Ending
 pub mod Keeping
+pub mod Batching

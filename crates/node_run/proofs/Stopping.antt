@@ -12,7 +12,7 @@ use Rattle.reply_frames.specs.Replies.{entry_frames, entry_length}
 use Rattle.node_intake.specs.Intake.{Taken, Node}
 use Rattle.node_run.specs.declared.write.WriteFault.{WriteFault}
 use Rattle.node_run.specs.Journals.{Answers, ServedSession, journal_of, journals_of, IsRunOf, AreRuns}
-use Rattle.node_run.specs.Frames.{error_frames, journal_frames, session_frames, run_frames, written, AddsFront, AddsErrorsBefore, AddsEntriesBefore, AddsJournalsBefore, AddsBefore, AddsRunsBefore, AddsServedBefore, WritesSoFar}
+use Rattle.node_run.specs.Frames.{error_frames, journal_frames, session_frames, run_frames, written, AddsFront, AddsErrorsBefore, AddsEntriesFrom, AddsEntriesBefore, AddsJournalsBefore, AddsBefore, AddsRunsBefore, AddsServedBefore, WritesSoFar}
 use Rattle.node_run.proofs.Streaming.{Adds-both, piece_written, front_second}
 use Rattle.node_run.proofs.Framing.{error_first, error_end, entry_first, entry_end, run_first, run_end}
 
@@ -29,7 +29,7 @@ errors_append first (x ∷ xs) ys =
     ∙ ap (λ z. z ++ error_frames ((first + 1) + length xs) ys) (sym (error_first first x xs))
     ∙ ap (λ (n : ℕ). error_frames first (x ∷ xs) ++ error_frames n ys) same
 
-entries_append : (kernel first : ℕ) (xs ys : List Entry) → journal_frames kernel first (xs ++ ys) ≡ journal_frames kernel first xs ++ journal_frames kernel (first + sum_by entry_length xs) ys
+pub entries_append : (kernel first : ℕ) (xs ys : List Entry) → journal_frames kernel first (xs ++ ys) ≡ journal_frames kernel first xs ++ journal_frames kernel (first + sum_by entry_length xs) ys
 entries_append kernel first [] ys =
     let same : first ≡ first + 0 = omega arith in
     ap (λ (n : ℕ). journal_frames kernel n ys) same ∙ ap (λ z. z ++ journal_frames kernel (first + 0) ys) (sym (entry_end kernel first))
@@ -71,7 +71,7 @@ sessions_append (s ∷ ss) ts (j ∷ js) ks e =
 written_is : (old now : Option (List ℕ)) (all before rest : List ℕ) → WritesSoFar old now all rest → all ≡ before ++ rest → Adds old now before
 written_is old now all before rest w is = subst (Adds old now) (append_cancel_right w.done before rest (sym w.parts ∙ is)) w.adds
 
-gathered_is : (old mid new : Option (List ℕ)) (all before had rest : List ℕ) → WritesSoFar old mid all (had ++ rest) → all ≡ before ++ rest → Adds mid new had → Adds old new before
+pub gathered_is : (old mid new : Option (List ℕ)) (all before had rest : List ℕ) → WritesSoFar old mid all (had ++ rest) → all ≡ before ++ rest → Adds mid new had → Adds old new before
 gathered_is old mid new all before had rest w is adds = written_is old new all before rest (piece_written old mid new all (had ++ rest) had rest w refl adds) is
 
 -- the fault of one call, as that of another
@@ -98,19 +98,19 @@ stops_in_errors old mid new errors at e within is w none =
       adds = subst (Adds old new) (append-nil (error_frames 1 before)) (Adds-both old mid new (error_frames 1 before) [] done none);
     }
 
-pub stops_in_entries : (old mid new : Option (List ℕ)) (kernel : ℕ) (entries : List Entry) (at running : ℕ) (e : Entry) (gathered : List ℕ) → at < length entries → e ≡ get_or entries at e
-    → running ≡ 1 + sum_by entry_length (take at entries) → WritesSoFar old mid (journal_frames kernel 1 entries) (gathered ++ journal_frames kernel running (drop at entries))
-    → Adds mid new gathered → AddsEntriesBefore old new kernel entries
-stops_in_entries old mid new kernel entries at running e gathered within is runs w adds =
+pub stops_in_entries : (old mid new : Option (List ℕ)) (kernel first : ℕ) (entries : List Entry) (at running : ℕ) (e : Entry) (gathered : List ℕ) → at < length entries → e ≡ get_or entries at e
+    → running ≡ first + sum_by entry_length (take at entries) → WritesSoFar old mid (journal_frames kernel first entries) (gathered ++ journal_frames kernel running (drop at entries))
+    → Adds mid new gathered → AddsEntriesFrom old new kernel first entries
+stops_in_entries old mid new kernel first entries at running e gathered within is runs w adds =
     let before : List Entry = take at entries in
-    let split = ap (journal_frames kernel 1) (sym (take-append-drop at entries)) ∙ entries_append kernel 1 before (drop at entries)
-    ∙ ap (λ (k : ℕ). journal_frames kernel 1 before ++ journal_frames kernel k (drop at entries)) (sym runs) in
+    let split = ap (journal_frames kernel first) (sym (take-append-drop at entries)) ∙ entries_append kernel first before (drop at entries)
+    ∙ ap (λ (k : ℕ). journal_frames kernel first before ++ journal_frames kernel k (drop at entries)) (sym runs) in
     record {
       before = before;
       failed = e;
       later = drop (at + 1) entries;
       parts = cut_at entries at e within is;
-      adds = gathered_is old mid new (journal_frames kernel 1 entries) (journal_frames kernel 1 before) gathered (journal_frames kernel running (drop at entries)) w split adds;
+      adds = gathered_is old mid new (journal_frames kernel first entries) (journal_frames kernel first before) gathered (journal_frames kernel running (drop at entries)) w split adds;
     }
 
 pub stops_in_runs : (old mid new : Option (List ℕ)) (runs : List ServedSession) (at : ℕ) (r : ServedSession) → at < length runs → r ≡ get_or runs at r

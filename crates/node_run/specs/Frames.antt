@@ -1,11 +1,13 @@
 -- The frames of a node: of its errors, and then of each session's journal.
 use Rattle.std.specs.Prelude.{◌≡◌, ℕ, ◌+◌, ◌⊎◌, length, List, [], ◌∷◌, ◌++◌, Option}
+use Rattle.std.specs.List.{flat_map, sum_by}
 use Rattle.nb_outside.specs.Streams.{Adds}
 use Rattle.session_core.specs.declared.entry.Entry.{Entry}
 use Rattle.reply_frames.specs.declared.node.NodeError.{NodeError}
 use Rattle.reply_frames.specs.Nodes.{frame_of}
 use Rattle.reply_frames.specs.Replies.{entry_frames, entry_length}
 use Rattle.node_intake.specs.Intake.{Taken, Node}
+use Rattle.node_run.specs.declared.render.Made.{Made}
 use Rattle.node_run.specs.Journals.{ServedSession, journal_of}
 
 -- of errors, with running numbers from the first on
@@ -17,6 +19,10 @@ error_frames first (e ∷ errors) = frame_of first e ++ error_frames (first + 1)
 unfoldable pub journal_frames : ℕ → ℕ → List Entry → List ℕ
 journal_frames kernel first [] = []
 journal_frames kernel first (e ∷ es) = entry_frames kernel e first ++ journal_frames kernel (first + entry_length e) es
+
+-- parts, one after the other
+abbrev pub parts_together : List (List ℕ) → List ℕ
+parts_together parts = flat_map (λ part. part) parts
 
 -- of each session's journal, numbered from 1
 unfoldable pub session_frames : List Taken → List (List Entry) → List ℕ
@@ -46,12 +52,15 @@ pub record AddsErrorsBefore (old new : Option (List ℕ)) (errors : List NodeErr
   pub parts : errors ≡ before ++ failed ∷ later
   pub adds : Adds old new (error_frames 1 before)
 
-pub record AddsEntriesBefore (old new : Option (List ℕ)) (kernel : ℕ) (entries : List Entry) : Type 0 where
+pub record AddsEntriesFrom (old new : Option (List ℕ)) (kernel first : ℕ) (entries : List Entry) : Type 0 where
   pub before : List Entry
   pub failed : Entry
   pub later : List Entry
   pub parts : entries ≡ before ++ failed ∷ later
-  pub adds : Adds old new (journal_frames kernel 1 before)
+  pub adds : Adds old new (journal_frames kernel first before)
+
+abbrev pub AddsEntriesBefore : Option (List ℕ) → Option (List ℕ) → ℕ → List Entry → Type 0
+AddsEntriesBefore old new kernel entries = AddsEntriesFrom old new kernel 1 entries
 
 -- first those of the journals before, and then those of the entries before it in its own
 pub record AddsJournalsBefore (old new : Option (List ℕ)) (sessions : List Taken) (journals : List (List Entry)) : Type 0 where
@@ -88,6 +97,14 @@ AddsServedBefore old new errors runs = AddsErrorsBefore old new errors
     ⊎ ((between : Option (List ℕ)) × Adds old between (error_frames 1 errors) × AddsRunsBefore between new runs)
 
 -- ---- on the way
+
+-- the frames of these entries, in parts, and the number after theirs
+abbrev pub IsBatch : ℕ → ℕ → List Entry → Made → Type 0
+IsBatch kernel first entries made = (parts_together made.parts.items ≡ journal_frames kernel first entries) × (made.next ≡ first + sum_by entry_length entries)
+
+-- memory ran out at an entry: what waited was added, and the frames of the entries before it
+abbrev pub AddsBatchBefore : Option (List ℕ) → Option (List ℕ) → List ℕ → ℕ → ℕ → List Entry → Type 0
+AddsBatchBefore old new waited kernel first entries = (between : Option (List ℕ)) × Adds old between waited × AddsEntriesFrom between new kernel first entries
 
 -- the front of the bytes was added, and the rest is left
 pub record WritesSoFar (old new : Option (List ℕ)) (bytes rest : List ℕ) : Type 0 where

@@ -204,6 +204,10 @@ impl<'a, E: Engine + Drop, Q: Feeds, N: Name, R: Wait> Desk for AdmissionDesk<'a
         node.wake(self.rt, host, number);
         Ok(())
     }
+
+    fn notify(&self) {
+        self.node.ring_hosts(self.rt);
+    }
 }
 
 /// The reader of a session that was just opened, if what the session answers is read as it comes: then a worker is woken, to pass on

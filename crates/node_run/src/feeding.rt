@@ -69,7 +69,7 @@ where
     S: Source,
     Q: Feeds,
     N: Name,
-    R: Wait,
+    R: Threads + Wait + Sync,
     requires queues { (N.queues ≡ queues.items) × (length queues.items ≡ 256) }
     requires hosts { N.hosts ≡ hosts }
     requires gives { Q.gives feeds.old ≡ N.gives }
@@ -82,7 +82,7 @@ where
     ensures faults_stay { S.faults source.old ≤ S.faults source.new }
 {
     let desk = AdmissionDesk::new(rt, alloc, node, feeds, hosts, queues, false);
-    match take_in_at(alloc, source, hosts, desk) {
+    match take_in_at(rt, alloc, source, hosts, desk) {
         Ok((handed, end)) => Ok(handed_in(handed, end)),
         Err(error) => Err(error),
     }

@@ -14,6 +14,7 @@ use session_core::{Alone, Engine};
 use session_gate::{Name, SessionCell};
 use std::alloc::{AllocError, Global};
 use std::sync::Wait;
+use std::thread::{Threads, join};
 
 /// Lets cells go, with whoever is there.
 pub fn discard<E: Engine + Drop, F: Feed, N: Name>(cells: Vec<SessionCell<E, F, N>>) {
@@ -99,4 +100,36 @@ where
     }
     discard(cells);
     Ok(runs)
+}
+
+/// Lets sessions that were served go, by two threads if they can be made.
+fn let_go_by_two<E, R>(rt: &R, runs: Vec<(u128, Alone<E>)>)
+where
+    E: Engine + Drop + Send,
+    R: Threads + Sync,
+{
+    let mut front = runs;
+    let half = front.len() / 2;
+    let Ok(back) = front.split_off(half) else {
+        return;
+    };
+    join(rt, move || drop(front), move || drop(back));
+}
+
+/// Lets sessions that were served go, by four threads if they can be made: their journals and values are many small pieces of memory.
+pub fn let_go<E, R>(rt: &R, runs: Vec<(u128, Alone<E>)>)
+where
+    E: Engine + Drop + Send,
+    R: Threads + Sync,
+{
+    let mut front = runs;
+    let half = front.len() / 2;
+    let Ok(back) = front.split_off(half) else {
+        return;
+    };
+    join(
+        rt,
+        move || let_go_by_two(rt, front),
+        move || let_go_by_two(rt, back),
+    );
 }

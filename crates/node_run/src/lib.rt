@@ -14,6 +14,7 @@ mod end;
 mod feeding;
 mod finishing;
 mod open_session;
+mod render;
 mod run;
 mod streams;
 mod write;

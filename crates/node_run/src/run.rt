@@ -12,7 +12,7 @@ ghost use Rattle.node_run.specs.Streams.{HasRun, StreamsTold, IsStatus};
 
 use crate::end::RunEnd;
 use crate::feeding::{FedIn, feed_workers};
-use crate::finishing::{discard, finish_all};
+use crate::finishing::{discard, finish_all, let_go};
 use crate::write::{WriteFault, write_all_frames};
 use command_words::status;
 use host_workers::{Gate, Hosts};
@@ -243,8 +243,22 @@ where
     ensures statuses { IsStatus result }
 {
     match run_sessions::<E, S, Q, G, R>(rt, alloc, hosts, workers, source, feeds, gate) {
-        Ok(ran) => match write_all_frames(alloc, sink, ran.errors.as_slice(), ran.runs.as_slice()) {
-            Ok(()) => status_of(ran.end),
+        Ok(ran) => match write_all_frames(
+            rt,
+            alloc,
+            sink,
+            ran.errors.as_slice(),
+            ran.runs.as_slice(),
+        ) {
+            Ok(()) => {
+                let NodeRun {
+                    errors: _,
+                    runs,
+                    end,
+                } = ran;
+                let_go(rt, runs);
+                status_of(end)
+            }
             Err(WriteFault::Sink) => status::SINK_FAULT,
             Err(WriteFault::OutOfMemory) => status::OUT_OF_MEMORY,
         },

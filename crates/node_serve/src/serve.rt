@@ -109,7 +109,7 @@ where
     L: Link,
     Q: Feeds,
     N: Name,
-    R: Wait + Clock,
+    R: Threads + Wait + Clock + Sync,
     requires queues { (N.queues ≡ queues.items) × (length queues.items ≡ 256) }
     requires hosts { N.hosts ≡ hosts }
     requires gives { Q.gives feeds.old ≡ N.gives }

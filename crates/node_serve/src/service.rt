@@ -19,6 +19,7 @@ use session_core::Engine;
 use session_gate::Name;
 use std::alloc::{AllocError, Global};
 use std::sync::Wait;
+use std::thread::Threads;
 use std::time::Clock;
 
 /// For how many milliseconds a poll waits while no session has unanswered requests.
@@ -156,13 +157,19 @@ impl<'a, E: Engine + Drop, Q: Feeds, N: Name, R: Wait> Service<'a, E, Q, N, R> {
     }
 
     /// Takes in what came.
-    fn take_piece(&mut self, alloc: Global, hosts: u32, piece: &[u8]) -> Result<Heard, AllocError>
+    fn take_piece<W: Threads + Sync>(
+        &mut self,
+        rt: &W,
+        alloc: Global,
+        hosts: u32,
+        piece: &[u8],
+    ) -> Result<Heard, AllocError>
         requires hosts { N.hosts ≡ hosts }
         ensures took { MatchResult result (λ heard. Heeds N.queues hosts self.old.framer self.old.node self.old.told piece.now heard self.new.framer self.new.node self.new.told)
             (λ _. HeedsFront N.queues hosts self.old.framer self.old.node piece.now self.new.node) }
     {
         match self.framer.feed(alloc, piece) {
-            Ok(()) => match take_frames(alloc, hosts, &mut self.framer, &mut self.node) {
+            Ok(()) => match take_frames(rt, alloc, hosts, &mut self.framer, &mut self.node) {
                 Ok(true) => Ok(Heard::More),
                 Ok(false) => Ok(Heard::Ended(IntakeEnd::End)),
                 Err(error) => Err(error),
@@ -172,8 +179,9 @@ impl<'a, E: Engine + Drop, Q: Feeds, N: Name, R: Wait> Service<'a, E, Q, N, R> {
     }
 
     /// Polls the link, and takes in what comes.
-    fn hear<L: Link>(
+    fn hear<L: Link, W: Threads + Sync>(
         &mut self,
+        rt: &W,
         alloc: Global,
         hosts: u32,
         link: &mut L,
@@ -190,7 +198,7 @@ impl<'a, E: Engine + Drop, Q: Feeds, N: Name, R: Wait> Service<'a, E, Q, N, R> {
         ensures room { length room.new ≡ length room.old }
     {
         match link.poll(room, patience) {
-            Polled::Bytes(count) => self.take_piece(alloc, hosts, &room[..count]),
+            Polled::Bytes(count) => self.take_piece(rt, alloc, hosts, &room[..count]),
             Polled::NotYet => Ok(Heard::NotYet),
             Polled::End => Ok(Heard::Ended(IntakeEnd::End)),
             Polled::Failed => {
@@ -203,7 +211,7 @@ impl<'a, E: Engine + Drop, Q: Feeds, N: Name, R: Wait> Service<'a, E, Q, N, R> {
 
     /// Tells what is ready, and then hears the link. Gives how reading ends, if it does. Where nothing is to be told or heard it
     /// sleeps for a while.
-    fn turn<L: Link, W: Wait + Clock>(
+    fn turn<L: Link, W: Threads + Wait + Clock + Sync>(
         &mut self,
         rt: &W,
         alloc: Global,
@@ -229,7 +237,7 @@ impl<'a, E: Engine + Drop, Q: Feeds, N: Name, R: Wait> Service<'a, E, Q, N, R> {
                 }
                 let is_busy = has_told || self.is_waiting();
                 let patience = if is_busy { 0 } else { IDLE };
-                match self.hear(alloc, hosts, link, is_cut, room, patience) {
+                match self.hear(rt, alloc, hosts, link, is_cut, room, patience) {
                     Ok(heard) => Ok(rested(rt, bell, rings, is_busy && !has_told, heard)),
                     Err(error) => Err(error),
                 }
@@ -239,7 +247,7 @@ impl<'a, E: Engine + Drop, Q: Feeds, N: Name, R: Wait> Service<'a, E, Q, N, R> {
     }
 
     /// Turns until nothing more is taken in, and gives why.
-    fn turns<L: Link, W: Wait + Clock>(
+    fn turns<L: Link, W: Threads + Wait + Clock + Sync>(
         &mut self,
         rt: &W,
         alloc: Global,
@@ -267,7 +275,7 @@ impl<'a, E: Engine + Drop, Q: Feeds, N: Name, R: Wait> Service<'a, E, Q, N, R> {
     }
 
     /// Serves the link until nothing more is taken in, and gives why.
-    pub(crate) fn attend<L: Link, W: Wait + Clock>(
+    pub(crate) fn attend<L: Link, W: Threads + Wait + Clock + Sync>(
         &mut self,
         rt: &W,
         alloc: Global,

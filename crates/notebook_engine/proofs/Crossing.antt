@@ -27,6 +27,7 @@ use Rattle.history_graph.proofs.active.ActiveGraph.TheSendSync as graph
 use Rattle.history_graph.specs.contracts.history.History as History
 use Rattle.linked_parts.proofs.parts.Parts.TheSendSync as parts
 use Rattle.notebook_engine.specs.contracts.notebook.Notebook as Notebook
+use Rattle.notebook_engine.specs.contracts.session.Session as Session
 
 -- ---- trees
 
@@ -76,11 +77,14 @@ State-send = search (Heap-send, text_map.the_send, value.the_send, sendable) dep
 Trees-send : IsSend (Trees.the_field).row
 Trees-send = search (Stmt-send, items.the_send, text_map.the_send, sendable) depth 30
 
-Kernel-send : IsSend (Kernel.the_field).row
+Kernel-send : IsSend Kernel.the_row
 Kernel-send = search (State-send, sendable) depth 30
 
-History-send : IsSend (History.the_field).row
+History-send : IsSend History.the_row
 History-send = search (graph.the_send, parts.the_field_send, sendable) depth 30
 
+Session-send : IsSend (Session.the_field).row
+Session-send = search (Kernel-send, History-send, sendable) depth 30
+
 pub Notebook-send : IsSend Notebook.the_row
-Notebook-send = search (Kernel-send, History-send, Trees-send, sendable) depth 30
+Notebook-send = search (Session-send, Trees-send, sendable) depth 30

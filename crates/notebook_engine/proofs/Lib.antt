@@ -8,3 +8,4 @@ pub mod Copies
 pub mod Restored
 pub mod Counted
 pub mod Crossing
+pub mod Lasting

@@ -31,12 +31,12 @@ use Rattle.session_core.specs.Engines.{Packs}
 use Rattle.notebook_meaning.specs.Cells.{cells_of, unmoved}
 use Rattle.notebook_meaning.specs.Notebooks.{IsGraphOf, HasObjectsOf, notebooks}
 use Rattle.notebook_meaning.proofs.Lists.{list_of, codes_of}
-use Rattle.notebook_engine.specs.declared.notebook.Notebook.{Notebook}
+use Rattle.notebook_engine.specs.declared.session.Session.{Session}
 use Rattle.notebook_engine.specs.Holding.{HoldsCells, StandsForAsks, IsImage}
 use Rattle.notebook_engine.specs.Packing.{IsStuckFault}
 use Rattle.notebook_engine.specs.Laws.{has_one_graph, is_graph}
 
-pub graph_of : (n : Notebook) (cells : List ListedCell) → HoldsCells n cells → IsGraphOf cells n.history.graph
+pub graph_of : (n : Session) (cells : List ListedCell) → HoldsCells n cells → IsGraphOf cells n.history.graph
 graph_of n cells h = record {
   history = h.session.history;
   few_cells = subst (λ (k : ℕ). k < 2 ^ 32) h.session.history.cells h.few_cells;
@@ -57,7 +57,7 @@ stuck_packs served w g v c (pack.BadWeights f) is admitted stuck k = absurd k
 
 -- ---- the image
 
-pub image_of : (bytes : List ℕ) (host : ℕ) (r : Restored) (n : Notebook) → n.kernel ≡ r.kernel → n.history ≡ r.history → IsRestoredOn bytes host r → IsImage n bytes host
+pub image_of : (bytes : List ℕ) (host : ℕ) (r : Restored) (n : Session) → n.kernel ≡ r.kernel → n.history ≡ r.history → IsRestoredOn bytes host r → IsImage n bytes host
 image_of bytes host r n k h is =
     subst (λ (z : Kernel). IsRestoredOn bytes host (record { kernel = z; history = n.history; objects = length z.state.heap })) (sym k)
     (subst (λ (z : History). IsRestoredOn bytes host (record { kernel = r.kernel; history = z; objects = length r.kernel.state.heap })) (sym h)
@@ -91,7 +91,7 @@ module _ (served : List Served) (plan : Plan) (bytes : List ℕ) (packed : IsPac
     so = restored_so Cells G U plan base (is_graph Cells G packed.text.is_graph) (subst (λ (g : Graph). NamesOf g plan) same_graph packed.names)
         (subst (λ (g : Graph). IsFeasible g plan) same_graph packed.feasible) packed.text.has_text host r (subst (λ (b : List ℕ). IsRestoredOn b host r) packed.text.text is)
 
-    pub stands_again : (n : Notebook) → n.kernel ≡ r.kernel → n.history ≡ r.history → StandsForAsks n served
+    pub stands_again : (n : Session) → n.kernel ≡ r.kernel → n.history ≡ r.history → StandsForAsks n served
     stands_again n k h =
         let graph : n.history.graph ≡ G = ap (λ (z : History). z.graph) h ∙ so.2 in (
           packed.is_run,

@@ -57,7 +57,7 @@ use Rattle.notebook_meaning.specs.Cells.{recorded, unmoved}
 use Rattle.notebook_meaning.specs.Numbers.{IsHistoryOf, IsCodeIn, IsPassed, IsPassedFirst}
 use Rattle.notebook_meaning.specs.Lists.{Fills}
 use Rattle.notebook_meaning.proofs.Written.{no_truth}
-use Rattle.notebook_engine.specs.declared.notebook.Notebook.{Notebook}
+use Rattle.notebook_engine.specs.declared.session.Session.{Session}
 use Rattle.notebook_engine.specs.Holding.{PassesWith}
 use Rattle.notebook_engine.proofs.Grown.{done_is, one_cell, before, after, cell_from, uses_so, same_uses}
 
@@ -96,7 +96,7 @@ count_first cells e t same counts most =
     (((unmoved (cells ++ e ∷ [])).count, refl, omega (arith, all, same, one, most)), λ other less p. let none : ⊥ = omega (arith, less) in none)
 
 -- a cell that was run although the count is at its end
-pub fills_the_count : (n : Notebook) (code : List ℕ) (draws : List Drawn) → IsUtf8 code → 4294967295 ≤ n.kernel.state.count → UsesUp (statements (read code)) n.kernel.state draws
+pub fills_the_count : (n : Session) (code : List ℕ) (draws : List Drawn) → IsUtf8 code → 4294967295 ≤ n.kernel.state.count → UsesUp (statements (read code)) n.kernel.state draws
     → PassesWith n (record { code = recorded code; draws = draws; counted = true }) tally.Count
 fills_the_count n code draws utf8 most uses cells h =
     let t : State = n.kernel.state in

@@ -2,18 +2,19 @@ ghost use Rattle.std.specs.Prelude.{◌≡◌, ◌+◌, ◌<◌, ◌≤◌, ◌^
 ghost use Rattle.nb_outside.specs.declared.feed.Drawn.{Drawn};
 ghost use Rattle.nb_outside.specs.Feeds.{Fed};
 ghost use Rattle.graph_model.specs.declared.plan.Tally.{Tally};
-ghost use Rattle.py_heap.specs.References.{IsClosed};
 ghost use Rattle.py_meaning.specs.Cells as spec;
 ghost use Rattle.py_reader.specs.Verdict.{verdict};
 ghost use Rattle.run_graph.specs.RunLists.{ListedCell};
 ghost use Rattle.run_graph.specs.Soundness.{statements};
 ghost use Rattle.every_history.specs.Reading.{read};
 ghost use Rattle.session_core.specs.Engines.{HasDrawn};
+ghost use Rattle.restore_run.specs.Usable.{IsUsableSession};
 ghost use Rattle.notebook_meaning.specs.Cells.{recorded};
 ghost use Rattle.notebook_engine.specs.Holding.{HoldsCells, PassesWith, HasRun, fault_in};
 
 use crate::notebook::Notebook;
 use crate::replies::reply_of;
+use crate::session::Session;
 use graph_model::Tally as Number;
 use history_graph::HistoryFault;
 use nb_outside::Feed;
@@ -30,12 +31,14 @@ use std::alloc::{AllocError, Global};
 const MOST_RECORDED: usize = 262_148;
 
 /// Raises the count of a session if the cell is counted.
-fn raise(state: &mut State, counted: bool)
-    requires { counted ≡ true → state.old.count < 4294967295 }
-    ensures { state.new ≡ record state.old { count = state.old.count + cond counted 1 0 } }
+fn raise(kernel: &mut Kernel, counted: bool)
+    requires { counted ≡ true → kernel.old.state.count < 4294967295 }
+    ensures state { kernel.new.state ≡ record kernel.old.state { count = kernel.old.state.count + cond counted 1 0 } }
+    ensures host { kernel.new.host ≡ kernel.old.host }
 {
     if counted {
-        state.set_count(state.count() + 1);
+        let count = kernel.state().count();
+        kernel.set_count(count + 1);
     }
 }
 
@@ -77,16 +80,22 @@ fn run_code<F: Feed>(
     }
 }
 
-impl Notebook {
+impl Session {
     /// Runs a cell although the session's count is at its end and the cell would raise it. The cell isn't answered: `TooMany` names the
     /// count, with the draws that the cell took. The session may only be dropped.
-    fn run_full<F: Feed>(&mut self, alloc: Global, code: &str, feed: &mut F) -> RunFault
+    fn run_full<F: Feed>(
+        &mut self,
+        alloc: Global,
+        trees: &mut Trees,
+        code: &str,
+        feed: &mut F,
+    ) -> RunFault
         requires { 4294967295 ≤ self.old.kernel.state.count }
         ensures passes { (which : Tally) (draws : List Drawn) → result ≡ RunFault.TooMany which draws
             → PassesWith self.old (record { code = recorded code.now; draws = draws; counted = true }) which }
         ensures drawn { HasDrawn (Err result) (F.seen feed.old) (F.seen feed.new) }
     {
-        let (end, _) = match run_code(alloc, &mut self.kernel, &mut self.trees, code, feed) {
+        let (end, _) = match run_code(alloc, &mut self.kernel, trees, code, feed) {
             Ok(ran) => ran,
             Err(_) => return RunFault::OutOfMemory,
         };
@@ -102,23 +111,25 @@ impl Notebook {
     fn run_cell<F: Feed>(
         &mut self,
         alloc: Global,
+        trees: &mut Trees,
         code: &str,
         silent: bool,
         counted: bool,
         feed: &mut F,
     ) -> Result<Done, RunFault>
-        requires closed { IsClosed self.old.kernel.state }
+        requires usable { IsUsableSession self.old.kernel.state self.old.history }
         requires room { counted ≡ true → self.old.kernel.state.count < 4294967295 }
         ensures ran { IfOk result (λ done. (cells : List ListedCell) → HoldsCells self.old cells
             → HasRun self.new cells silent code.now (record { code = recorded code.now; draws = done.draws; counted = counted }) done.reply) }
+        ensures usable { OnOk result (IsUsableSession self.new.kernel.state self.new.history) }
         ensures passes { (which : Tally) (draws : List Drawn) → result ≡ Err (RunFault.TooMany which draws)
             → PassesWith self.old (record { code = recorded code.now; draws = draws; counted = counted }) which }
         ensures host { self.new.kernel.host ≡ self.old.kernel.host }
         ensures drawn { HasDrawn result (F.seen feed.old) (F.seen feed.new) }
     {
-        let meter = self.kernel.state.meter();
-        raise(&mut self.kernel.state, counted);
-        let (end, fault) = match run_code(alloc, &mut self.kernel, &mut self.trees, code, feed) {
+        let meter = self.kernel.state().meter();
+        raise(&mut self.kernel, counted);
+        let (end, fault) = match run_code(alloc, &mut self.kernel, trees, code, feed) {
             Ok(ran) => ran,
             Err(_) => return Err(RunFault::OutOfMemory),
         };
@@ -130,7 +141,7 @@ impl Notebook {
             draws,
             marks,
         } = end;
-        let state = &self.kernel.state;
+        let state = self.kernel.state();
         let count = count_in(state);
         let (front, _) = cut_at(code, MOST_RECORDED);
         match self
@@ -149,6 +160,34 @@ impl Notebook {
 
     /// Runs a cell, records it, and answers it, or names the first of the session's numbers that would reach 2^32 with the cell. The
     /// cell is run before a number is judged. After an error the session may only be dropped.
+    fn execute<F: Feed>(
+        &mut self,
+        alloc: Global,
+        trees: &mut Trees,
+        code: &str,
+        silent: bool,
+        counted: bool,
+        feed: &mut F,
+    ) -> Result<Done, RunFault>
+        requires { IsUsableSession self.old.kernel.state self.old.history }
+        ensures ran { IfOk result (λ done. (cells : List ListedCell) → HoldsCells self.old cells
+            → HasRun self.new cells silent code.now (record { code = recorded code.now; draws = done.draws; counted = counted }) done.reply) }
+        ensures usable { OnOk result (IsUsableSession self.new.kernel.state self.new.history) }
+        ensures passes { (which : Tally) (draws : List Drawn) → result ≡ Err (RunFault.TooMany which draws)
+            → PassesWith self.old (record { code = recorded code.now; draws = draws; counted = counted }) which }
+        ensures host { OnOk result (self.new.kernel.host ≡ self.old.kernel.host) }
+        ensures drawn { HasDrawn result (F.seen feed.old) (F.seen feed.new) }
+    {
+        if counted && count_in(self.kernel.state()) == u32::MAX {
+            return Err(self.run_full(alloc, trees, code, feed));
+        }
+        self.run_cell(alloc, trees, code, silent, counted, feed)
+    }
+}
+
+impl Notebook {
+    /// Runs a cell, records it, and answers it, or names the first of the session's numbers that would reach 2^32 with the cell. After an
+    /// error nothing is left of the session: the notebook begins anew, and may only be dropped.
     pub(crate) fn execute<F: Feed>(
         &mut self,
         alloc: Global,
@@ -157,17 +196,23 @@ impl Notebook {
         counted: bool,
         feed: &mut F,
     ) -> Result<Done, RunFault>
-        requires { IsClosed self.old.kernel.state }
         ensures ran { IfOk result (λ done. (cells : List ListedCell) → HoldsCells self.old cells
             → HasRun self.new cells silent code.now (record { code = recorded code.now; draws = done.draws; counted = counted }) done.reply) }
         ensures passes { (which : Tally) (draws : List Drawn) → result ≡ Err (RunFault.TooMany which draws)
             → PassesWith self.old (record { code = recorded code.now; draws = draws; counted = counted }) which }
-        ensures host { OnOk result (self.new.kernel.host ≡ self.old.kernel.host) }
+        ensures host { self.new.kernel.host ≡ self.old.kernel.host }
         ensures drawn { HasDrawn result (F.seen feed.old) (F.seen feed.new) }
     {
-        if counted && count_in(&self.kernel.state) == u32::MAX {
-            return Err(self.run_full(alloc, code, feed));
+        let host = self.session.kernel.host();
+        match self
+            .session
+            .execute(alloc, &mut self.trees, code, silent, counted, feed)
+        {
+            Ok(done) => Ok(done),
+            Err(fault) => {
+                self.session = Session::new(alloc, host);
+                Err(fault)
+            }
         }
-        self.run_cell(alloc, code, silent, counted, feed)
     }
 }

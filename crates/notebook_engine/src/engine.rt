@@ -5,11 +5,10 @@ ghost use Rattle.notebook_meaning.specs.Answers.{completion_in};
 ghost use Rattle.notebook_engine.specs.Holding.{HoldsCells};
 
 use crate::notebook::Notebook;
+use crate::session::Session;
 use graph_model::Weights;
-use history_graph::History;
 use nb_outside::{Feed, draws_add_up};
 use plain_data::Items;
-use py_kernel::Kernel;
 use py_reader::{Completeness, Trees, completeness};
 use session_core::{Ask, Completion, Done, Engine, PackFault, Packed, Reply, RunFault};
 use std::alloc::{AllocError, Global};
@@ -52,8 +51,8 @@ impl Notebook {
         ensures host { self.new.kernel.host ≡ self.old.kernel.host }
     {
         if restart {
-            self.kernel = Kernel::new(alloc, self.kernel.host);
-            self.history = History::new(alloc);
+            let host = self.session.kernel.host();
+            self.session = Session::new(alloc, host);
         }
         told(alloc, Reply::Shut { restart })
     }
@@ -75,14 +74,13 @@ impl Engine for Notebook {
 
     fn opened(alloc: Global, host: u32) -> Self {
         Notebook {
-            kernel: Kernel::new(alloc, host),
-            history: History::new(alloc),
+            session: Session::new(alloc, host),
             trees: Trees::new(alloc),
         }
     }
 
     fn count(&self) -> u32 {
-        self.kernel.state.count()
+        self.session.kernel.state().count()
     }
 
     fn run<F: Feed>(&mut self, alloc: Global, ask: &Ask, feed: &mut F) -> Result<Done, RunFault> {
@@ -110,7 +108,7 @@ impl Engine for Notebook {
     }
 
     fn pack(&self, alloc: Global, weights: &Weights) -> Result<Packed, PackFault> {
-        self.packed(alloc, weights)
+        self.session.packed(alloc, weights)
     }
 
     fn unpack(alloc: Global, bytes: &[u8], host: u32) -> Result<(Self, u32), AllocError> {
@@ -122,7 +120,7 @@ impl Engine for Notebook {
 
     ghost runs = { λ e served h. h.0 };
 
-    ghost used = { λ e served h. (cells_of served, h.1) };
+    ghost used = { λ e served h. tt };
 
     ghost one_graph = { λ served g h is also. has_one_graph (cells_of served) g h is also };
 

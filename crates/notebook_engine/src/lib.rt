@@ -14,6 +14,7 @@ mod notebook;
 mod packing;
 mod replies;
 mod saved_laws;
+mod session;
 
 pub use notebook::Notebook;
 pub use saved_laws::a_session_is_restored_from_its_bytes;

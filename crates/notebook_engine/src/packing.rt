@@ -5,10 +5,12 @@ ghost use Rattle.session_core.specs.Meanings.{Served, IsPacked};
 ghost use Rattle.session_core.specs.Engines.{Packs};
 ghost use Rattle.notebook_meaning.specs.Cells.{cells_of};
 ghost use Rattle.notebook_meaning.specs.Notebooks.{HasObjectsOf, notebooks};
-ghost use Rattle.notebook_engine.specs.Holding.{StandsForAsks, IsUsable, IsImage};
+ghost use Rattle.restore_run.specs.Usable.{IsUsableSession};
+ghost use Rattle.notebook_engine.specs.Holding.{StandsForAsks, IsImage};
 ghost use Rattle.notebook_engine.specs.Packing.{IsStuckFault};
 
 use crate::notebook::Notebook;
+use crate::session::Session;
 use checkpoint_bytes::write_checkpoint;
 use cut_network::{PlanFault, plan};
 use graph_model::{Graph, Weights};
@@ -40,10 +42,10 @@ fn ran_out(_fault: RestoreFault) -> AllocError
     AllocError
 }
 
-impl Notebook {
+impl Session {
     /// The session's checkpoint under a least-cost plan.
     pub(crate) fn packed(&self, alloc: Global, weights: &Weights) -> Result<Packed, PackFault>
-        requires { IsUsable self.now }
+        requires { IsUsableSession self.now.kernel.state self.now.history }
         ensures { (served : List Served) → StandsForAsks self.now served → Packs notebooks served weights.now result }
     {
         let graph = self.history.graph();
@@ -57,12 +59,14 @@ impl Notebook {
             }
             Err(PlanFault::OutOfMemory) => return Err(PackFault::OutOfMemory),
         };
-        match write_checkpoint(alloc, &self.kernel.state, graph, &certified.plan) {
+        match write_checkpoint(alloc, self.kernel.state(), graph, &certified.plan) {
             Ok(bytes) => Ok(Packed { bytes, certified }),
             Err(_) => Err(PackFault::OutOfMemory),
         }
     }
+}
 
+impl Notebook {
     /// The session whose checkpoint these bytes are, and how many objects it has.
     pub(crate) fn unpacked(
         alloc: Global,
@@ -71,7 +75,6 @@ impl Notebook {
     ) -> Result<(Notebook, u32), AllocError>
         requires { (served : List Served) × (plan : Plan) × IsPacked notebooks served plan bytes.now }
         ensures image { IfOk result (λ made. IsImage made.0 bytes.now host) }
-        ensures usable { IfOk result (λ made. IsUsable made.0) }
         ensures stands { IfOk result (λ made. (served : List Served) (plan : Plan) → IsPacked notebooks served plan bytes.now
             → StandsForAsks made.0 served × HasObjectsOf (cells_of served) made.1) }
     {

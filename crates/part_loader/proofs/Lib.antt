@@ -2,3 +2,4 @@ pub mod Moved
 pub mod Whole
 pub mod Binding
 pub mod Loads
+pub mod Validity

@@ -1,12 +1,15 @@
 -- A part as a state of its own, and a part loaded into a state.
-use Rattle.std.specs.Prelude.{◌≡◌, ℕ, List, [], ◌∷◌, map, length, Contains, All, Option, Some, None, option_map}
+use Rattle.std.specs.Prelude.{◌≡◌, ℕ, IsTrue, Bool, List, [], ◌∷◌, map, length, Contains, All, Option, Some, None, option_map}
 use Rattle.std.specs.Ordering.{nat_cmp}
 use Rattle.std.specs.Cmp.Lexicographic.{slice_cmp}
 use Rattle.std.specs.FinMap as finite
+use Rattle.py_names.specs.Names.{is_variable}
+use Rattle.py_tree.specs.declared.statements.Def.{Def}
 use Rattle.py_value.specs.declared.value.Value.{Value}
 use Rattle.py_heap.specs.declared.state.State.{State}
 use Rattle.py_heap.specs.References.{value_refs, object_refs, AreLive}
 use Rattle.py_heap.specs.Reaching.{held_refs}
+use Rattle.py_heap.specs.Valid.{IsValidObject}
 use Rattle.py_machine.specs.Runs.{Name}
 use Rattle.part_bytes.specs.declared.part.PartValue.{PartValue}
 use Rattle.part_bytes.specs.Parts.{numbered}
@@ -37,6 +40,15 @@ pub record IsWhole (part : PartValue) : Type 0 where
   pub as_many : length part.values ≡ length part.names
   pub values : All (λ o. AreLive part.objects (held_refs value_refs o)) part.values
   pub objects : All (λ o. AreLive part.objects (object_refs o)) part.objects
+
+-- each name is one that a program may bind, no dict has a key twice, and each function's definition is of the kind that is asked for
+pub record IsValidPart (IsOfKind : Def → Type 0) (part : PartValue) : Type 0 where
+  pub names : All (λ name. IsTrue (is_variable name)) part.names
+  pub objects : All (IsValidObject IsOfKind) part.objects
+
+-- the same, with the kind told by a test
+abbrev pub IsValidPartBy : (Def → Bool) → PartValue → Type 0
+IsValidPartBy test = IsValidPart (λ def. IsTrue (test def))
 
 -- the names get these values with addresses that are `base` higher, or lose the value that they have
 abbrev pub put_held : ℕ → List Name → List (Option Value) → State → State

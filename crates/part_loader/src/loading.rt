@@ -1,5 +1,7 @@
-ghost use Rattle.std.specs.Prelude.{◌≡◌, ◌++◌, map, length, OnOk};
+ghost use Rattle.std.specs.Prelude.{◌≡◌, ◌++◌, Bool, map, length, OnOk};
+ghost use Rattle.py_tree.specs.declared.statements.Def.{Def};
 ghost use Rattle.py_heap.specs.References.{IsClosed};
+ghost use Rattle.py_heap.specs.Valid.{IsValidBy};
 ghost use Rattle.part_bytes.specs.Parts.{numbered_object};
 ghost use Rattle.replay_laws.specs.Copies.{higher_object, put_name, with_objects};
 ghost use Rattle.replay_laws.specs.Walks.{IsLoaded};
@@ -86,11 +88,15 @@ fn load_after(alloc: Global, state: &mut State, part: PartValue) -> Result<(), A
     put_all(alloc, state, &above, names.as_slice(), values.as_slice())
 }
 
-/// Loads a part. If the part is whole and the state is closed, the names of the part are in the state as they are in the part, they share
-/// nothing with what was there, and all else in the state is as before. After want of memory nothing is known of the state, and it is
-/// only dropped.
+/// Loads a part: puts its objects after those that there are, and gives its names what they have in it.
+///
+/// If the part is whole and the state is closed, the names of the part are in the state as they are in the part, they share nothing with
+/// what was there, and all else in the state is as before. If the part is valid too, a valid state stays valid. After want of memory
+/// nothing is known of the state, and it is only dropped.
 pub fn load(alloc: Global, state: &mut State, part: PartValue) -> Result<(), AllocError>
-    ensures { OnOk result (spec.IsWhole part → IsClosed state.old → IsLoaded part.names (spec.state_of part) state.old state.new) }
+    ensures exact { OnOk result (state.new ≡ spec.loaded part state.old) }
+    ensures is_load { OnOk result (spec.IsWhole part → IsClosed state.old → IsLoaded part.names (spec.state_of part) state.old state.new) }
+    ensures valid { OnOk result ((test : Def → Bool) → spec.IsWhole part → spec.IsValidPartBy test part → IsValidBy test state.old → IsValidBy test state.new) }
 {
     load_after(alloc, state, part)
 }

@@ -1,7 +1,9 @@
-ghost use Rattle.std.specs.Prelude.{◌≡◌, ◌++◌, IfOk, OnOk};
+ghost use Rattle.std.specs.Prelude.{◌≡◌, ◌++◌, Bool, IfOk, OnOk};
 ghost use Rattle.std.specs.List.{flat_map};
 ghost use Rattle.std.specs.FinMap as finite;
+ghost use Rattle.py_tree.specs.declared.statements.Def.{Def};
 ghost use Rattle.py_heap.specs.References.{AreLive, IsClosed};
+ghost use Rattle.py_heap.specs.Valid.{IsValidBy};
 ghost use Rattle.part_bytes.specs.Parts.{number_in, objects_of};
 ghost use Rattle.replay_laws.specs.Tidied.{IsTidied};
 ghost use Rattle.part_loader.specs.Loading.{AreMovedNames};
@@ -51,9 +53,11 @@ fn bind_numbered(
 }
 
 /// The state with the objects that names reach alone, numbered from 0 in the order in which the ascending names reach them first.
+/// If the state is valid, so is this one.
 pub fn tidied(alloc: Global, state: &State) -> Result<State, AllocError>
     requires { IsClosed state.now }
-    ensures { IfOk result (λ tidied. IsTidied state.now tidied) }
+    ensures tidied { IfOk result (λ tidied. IsTidied state.now tidied) }
+    ensures valid { IfOk result (λ tidied. (test : Def → Bool) → IsValidBy test state.now → IsValidBy test tidied) }
 {
     let names = state.names(alloc)?;
     let numbers = Numbers::new(alloc, state, names.as_slice())?;

@@ -1,6 +1,7 @@
 //! What is said of a network and its flows.
 
 use crate::given::{flow_given, network_given};
+use crate::plain::plain_value;
 use anyhow::{Result, bail};
 use flow_arcs::{ArcFlow, Cut, Network, check_flow, max_flow, max_flow_with_cut};
 use serde_json::Value;
@@ -57,6 +58,10 @@ fn greatest(alloc: Global, net: &Network) -> Result<String> {
     let (value, cut) = value_with_cut(alloc, net)?;
     if value != alone {
         bail!("two greatest flows have two values")
+    }
+    let plain = plain_value(alloc, net)?;
+    if value != plain {
+        bail!("the plainest solver finds {plain}, and the other {value}")
     }
     let capacity = capacity_of(net, &cut);
     Ok(format!(in alloc; "value {value} cut {capacity}")?)

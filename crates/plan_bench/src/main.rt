@@ -7,7 +7,8 @@
 //! Without arguments each line of standard input is a JSON object, and for each a line is printed.
 //!
 //! - `nodes`, a number, and `arcs`, a list of arcs, each a list of its two nodes and its capacity: the value of a greatest flow
-//!   and the capacity of a least cut; or, if `on` has what each arc carries, the value of that flow, or its fault.
+//!   and the capacity of a least cut; or, if `on` has what each arc carries, the value of that flow, or its fault. The plainest
+//!   solver (`plain`) has to find the same greatest value.
 //! - `ask`, a word, with `cells` (each with `steps`, `drew`, `reads`, `missing`) and `versions` (each with `names`, `writer`,
 //!   `replaced`, `absent`, `handle`, `size`), where what is left out is 0, false or empty. `check`: whether that is a graph, or
 //!   else its fault; that is said also if anything below is asked of what is no graph. `need`: the cells that the version
@@ -29,6 +30,7 @@ use steps::{MOST, Times, cost_line, made, timed};
 mod cases;
 mod flows;
 mod given;
+mod plain;
 mod plans;
 mod session;
 mod shape;

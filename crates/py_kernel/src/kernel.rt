@@ -1,4 +1,4 @@
-ghost use Rattle.std.specs.Prelude.{◌≡◌, Bool, IsTrue, IfOk, List, Some, OnOk};
+ghost use Rattle.std.specs.Prelude.{◌≡◌, ◌≤◌, Bool, IsTrue, IfOk, List, Some, OnOk};
 ghost use Rattle.nb_outside.specs.declared.feed.Drawn.{Drawn};
 ghost use Rattle.nb_outside.specs.Counts.{HasRisen};
 ghost use Rattle.nb_outside.specs.Feeds.{Fed};
@@ -10,16 +10,31 @@ ghost use Rattle.py_meaning.specs.Cells as spec;
 
 use crate::cell::run_cell;
 use nb_outside::Feed;
-use py_heap::State;
+use py_heap::{METER_LIMIT, State};
 use py_meaning::{CellEnd, CellError};
 use py_tree::Stmt;
 use std::alloc::{AllocError, Global};
+use std::marker::Model;
 
 /// A kernel: the state of a session, on which its cells run, and the number of the host on which its handles are open.
 #[derive(Drop)]
 pub struct Kernel {
-    pub state: State,
-    pub host: u32,
+    state: State,
+    host: u32,
+}
+
+impl Model for Kernel {
+    ghost use Rattle.std.specs.Prelude.{ℕ, refl};
+    ghost use Rattle.std.specs.Coded.{code_by, coded×, coded_ℕ};
+    ghost use Rattle.py_heap.specs.declared.state.State.{State as StateOf};
+    ghost use Rattle.py_heap.specs.contracts.state.State as session;
+    ghost use Rattle.py_kernel.specs.Kernels.{KernelView};
+
+    ghost Value = { KernelView };
+
+    ghost coded = { code_by (StateOf × ℕ) (coded× session.the_row.coded coded_ℕ) (λ k. (k.state, k.host)) (λ p. record { state = p.0; host = p.1 }) (λ _. refl) };
+
+    ghost view = { λ k. record { state = k.state; host = k.host } };
 }
 
 impl Kernel {
@@ -28,10 +43,54 @@ impl Kernel {
         ensures state { result.state ≡ empty }
         ensures host { result.host ≡ host }
     {
-        Kernel {
-            state: State::new(alloc),
-            host,
-        }
+        Kernel::of(State::new(alloc), host)
+    }
+
+    /// A kernel with this state, whose handles are open on that host. Takes no memory.
+    pub fn of(state: State, host: u32) -> Kernel
+        ensures state { result.state ≡ state }
+        ensures host { result.host ≡ host }
+    {
+        Kernel { state, host }
+    }
+
+    /// The kernel's state, as it stands. Takes no memory.
+    pub fn into_state(self) -> State
+        ensures { result ≡ self.state }
+    {
+        let Kernel { state, .. } = self;
+        state
+    }
+
+    /// The state.
+    pub fn state(&self) -> &State
+        ensures { result.now ≡ self.now.state }
+    {
+        &self.state
+    }
+
+    /// The host on which its handles are open.
+    pub fn host(&self) -> u32
+        ensures { result ≡ self.now.host }
+    {
+        self.host
+    }
+
+    /// Sets the count of cells. Takes no memory.
+    pub fn set_count(&mut self, n: u32)
+        ensures state { self.new.state ≡ record self.old.state { count = n } }
+        ensures host { self.new.host ≡ self.old.host }
+    {
+        self.state.set_count(n);
+    }
+
+    /// Sets the units spent. Takes no memory.
+    pub fn set_meter(&mut self, n: u32)
+        requires { n ≤ METER_LIMIT }
+        ensures state { self.new.state ≡ record self.old.state { meter = n } }
+        ensures host { self.new.host ≡ self.old.host }
+    {
+        self.state.set_meter(n);
     }
 
     /// Runs a cell with this tree, and draws from the feed. A Python error is an end of the cell, and what the cell did before

@@ -3,3 +3,4 @@ pub mod Saying
 pub mod Floats
 pub mod Chunking
 pub mod Telling
+pub mod Counts

@@ -10,7 +10,7 @@ use session_core::Failure;
 use std::alloc::{AllocError, Global};
 
 /// The most bytes of a piece of printed text.
-const MOST_PIECE: usize = 65_536;
+pub const MOST_PIECE: usize = 65_536;
 
 /// The state of the session: `busy` or `idle`.
 pub fn say_status(outbox: &mut Outbox<'_>, alloc: Global, state: &str) -> Result<(), AllocError>

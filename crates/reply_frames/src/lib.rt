@@ -9,6 +9,7 @@
 #![tactic(auto)]
 
 mod content;
+mod counting;
 mod entry;
 mod envelope;
 mod journal;
@@ -18,5 +19,6 @@ mod node;
 mod outbox;
 mod replies;
 
+pub use counting::frame_count;
 pub use journal::frames_of;
 pub use node::{About, NodeError, NodeErrorKind, node_error_frame};

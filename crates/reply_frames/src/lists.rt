@@ -16,7 +16,7 @@ use std::alloc::{AllocError, Global};
 use std::mem;
 
 /// The most items of a message.
-const MOST_ITEMS: usize = 4096;
+pub const MOST_ITEMS: usize = 4096;
 
 /// Which list a message has.
 #[derive(Clone, Copy)]

@@ -5,3 +5,4 @@ pub mod Undrawn
 pub mod Walking
 pub mod OneParts
 pub mod OneWay
+pub mod Lasting

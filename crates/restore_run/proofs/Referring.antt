@@ -1,17 +1,22 @@
--- What is read of a part refers to its own objects, and there are as many values as names.
-use Rattle.std.proofs.Common.{◌≡◌, ℕ, zero, suc, ◌+◌, ◌<◌, ◌≤◌, Bool, true, false, List, [], ◌∷◌, ◌++◌, length, Option, Some, None, Result, Ok, Err, refl, ap, ◌∙◌, subst, inl, inr, arith}
-use Rattle.std.specs.Prelude.{◌==◌, ◌&&◌, nat_lt, nat_le, if◌then◌else◌, is_some, All}
+-- What is read of a part is valid: it refers to its own objects, there are as many values as names, its names are such as a program may
+-- bind, no dict has a key twice, and a function is what its text is read as.
+use Rattle.std.proofs.Common.{◌≡◌, ℕ, zero, suc, ◌+◌, ◌<◌, ◌≤◌, Bool, true, false, List, [], ◌∷◌, ◌++◌, length, Option, Some, None, Result, Ok, Err, refl, sym, ap, ◌∙◌, subst, inl, inr, arith}
+use Rattle.std.specs.Prelude.{◌==◌, ◌&&◌, IsTrue, nat_lt, nat_le, if◌then◌else◌, is_some, All}
 use Rattle.std.specs.Str.{is_utf8}
-use Rattle.std.specs.List.{flat_map}
+use Rattle.std.specs.List.{flat_map, IsDistinct}
 use Rattle.std.proofs.lemmas.Bool.{cases_Bool, and_parts, eqb-true, ltb-true, ltb-false}
 use Rattle.std.proofs.lemmas.List.{length-append}
 use Rattle.std.proofs.lemmas.List.Elements.{All-nil, All-cons, All-append, All-weaker, All-head, All-tail}
+use Rattle.py_names.specs.Names.{is_variable}
 use Rattle.py_tree.specs.declared.statements.Def.{Def}
 use Rattle.py_reader.specs.declared.fault.SyntaxFault.{SyntaxFault}
 use Rattle.py_reader.specs.DefinitionVerdict.{verdict_alone}
+use Rattle.py_reader.specs.Definitions.{DefinitionVerdict}
+use Rattle.py_reader.proofs.MeantAlone.{means}
+use Rattle.reader_laws.specs.Texts.{IsItsText}
 use Rattle.py_value.specs.declared.key.Key.{Key}
 use Rattle.py_value.specs.declared.key.Key.TheVariants as the_key
-use Rattle.py_value.specs.Keys.{value_of}
+use Rattle.py_value.specs.Keys.{value_of, same_key}
 use Rattle.py_value.specs.declared.value.Builtin.{Builtin}
 use Rattle.py_value.specs.declared.value.Value.{Value}
 use Rattle.py_value.specs.declared.value.Value.TheVariants as the_value
@@ -20,15 +25,18 @@ use Rattle.py_heap.specs.declared.heap.Object.TheVariants as the_object
 use Rattle.py_heap.specs.declared.heap.SequenceKind.{SequenceKind}
 use Rattle.py_heap.specs.declared.heap.SequenceKind.TheVariants as sequences
 use Rattle.py_heap.specs.Sequences.{sequence}
-use Rattle.py_heap.specs.Dicts.{Pairs, value_under}
+use Rattle.py_heap.specs.Dicts.{Pairs, HasNoKeyTwice, value_under, with_pair}
 use Rattle.py_heap.specs.References.{value_refs, pair_refs, object_refs, AreLive}
 use Rattle.py_heap.specs.Reaching.{held_refs}
+use Rattle.py_heap.specs.Valid.{IsValidObject}
+use Rattle.py_heap.proofs.Pairs.{with_pair_distinct}
 use Rattle.part_bytes.specs.declared.part.PartValue.{PartValue}
 use Rattle.checkpoint_reader.specs.declared.part_fault.PartFault.{PartFault}
-use Rattle.checkpoint_reader.specs.declared.part_fault.PartFault.TheVariants.{BadTag, BadRef, BadKey, BadText}
+use Rattle.checkpoint_reader.specs.declared.part_fault.PartFault.TheVariants.{BadTag, BadRef, BadKey, BadName, BadText}
 use Rattle.checkpoint_reader.specs.declared.spot.Spot.{Spot}
 use Rattle.checkpoint_reader.specs.PartReads.{Answer, Read, pure, fail, place, after, ◌>>=◌, more}
-use Rattle.checkpoint_reader.specs.PartReading.{referred_to, builtin_of, builtin_at, function_of, is_object_tag, bounded, taken, byte, four, sixteen, text, key_by, reference, builtin, value_by, value, held, pair_with, pair, list_or_tuple, dict, function, content, object_by, object, objects, names, values, part, start, with_size, part_read}
+use Rattle.checkpoint_laws.proofs.FoundObjects.{has_text}
+use Rattle.checkpoint_reader.specs.PartReading.{follows, name_of, name, referred_to, builtin_of, builtin_at, function_of, is_object_tag, bounded, taken, byte, four, sixteen, text, key_by, reference, builtin, value_by, value, held, pair_with, pair, list_or_tuple, dict, function, content, object_by, object, objects, names, values, part, start, with_size, part_read}
 
 -- ---- from one spot to another
 
@@ -89,32 +97,56 @@ refers_if : {A : Type 0} (P : A → ℕ → Type 0) (b : Bool) (x y : Read A) �
 refers_if P true x y p q = p
 refers_if P false x y p q = q
 
+refers_known : {A : Type 0} (P : A → ℕ → Type 0) (b : Bool) (x y : Read A) → (b ≡ true → Refers P x) → (b ≡ false → Refers P y) → Refers P (if b then x else y)
+refers_known P true x y p q = p refl
+refers_known P false x y p q = q refl
+
+ends_weaker : {A : Type 0} (P Q : A → ℕ → Type 0) → ((a : A) (n : ℕ) → P a n → Q a n) → (s : Spot) (answer : Answer A) → Ends P s answer → Ends Q s answer
+ends_weaker P Q w s (Ok read) e = (e.0, w read.0 read.1.met e.1)
+ends_weaker P Q w s (Err fault) e = tt
+
+refers_weaker : {A : Type 0} (P Q : A → ℕ → Type 0) (m : Read A) → ((a : A) (n : ℕ) → P a n → Q a n) → Refers P m → Refers Q m
+refers_weaker P Q m w p = record { ends = λ s. ends_weaker P Q w s (m s) (p.ends s) }
+
 ends_if : {A : Type 0} (P : A → ℕ → Type 0) (s : Spot) (b : Bool) (x y : Answer A) → Ends P s x → Ends P s y → Ends P s (if b then x else y)
 ends_if P s true x y p q = p
 ends_if P s false x y p q = q
 
--- ---- n items of one kind
+-- ---- n items of one kind, which make up a list of one kind
 
-module _ {A : Type 0} (R : A → ℕ → Type 0) (up : (a : A) (m n : ℕ) → m ≤ n → R a m → R a n) (step : List A → Read A) (each : (before : List A) → Refers R (step before)) where
-  abbrev AreAll : ℕ → List A → ℕ → Type 0
-  AreAll count xs k = All (λ x. R x k) xs × (length xs ≡ count)
+abbrev AreSuch : {A : Type 0} → (A → ℕ → Type 0) → (List A → Type 0) → ℕ → List A → ℕ → Type 0
+AreSuch R G count xs k = All (λ x. R x k) xs × (length xs ≡ count) × G xs
 
-  next_ends : (count n : ℕ) (before : List A) (s : Spot) (answer : Answer A) → Ends R s answer → All (λ x. R x s.met) before
-      → ((a : A) (t : Spot) → All (λ x. R x t.met) (before ++ a ∷ []) → Ends (AreAll count) t (more step n (before ++ a ∷ []) t)) → Ends (AreAll count) s (after answer (λ a. more step n (before ++ a ∷ [])))
+module _ {A : Type 0} (R : A → ℕ → Type 0) (G : List A → Type 0) (up : (a : A) (m n : ℕ) → m ≤ n → R a m → R a n) (none : G []) (step : List A → Read A)
+    (each : (before : List A) → G before → Refers (λ a n. R a n × G (before ++ a ∷ [])) (step before)) where
+  next_ends : (count n : ℕ) (before : List A) (s : Spot) (answer : Answer A) → Ends (λ a k. R a k × G (before ++ a ∷ [])) s answer → All (λ x. R x s.met) before
+      → ((a : A) (t : Spot) → All (λ x. R x t.met) (before ++ a ∷ []) → G (before ++ a ∷ []) → Ends (AreSuch R G count) t (more step n (before ++ a ∷ []) t))
+      → Ends (AreSuch R G count) s (after answer (λ a. more step n (before ++ a ∷ [])))
   next_ends count n before s (Ok read) d h rest =
       let now : All (λ x. R x read.1.met) (before ++ read.0 ∷ []) = All-append (λ x. R x read.1.met) before (read.0 ∷ [])
       (All-weaker (λ x. R x s.met) (λ x. R x read.1.met) (λ x r. up x s.met read.1.met d.0.up r) before h)
-      (All-cons (λ x. R x read.1.met) read.0 [] d.1 (All-nil (λ x. R x read.1.met))) in
-      ends_from (AreAll count) s read.1 (more step n (before ++ read.0 ∷ []) read.1) d.0 (rest read.0 read.1 now)
+      (All-cons (λ x. R x read.1.met) read.0 [] d.1.0 (All-nil (λ x. R x read.1.met))) in
+      ends_from (AreSuch R G count) s read.1 (more step n (before ++ read.0 ∷ []) read.1) d.0 (rest read.0 read.1 now d.1.1)
   next_ends count n before s (Err fault) d h rest = tt
 
-  more_ends : (n : ℕ) (before : List A) (s : Spot) → All (λ x. R x s.met) before → (count : ℕ) → count ≡ length before + n → Ends (AreAll count) s (more step n before s)
-  more_ends zero before s h count e = (step_same s, (h, omega (arith, e)))
-  more_ends (suc n) before s h count e = next_ends count n before s (step before s) ((each before).ends s) h
-      (λ a t now. let size = length-append before (a ∷ []) in more_ends n (before ++ a ∷ []) t now count (omega (arith, e, size)))
+  more_ends : (n : ℕ) (before : List A) (s : Spot) → All (λ x. R x s.met) before → G before → (count : ℕ) → count ≡ length before + n → Ends (AreSuch R G count) s (more step n before s)
+  more_ends zero before s h g count e = (step_same s, (h, omega (arith, e), g))
+  more_ends (suc n) before s h g count e = next_ends count n before s (step before s) ((each before g).ends s) h
+      (λ a t now good. let size = length-append before (a ∷ []) in more_ends n (before ++ a ∷ []) t now good count (omega (arith, e, size)))
 
-  more_refers : (n : ℕ) → Refers (AreAll n) (more step n [])
-  more_refers n = record { ends = λ s. more_ends n [] s (All-nil (λ x. R x s.met)) n (omega arith) }
+  more_refers : (n : ℕ) → Refers (AreSuch R G n) (more step n [])
+  more_refers n = record { ends = λ s. more_ends n [] s (All-nil (λ x. R x s.met)) none n (omega arith) }
+
+-- of any list
+abbrev Anything : {A : Type 0} → List A → Type 0
+Anything xs = Unit {0}
+
+module _ {A : Type 0} (R : A → ℕ → Type 0) (up : (a : A) (m n : ℕ) → m ≤ n → R a m → R a n) (step : List A → Read A) (each : (before : List A) → Refers R (step before)) where
+  each_any : (before : List A) → Anything before → Refers (λ a n. R a n × Anything (before ++ a ∷ [])) (step before)
+  each_any before g = refers_weaker R (λ a n. R a n × Anything (before ++ a ∷ [])) (step before) (λ a n r. (r, tt)) (each before)
+
+  each_refers : (n : ℕ) → Refers (AreSuch R Anything n) (more step n [])
+  each_refers n = more_refers R Anything up tt step each_any n
 
 -- ---- values and objects
 
@@ -134,7 +166,13 @@ abbrev OfPair : Key × Value → ℕ → Type 0
 OfPair p n = AreBelow (pair_refs p) n
 
 abbrev OfObject : Object → ℕ → Type 0
-OfObject o n = AreBelow (object_refs o) n
+OfObject o n = AreBelow (object_refs o) n × IsValidObject IsItsText o
+
+object_up : (o : Object) (m n : ℕ) → m ≤ n → OfObject o m → OfObject o n
+object_up o m n l h = (below_up (object_refs o) m n l h.0, h.1)
+
+abbrev OfName : List ℕ → ℕ → Type 0
+OfName x n = IsTrue (is_variable x)
 
 all_below : {A : Type 0} (refs : A → List ℕ) (n : ℕ) (xs : List A) → All (λ x. AreBelow (refs x) n) xs → AreBelow (flat_map refs xs) n
 all_below refs n [] h = All-nil (λ a. a < n)
@@ -146,6 +184,22 @@ key_refs the_key.Nothing n = All-nil (λ a. a < n)
 key_refs (the_key.Bool truth) n = All-nil (λ a. a < n)
 key_refs (the_key.Number number) n = All-nil (λ a. a < n)
 key_refs (the_key.Text chars) n = All-nil (λ a. a < n)
+
+-- a key that isn't there goes last
+put_last : (pairs : Pairs) (k : Key) (v : Value) → is_some (value_under pairs k) ≡ false → with_pair pairs k v ≡ pairs ++ (k, v) ∷ []
+put_last [] k v e = refl
+put_last (p ∷ pairs) k v e = elim (cases_Bool (same_key k p.0)) [
+  | inl t ↦ absurd (let no : true ≡ false = rw t at e in cc)
+  | inr f ↦ rw f (ap (λ (ps : Pairs). p ∷ ps) (put_last pairs k v (rw f at e)))
+]
+
+still_distinct : (pairs : Pairs) (k : Key) (v : Value) → HasNoKeyTwice pairs → is_some (value_under pairs k) ≡ false → HasNoKeyTwice (pairs ++ (k, v) ∷ [])
+still_distinct pairs k v h e = subst HasNoKeyTwice (put_last pairs k v e) (with_pair_distinct pairs k v h)
+
+its_text : (source : List ℕ) (def : Def) → verdict_alone source ≡ Ok def → IsItsText def
+its_text source def e =
+    let same : source ≡ def.source = sym (has_text source def (subst (DefinitionVerdict source) e (means source))) in
+    subst (λ (xs : List ℕ). verdict_alone xs ≡ Ok def) same e
 
 -- ---- the steps
 
@@ -176,6 +230,23 @@ module _ (bytes : List ℕ) where
   unfolding text
   text_refers = then_any Any place _ place_refers (λ at. then_any Any (four bytes) _ four_refers (λ n. then_any Any (taken bytes n) _ (taken_refers n)
       (λ xs. refers_if Any (is_utf8 xs) (pure xs) (fail (BadText at)) (pure_refers Any xs (λ n. tt)) (fail_refers Any (BadText at)))))
+
+  name_refers : (before : List (List ℕ)) → Refers OfName (name bytes before)
+  unfolding name
+  name_refers before = then_any OfName place _ place_refers (λ at. then_any OfName (byte bytes) _ byte_refers (λ n. then_any OfName (taken bytes n) _ (taken_refers n)
+      (λ xs. refers_known OfName (is_variable xs && follows before xs) (pure xs) (fail (BadName at))
+      (λ e. pure_refers OfName xs (λ k. (and_parts (is_variable xs) (follows before xs) e).0)) (λ e. fail_refers OfName (BadName at)))))
+
+  abbrev AreVariables : List (List ℕ) → ℕ → Type 0
+  AreVariables ns k = All (λ x. IsTrue (is_variable x)) ns
+
+  all_names_refer : (n : ℕ) → Refers AreVariables (more (name bytes) n [])
+  all_names_refer n = refers_weaker (AreSuch OfName Anything n) AreVariables (more (name bytes) n []) (λ ns k h. h.0) (each_refers OfName (λ x i j l h. h) (name bytes) name_refers n)
+
+  names_refer : Refers AreVariables (names bytes)
+  unfolding names
+  names_refer = then_any AreVariables place _ place_refers (λ at. then_any AreVariables (four bytes) _ four_refers (λ n.
+      refers_if AreVariables (n == 0) (fail (BadName at)) (more (name bytes) n []) (fail_refers AreVariables (BadName at)) (all_names_refer n)))
 
   key_refers : (at tag : ℕ) → Refers {A = Key} Any (key_by bytes at tag)
   unfolding key_by
@@ -227,48 +298,58 @@ module _ (bytes : List ℕ) where
       refers_if OfHeld ((tag == 7) && alone) _ _ (pure_refers OfHeld None (λ n. All-nil (λ a. a < n)))
       (then_pure OfValue OfHeld (value_by bytes at tag) (λ v. Some v) (value_by_refers at tag) (λ v n q. q))))
 
-  pair_with_refers : (at : ℕ) (before : Pairs) (k : Key) → Refers OfPair (pair_with bytes at before k)
-  pair_with_refers at before k = refers_if OfPair (is_some (value_under before k)) _ _ (fail_refers OfPair (BadKey at))
-      (then_pure OfValue OfPair (value bytes) (λ v. (k, v)) value_refers (λ v n q. q))
+  abbrev OfNext : Pairs → Key × Value → ℕ → Type 0
+  OfNext before p n = OfPair p n × HasNoKeyTwice (before ++ p ∷ [])
 
-  pair_refers : (before : Pairs) → Refers OfPair (pair bytes before)
+  pair_with_refers : (at : ℕ) (before : Pairs) (k : Key) → HasNoKeyTwice before → Refers (OfNext before) (pair_with bytes at before k)
+  pair_with_refers at before k twice = refers_known (OfNext before) (is_some (value_under before k)) (fail (BadKey at)) (value bytes >>= λ v. pure (k, v))
+      (λ e. fail_refers (OfNext before) (BadKey at))
+      (λ e. then_pure OfValue (OfNext before) (value bytes) (λ v. (k, v)) value_refers (λ v n q. (q, still_distinct before k v twice e)))
+
+  pair_refers : (before : Pairs) → HasNoKeyTwice before → Refers (OfNext before) (pair bytes before)
   unfolding pair
-  pair_refers before = then_any OfPair place _ place_refers (λ at. then_any OfPair (byte bytes) _ byte_refers (λ tag.
-      then_any OfPair (key_by bytes at tag) _ (key_refers at tag) (λ k. pair_with_refers at before k)))
+  pair_refers before twice = then_any (OfNext before) place _ place_refers (λ at. then_any (OfNext before) (byte bytes) _ byte_refers (λ tag.
+      then_any (OfNext before) (key_by bytes at tag) _ (key_refers at tag) (λ k. pair_with_refers at before k twice)))
 
-  abbrev ItemsSo : ℕ → List Value → ℕ → Type 0
-  ItemsSo count xs k = All (λ v. OfValue v k) xs × (length xs ≡ count)
+  abbrev ItemsSo : List Value → ℕ → Type 0
+  ItemsSo xs k = All (λ v. OfValue v k) xs
 
-  items_refer : (n : ℕ) → Refers (ItemsSo n) (more (λ before. value bytes) n [])
-  items_refer n = more_refers OfValue (λ v i j l h. below_up (value_refs v) i j l h) (λ before. value bytes) (λ before. value_refers) n
+  items_refer : (n : ℕ) → Refers ItemsSo (more (λ before. value bytes) n [])
+  items_refer n = refers_weaker (AreSuch OfValue Anything n) ItemsSo (more (λ before. value bytes) n []) (λ vs k h. h.0)
+      (each_refers OfValue (λ v i j l h. below_up (value_refs v) i j l h) (λ before. value bytes) (λ before. value_refers) n)
 
   sequence_so : (kind : SequenceKind) (items : List Value) (k : ℕ) → AreBelow (flat_map value_refs items) k → OfObject (sequence kind items) k
-  sequence_so sequences.List items k q = q
-  sequence_so sequences.Tuple items k q = q
+  sequence_so sequences.List items k q = (q, tt)
+  sequence_so sequences.Tuple items k q = (q, tt)
 
   sequence_refers : (kind : SequenceKind) → Refers OfObject (list_or_tuple bytes kind)
   unfolding list_or_tuple
   sequence_refers kind = then_any OfObject (four bytes) _ four_refers (λ n.
-      then_pure (ItemsSo n) OfObject (more (λ before. value bytes) n []) (λ items. sequence kind items) (items_refer n) (λ items k q. sequence_so kind items k (all_below value_refs k items q.0)))
+      then_pure ItemsSo OfObject (more (λ before. value bytes) n []) (λ items. sequence kind items) (items_refer n) (λ items k q. sequence_so kind items k (all_below value_refs k items q)))
 
-  abbrev EntriesSo : ℕ → Pairs → ℕ → Type 0
-  EntriesSo count xs k = All (λ p. OfPair p k) xs × (length xs ≡ count)
+  nothing_twice : HasNoKeyTwice []
+  unfolding IsDistinct
+  nothing_twice = tt
 
-  pairs_refer : (n : ℕ) → Refers (EntriesSo n) (more (pair bytes) n [])
-  pairs_refer n = more_refers OfPair (λ p i j l h. below_up (pair_refs p) i j l h) (pair bytes) pair_refers n
+  abbrev EntriesSo : Pairs → ℕ → Type 0
+  EntriesSo xs k = All (λ p. OfPair p k) xs × HasNoKeyTwice xs
+
+  pairs_refer : (n : ℕ) → Refers EntriesSo (more (pair bytes) n [])
+  pairs_refer n = refers_weaker (AreSuch OfPair HasNoKeyTwice n) EntriesSo (more (pair bytes) n []) (λ ps k h. (h.0, h.2))
+      (more_refers OfPair HasNoKeyTwice (λ p i j l h. below_up (pair_refs p) i j l h) nothing_twice (pair bytes) pair_refers n)
 
   dict_refers : Refers OfObject (dict bytes)
   unfolding dict
   dict_refers = then_any OfObject (four bytes) _ four_refers (λ n.
-      then_pure (EntriesSo n) OfObject (more (pair bytes) n []) (λ pairs. the_object.Dict pairs) (pairs_refer n) (λ pairs k q. all_below pair_refs k pairs q.0))
+      then_pure EntriesSo OfObject (more (pair bytes) n []) (λ pairs. the_object.Dict pairs) (pairs_refer n) (λ pairs k q. (all_below pair_refs k pairs q.0, q.1)))
 
-  function_of_refers : (at : ℕ) (verdict : Result Def SyntaxFault) → Refers OfObject (function_of at verdict)
-  function_of_refers at (Ok def) = record { ends = λ s. (step_same s, All-nil (λ a. a < s.met)) }
-  function_of_refers at (Err fault) = record { ends = λ s. tt }
+  function_of_refers : (at : ℕ) (source : List ℕ) (verdict : Result Def SyntaxFault) → verdict_alone source ≡ verdict → Refers OfObject (function_of at verdict)
+  function_of_refers at source (Ok def) e = record { ends = λ s. (step_same s, (All-nil (λ a. a < s.met), its_text source def e)) }
+  function_of_refers at source (Err fault) e = record { ends = λ s. tt }
 
   function_refers : Refers OfObject (function bytes)
   unfolding function
-  function_refers = then_any OfObject place _ place_refers (λ at. then_any OfObject (text bytes) _ text_refers (λ source. function_of_refers at (verdict_alone source)))
+  function_refers = then_any OfObject place _ place_refers (λ at. then_any OfObject (text bytes) _ text_refers (λ source. function_of_refers at source (verdict_alone source) refl))
 
   content_refers : (tag : ℕ) → Refers OfObject (content bytes tag)
   unfolding content
@@ -295,6 +376,9 @@ module _ (bytes : List ℕ) where
   abbrev ObjectsSo : ℕ → List Object → ℕ → Type 0
   ObjectsSo count xs k = All (λ o. OfObject o k) xs × (length xs ≡ count)
 
+  all_objects_refer : (n : ℕ) → Refers (ObjectsSo n) (more (object bytes) n [])
+  all_objects_refer n = refers_weaker (AreSuch OfObject Anything n) (ObjectsSo n) (more (object bytes) n []) (λ os k h. (h.0, h.1)) (each_refers OfObject object_up (object bytes) object_refers n)
+
   closed_by : (s u : Spot) (n : ℕ) (answer : Answer (List Object)) → s.met ≤ u.met → u.met ≤ n → u.most ≡ n → Ends (ObjectsSo n) u answer → AreClosed s answer
   closed_by s u n (Ok read) l room most e =
       let step = e.0 in
@@ -311,8 +395,7 @@ module _ (bytes : List ℕ) where
     | inr f ↦
         let u : Spot = record read.1 { most = read.0 } in
         let room = ltb-false read.0 read.1.met f in
-        rw f (closed_by s u read.0 (more (object bytes) read.0 [] u) e.0.up room refl
-        ((more_refers OfObject (λ o i j l h. below_up (object_refs o) i j l h) (object bytes) object_refers read.0).ends u))
+        rw f (closed_by s u read.0 (more (object bytes) read.0 [] u) e.0.up room refl ((all_objects_refer read.0).ends u))
   ]
   from_four s at (Err fault) e = tt
 
@@ -325,7 +408,8 @@ module _ (bytes : List ℕ) where
 
   values_refer : (n : ℕ) → Refers (ValuesSo n) (values bytes n)
   unfolding values
-  values_refer n = more_refers OfHeld (λ o i j l h. below_up (held_refs value_refs o) i j l h) (λ before. held bytes (n == 1)) (λ before. held_refers (n == 1)) n
+  values_refer n = refers_weaker (AreSuch OfHeld Anything n) (ValuesSo n) (values bytes n) (λ vs k h. (h.0, h.1))
+      (each_refers OfHeld (λ o i j l h. below_up (held_refs value_refs o) i j l h) (λ before. held bytes (n == 1)) (λ before. held_refers (n == 1)) n)
 
 -- ---- the part
 
@@ -333,37 +417,41 @@ pub record IsOfItself (p : PartValue) : Type 0 where
   pub as_many : length p.values ≡ length p.names
   pub values : All (λ o. AreLive p.objects (held_refs value_refs o)) p.values
   pub objects : All (λ o. AreLive p.objects (object_refs o)) p.objects
+  pub variables : All (λ x. IsTrue (is_variable x)) p.names
+  pub valid : All (IsValidObject IsItsText) p.objects
 
 abbrev IsWhole : Answer PartValue → Type 0
 IsWhole (Ok read) = IsOfItself read.0
 IsWhole (Err fault) = Unit {0}
 
 module _ (bytes : List ℕ) where
-  whole_by : (ns : List (List ℕ)) (vs : List (Option Value)) (s : Spot) (answer : Answer (List Object)) → length vs ≡ length ns → All (λ o. OfHeld o s.met) vs → AreClosed bytes s answer
-      → IsWhole (after answer (λ os. pure (record { names = ns; values = vs; objects = os })))
-  whole_by ns vs s (Ok read) size h c =
+  whole_by : (ns : List (List ℕ)) (vs : List (Option Value)) (s : Spot) (answer : Answer (List Object)) → All (λ x. IsTrue (is_variable x)) ns → length vs ≡ length ns → All (λ o. OfHeld o s.met) vs
+      → AreClosed bytes s answer → IsWhole (after answer (λ os. pure (record { names = ns; values = vs; objects = os })))
+  whole_by ns vs s (Ok read) named size h c =
       let l = c.0 in
       let m = c.2 in
       record {
         as_many = size;
         values = All-weaker (λ o. OfHeld o s.met) (λ o. AreLive read.0 (held_refs value_refs o)) (λ o k. below_up (held_refs value_refs o) s.met (length read.0) (omega (arith, l, m)) k) vs h;
-        objects = All-weaker (λ o. OfObject o read.1.met) (λ o. AreLive read.0 (object_refs o)) (λ o k. below_up (object_refs o) read.1.met (length read.0) m k) read.0 c.1;
+        objects = All-weaker (λ o. OfObject o read.1.met) (λ o. AreLive read.0 (object_refs o)) (λ o k. below_up (object_refs o) read.1.met (length read.0) m k.0) read.0 c.1;
+        variables = named;
+        valid = All-weaker (λ o. OfObject o read.1.met) (IsValidObject IsItsText) (λ o k. k.1) read.0 c.1;
       }
-  whole_by ns vs s (Err fault) size h c = tt
+  whole_by ns vs s (Err fault) named size h c = tt
 
-  whole_after : (ns : List (List ℕ)) (s : Spot) (answer : Answer (List (Option Value))) → Ends (ValuesSo bytes (length ns)) s answer
+  whole_after : (ns : List (List ℕ)) (s : Spot) (answer : Answer (List (Option Value))) → All (λ x. IsTrue (is_variable x)) ns → Ends (ValuesSo bytes (length ns)) s answer
       → IsWhole (after answer (λ vs. objects bytes >>= λ os. pure (record { names = ns; values = vs; objects = os })))
-  whole_after ns s (Ok read) e = whole_by ns read.0 read.1 (objects bytes read.1) e.1.1 e.1.0 (objects_closed bytes read.1)
-  whole_after ns s (Err fault) e = tt
+  whole_after ns s (Ok read) named e = whole_by ns read.0 read.1 (objects bytes read.1) named e.1.1 e.1.0 (objects_closed bytes read.1)
+  whole_after ns s (Err fault) named e = tt
 
-  whole_from : (answer : Answer (List (List ℕ)))
+  whole_from : (s : Spot) (answer : Answer (List (List ℕ))) → Ends (AreVariables bytes) s answer
       → IsWhole (after answer (λ ns. values bytes (length ns) >>= λ vs. objects bytes >>= λ os. pure (record { names = ns; values = vs; objects = os })))
-  whole_from (Ok read) = whole_after read.0 read.1 (values bytes (length read.0) read.1) ((values_refer bytes (length read.0)).ends read.1)
-  whole_from (Err fault) = tt
+  whole_from s (Ok read) e = whole_after read.0 read.1 (values bytes (length read.0) read.1) e.1 ((values_refer bytes (length read.0)).ends read.1)
+  whole_from s (Err fault) e = tt
 
   whole : IsWhole (part bytes start)
   unfolding part
-  whole = whole_from (names bytes start)
+  whole = whole_from start (names bytes start) ((names_refer bytes).ends start)
 
   part_in : PartValue → Result (PartValue × ℕ) PartFault → PartValue
   part_in p (Ok read) = read.0

@@ -7,9 +7,8 @@ use Rattle.std.proofs.lemmas.Bool.{cases_Bool, cases_eq, cases_lt, or_parts, not
 use Rattle.std.proofs.lemmas.List.{take-append-drop, take_more}
 use Rattle.std.proofs.lemmas.Option.{none-some, same_Some, slice_get_within, get_or_from_slice_get, slice_get-get_or}
 use Rattle.py_heap.specs.declared.state.State.{State}
-use Rattle.py_heap.specs.References.{IsClosed}
 use Rattle.py_heap.specs.States.{without_name}
-use Rattle.py_heap.proofs.Closed.{unbind_closed}
+use Rattle.py_heap.proofs.Validity.{unbind_valid}
 use Rattle.py_machine.specs.Runs.{Name}
 use Rattle.py_laws.proofs.Partners.{none_in, first_in, later_in}
 use Rattle.graph_model.specs.declared.graph.CellRecord.{CellRecord}
@@ -24,10 +23,13 @@ use Rattle.part_bytes.proofs.ByAddress.{there}
 use Rattle.checkpoint_reader.specs.declared.checkpoint.Checkpoint.{Checkpoint}
 use Rattle.checkpoint_reader.specs.Fields.{is_same, is_otherwise, is_unlike}
 use Rattle.checkpoint_reader.specs.Numbered.{IsCopyAt}
+use Rattle.reader_laws.specs.Texts.{IsItsText}
+use Rattle.reader_laws.specs.Valid.{IsValidState}
 use Rattle.every_history.specs.Reading.{read}
 use Rattle.replay_laws.specs.Walks.{IsLoaded, Passes, GivesBack, GivesAllBack, goes_on}
-use Rattle.part_loader.specs.Loading.{state_of, AreDistinct, IsWhole}
-use Rattle.part_loader.proofs.Loads.{never_descending_distinct}
+use Rattle.part_loader.specs.Loading.{state_of, AreDistinct, IsWhole, loaded}
+use Rattle.part_loader.proofs.Loads.{never_descending_distinct, whole_loaded}
+use Rattle.part_loader.proofs.Validity.{loaded_valid}
 use Rattle.restore_run.specs.Restoring.{IsSoundCheckpoint, IsWalked, no_part, part_for, copies}
 use Rattle.restore_run.specs.Walking.{CopiedAt, OnCopiedAt, IsBetween, AreLeft}
 use Rattle.restore_run.proofs.Referring.{read_of_itself}
@@ -103,6 +105,12 @@ cell_at g cells i x e l is =
     let back : i + 1 - 1 ≡ i = omega arith in
     let at : slice_get cells i ≡ Some x = slice_get-get_or cells i x l ∙ ap (λ (y : CellRecord). Some y) (sym is) in
     (omega arith, subst (λ n. slice_get g.cells n ≡ Some x) (sym back) (subst (λ (ys : List CellRecord). slice_get ys i ≡ Some x) e at))
+
+-- the cell before number i + 1 is cell i
+pub between_at : (k : Checkpoint) (i n : ℕ) → IsBetween k i n → (c : ℕ) → i + 1 ≡ c + 1 → IsBetween k c n
+between_at k i n b c e =
+    let same : i ≡ c = omega (arith, e) in
+    subst (λ m. IsBetween k m n) same b
 
 -- one cell on
 pub walked_on : (k : Checkpoint) (c : ℕ) (t m u : State) → IsWalked k c t → Passes read k.graph k.plan (c + 1) t m → GivesAllBack (copies k) k.graph (c + 1) k.plan.copied m u → IsWalked k (c + 1) u
@@ -329,13 +337,13 @@ module _ (k : Checkpoint) (sound : IsSoundCheckpoint k) where
   distinct_names : (v : ℕ) (x : Version) → VersionAt g v x → AreDistinct x.names
   distinct_names v x at = never_descending_distinct x.names (λ none. sound.graph.names v (x, at, inr (inl none)))
 
-  pub given_back : (n v : ℕ) (x : Version) (p : PartValue) (t u : State) → CopiedAt k n v x → slice_get k.parts n ≡ Some p → IsClosed t → (x.absent ≡ false → IsWhole p → IsClosed t → IsLoaded p.names (state_of p) t u)
-      → (x.absent ≡ true → (name : Name) → x.names ≡ name ∷ [] → u ≡ without_name t name) → GivesBack copy v x t u × IsClosed u
-  given_back n v x p t u at part closed present absent = elim (cases_Bool x.absent) [
+  pub given_back : (n v : ℕ) (x : Version) (p : PartValue) (t u : State) → CopiedAt k n v x → slice_get k.parts n ≡ Some p → IsValidState t → (x.absent ≡ false → u ≡ loaded p t)
+      → (x.absent ≡ true → (name : Name) → x.names ≡ name ∷ [] → u ≡ without_name t name) → GivesBack copy v x t u × IsValidState u
+  given_back n v x p t u at part valid present absent = elim (cases_Bool x.absent) [
     | inl gone ↦
         let w = absent_name v x at.1 gone in
         let is = absent gone w.0 w.1 in
-        (inr (gone, w.0, w.1, is), subst IsClosed (sym is) (unbind_closed t w.0 closed))
+        (inr (gone, w.0, w.1, is), subst IsValidState (sym is) (unbind_valid IsItsText t w.0 valid))
     | inr stays ↦
         let c = zip_at (IsCopyAt g.versions) cs k.parts n v p sound.restorable.copies at.0 part in
         let same : c.0 ≡ x = same_Some c.0 x (sym c.1 ∙ at.1.1) in
@@ -343,9 +351,11 @@ module _ (k : Checkpoint) (sound : IsSoundCheckpoint k) where
         let names : p.names ≡ x.names = names_like x p c.2.size like in
         let own = read_of_itself c.2.bytes p c.2.size c.2.was_read in
         let distinct : AreDistinct p.names = subst AreDistinct (sym names) (distinct_names v x at.1) in
-        let load = present stays (record { distinct = distinct; as_many = own.as_many; values = own.values; objects = own.objects }) closed in
+        let entire : IsWhole p = record { distinct = distinct; as_many = own.as_many; values = own.values; objects = own.objects } in
+        let is = present stays in
+        let load = whole_loaded p t u is entire valid.closed in
         let here : state_of p ≡ copy v = ap state_of (sym (part_here cs k.parts n v p sound.names.copied_ascends at.0 part)) in
         let whole = subst (λ (s : State). IsLoaded p.names s t u) here load in
         let done = subst (λ (ns : List Name). IsLoaded ns (copy v) t u) names whole in
-        (inl (stays, done), done.closed)
+        (inl (stays, done), subst IsValidState (sym is) (loaded_valid IsItsText p t entire (record { names = own.variables; objects = own.valid }) valid))
   ]

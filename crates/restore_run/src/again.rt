@@ -1,9 +1,9 @@
 ghost use Rattle.std.specs.Prelude.{◌≡◌, ◌≤◌, [], Ok};
 ghost use Rattle.py_meaning.specs.Cells.{outcome, Asks};
 ghost use Rattle.every_history.specs.Reading as reading;
-ghost use Rattle.replay_laws.specs.Walks.{done_again};
+ghost use Rattle.run_graph.specs.Soundness.{done_by};
+ghost use Rattle.replay_laws.specs.Walks.{with_meter};
 
-use graph_model::CellRecord;
 use nb_outside::NoFeed;
 use py_kernel::Kernel;
 use py_reader::{ReadError, Trees, read_cell};
@@ -23,7 +23,6 @@ pub(crate) enum Ran {
 fn run_body(alloc: Global, kernel: &mut Kernel, body: &[Stmt]) -> Result<Ran, AllocError>
     ensures ended { result ≡ Ok Ran.Ended → (¬ Asks (outcome body.now kernel.old.state [])) × (kernel.new.state ≡ (outcome body.now kernel.old.state []).1.state) }
     ensures drew { result ≡ Ok Ran.Drew → Asks (outcome body.now kernel.old.state []) }
-    ensures host { kernel.new.host ≡ kernel.old.host }
 {
     let mut feed = NoFeed::new();
     let end = kernel.run_cell(alloc, body, &mut feed)?;
@@ -34,21 +33,21 @@ fn run_body(alloc: Global, kernel: &mut Kernel, body: &[Stmt]) -> Result<Ran, Al
     }
 }
 
-/// Runs the recorded code of a cell again, from the recorded meter and without draws. A code without a tree runs nothing. A code whose
-/// tree is kept isn't read again.
+/// Runs a recorded code again, from the recorded meter and without draws. A code without a tree runs nothing. A code whose tree is kept
+/// isn't read again.
 pub(crate) fn run_again(
     alloc: Global,
     kernel: &mut Kernel,
     trees: &mut Trees,
-    cell: &CellRecord,
+    code: &str,
+    meter: u32,
 ) -> Result<Ran, AllocError>
-    requires { cell.now.meter ≤ 16777216 }
-    ensures ended { result ≡ Ok Ran.Ended → (¬ Asks (done_again reading.read cell.now kernel.old.state)) × (kernel.new.state ≡ (done_again reading.read cell.now kernel.old.state).1.state) }
-    ensures drew { result ≡ Ok Ran.Drew → Asks (done_again reading.read cell.now kernel.old.state) }
-    ensures host { kernel.new.host ≡ kernel.old.host }
+    requires { meter ≤ 16777216 }
+    ensures ended { result ≡ Ok Ran.Ended → (¬ Asks (done_by reading.read code.now (with_meter kernel.old.state meter) []))
+        × (kernel.new.state ≡ (done_by reading.read code.now (with_meter kernel.old.state meter) []).1.state) }
+    ensures drew { result ≡ Ok Ran.Drew → Asks (done_by reading.read code.now (with_meter kernel.old.state meter) []) }
 {
-    kernel.state.set_meter(cell.meter);
-    let code = cell.code.as_str();
+    kernel.set_meter(meter);
     if let Some(body) = trees.look(alloc, code) {
         return run_body(alloc, kernel, body.as_slice());
     }

@@ -1,13 +1,13 @@
 ghost use Rattle.std.specs.Prelude.{ℕ, ◌≡◌, ◌≢◌, ◌⊎◌, ◌↔◌, ◌+◌, ◌<◌, ◌≤◌, true, false, ◌∷◌, [], List, Contains, IsTrue, length, slice_get, Some, Ok, IfOk, OnOk, IfErr};
-ghost use Rattle.py_heap.specs.References.{IsClosed};
 ghost use Rattle.py_heap.specs.States.{without_name};
 ghost use Rattle.py_meaning.specs.Cells.{Asks};
 ghost use Rattle.graph_model.specs.declared.graph.Version.{Version};
 ghost use Rattle.graph_model.specs.Graphs.{CellAt, VersionAt};
 ghost use Rattle.graph_model.specs.Faults.{Ascends};
+ghost use Rattle.reader_laws.specs.Valid.{IsValidState};
 ghost use Rattle.every_history.specs.Reading as reading;
-ghost use Rattle.replay_laws.specs.Walks.{done_again, Passes, IsLoaded, GivesBack, GivesAllBack};
-ghost use Rattle.part_loader.specs.Loading.{IsWhole, state_of};
+ghost use Rattle.replay_laws.specs.Walks.{done_again, Passes, GivesBack, GivesAllBack};
+ghost use Rattle.part_loader.specs.Loading.{loaded};
 ghost use Rattle.restore_run.specs.Restoring.{IsSoundCheckpoint, copies, IsWalked, DrawsAgain};
 ghost use Rattle.restore_run.specs.Walking.{IsBetween, OnCopiedAt, AreLeft};
 ghost use Rattle.checkpoint_reader.specs.declared.checkpoint.Checkpoint.{Checkpoint};
@@ -44,17 +44,16 @@ fn pass(
     requires sound { IsSoundCheckpoint k }
     requires plan { plan.now ≡ k.plan }
     requires at { CellAt k.graph number cell.now }
-    requires closed { IsClosed kernel.old.state }
+    requires valid { IsValidState kernel.old.state }
     ensures passes { OnOk result (Passes reading.read k.graph k.plan number kernel.old.state kernel.new.state) }
-    ensures closed { OnOk result (IsClosed kernel.new.state) }
+    ensures valid { OnOk result (IsValidState kernel.new.state) }
     ensures fault { IfErr result (λ f. (f ≡ RestoreFault.OutOfMemory)
         ⊎ ((f ≡ RestoreFault.DrewAgain number) × Contains k.plan.rerun number × Asks (done_again reading.read cell.now kernel.old.state))) }
-    ensures host { kernel.new.host ≡ kernel.old.host }
 {
     if !has(plan.rerun.as_slice(), number) {
         return Ok(());
     }
-    match run_again(alloc, kernel, trees, cell)? {
+    match run_again(alloc, kernel, trees, cell.code.as_str(), cell.meter)? {
         Ran::Ended => Ok(()),
         Ran::Drew => Err(RestoreFault::DrewAgain(number)),
     }
@@ -67,7 +66,7 @@ fn give(
     version: &Version,
     part: PartValue,
 ) -> Result<(), AllocError>
-    ensures present { version.now.absent ≡ false → OnOk result (IsWhole part → IsClosed state.old → IsLoaded part.names (state_of part) state.old state.new) }
+    ensures present { version.now.absent ≡ false → OnOk result (state.new ≡ loaded part state.old) }
     ensures absent { version.now.absent ≡ true → (name : List ℕ) → version.now.names ≡ name ∷ [] → OnOk result (state.new ≡ without_name state.old name) }
 {
     if !version.absent {
@@ -110,12 +109,12 @@ fn give_next(
     requires plan { plan.now ≡ k.plan }
     requires left { AreLeft k next parts.old }
     requires within { next < length k.plan.copied }
-    requires closed { IsClosed state.old }
+    requires valid { IsValidState state.old }
     ensures yes { result ≡ Ok true → OnCopiedAt k next (λ v x. (x.writer ≡ number) × GivesBack (copies k) v x state.old state.new) }
     ensures no { result ≡ Ok false → (state.new ≡ state.old) × OnCopiedAt k next (λ v x. x.writer ≢ number) }
     ensures left { result ≡ Ok true → AreLeft k (next + 1) parts.new }
     ensures same { result ≡ Ok false → parts.new ≡ parts.old }
-    ensures closed { OnOk result (IsClosed state.new) }
+    ensures valid { OnOk result (IsValidState state.new) }
 {
     let v = plan.copied.as_slice()[next];
     let version = &graph.versions.as_slice()[v as usize - 1];
@@ -145,11 +144,11 @@ fn give_back(
     requires left { AreLeft k from parts.old }
     requires between { (c : ℕ) → number ≡ c + 1 → IsBetween k c from }
     requires above { 0 < number }
-    requires closed { IsClosed state.old }
+    requires valid { IsValidState state.old }
     ensures gives { OnOk result (GivesAllBack (copies k) k.graph number k.plan.copied state.old state.new) }
     ensures between { IfOk result (IsBetween k number) }
     ensures left { IfOk result (λ next. AreLeft k next parts.new) }
-    ensures closed { OnOk result (IsClosed state.new) }
+    ensures valid { OnOk result (IsValidState state.new) }
 {
     let mut next = from;
     while next < plan.copied.len() {
@@ -163,41 +162,34 @@ fn give_back(
 }
 
 /// Walks over the cells of a checkpoint, from the empty state: runs those that the plan runs again, and after each cell gives back the
-/// copied versions that it wrote.
+/// copied versions that it wrote. Gives the state in which the walk ends.
 pub(crate) fn walk(
     alloc: Global,
     graph: &Graph,
     plan: &Plan,
     parts: Items<PartValue>,
     host: u32,
-) -> Result<Kernel, RestoreFault>
+) -> Result<State, RestoreFault>
     ghost k: { Checkpoint }
     requires sound { IsSoundCheckpoint k }
     requires graph { graph.now ≡ k.graph }
     requires plan { plan.now ≡ k.plan }
     requires parts { parts ≡ k.parts }
-    ensures walked { IfOk result (λ kernel. IsWalked k (length k.graph.cells) kernel.state) }
-    ensures closed { IfOk result (λ kernel. IsClosed kernel.state) }
-    ensures host { IfOk result (λ kernel. kernel.host ≡ host) }
+    ensures walked { IfOk result (IsWalked k (length k.graph.cells)) }
+    ensures valid { IfOk result IsValidState }
     ensures fault { IfErr result (λ f. (f ≡ RestoreFault.OutOfMemory) ⊎ ((c : ℕ) × (f ≡ RestoreFault.DrewAgain c) × DrawsAgain k c)) }
 {
     let cells = graph.cells.as_slice();
     let mut left = parts;
-    let mut kernel = Kernel::new(alloc, host);
+    let mut state = State::new(alloc);
     let mut trees = Trees::new(alloc);
     let mut next = 0;
     for index in 0..cells.len() {
         let number = index as u32 + 1;
+        let mut kernel = Kernel::of(state, host);
         pass(alloc, &mut kernel, &mut trees, plan, number, &cells[index])?;
-        next = give_back(
-            alloc,
-            &mut kernel.state,
-            graph,
-            plan,
-            &mut left,
-            number,
-            next,
-        )?;
+        state = kernel.into_state();
+        next = give_back(alloc, &mut state, graph, plan, &mut left, number, next)?;
     }
-    Ok(kernel)
+    Ok(state)
 }

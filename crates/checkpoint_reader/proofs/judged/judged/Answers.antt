@@ -16,4 +16,9 @@ returns-clause-exact c = λ _.
     (refl, graph, c.in_default-unlike.is, names_of c.args.read c.requires c.in_default-unlike.is, c.in_default-feasible.ensures)
 
 pub returns-clause-restorable : goal.returns-clause-restorable
-returns-clause-restorable c = record { meter = c.requires.meter; meters = c.requires.cells.meters; copies = c.requires.versions.copies c.in_default-unlike.is }
+returns-clause-restorable c = record {
+  meter = c.requires.meter;
+  bounds = c.requires.cells.bounds;
+  absent = c.requires.versions.absent;
+  copies = c.requires.versions.copies c.in_default-unlike.is;
+}

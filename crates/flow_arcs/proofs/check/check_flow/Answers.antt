@@ -1,7 +1,7 @@
 use Rattle.std.proofs.Common.{◌≡◌, ℕ, ◌<◌, ◌≤◌, List, length, get_or, sym, ◌∙◌, arith}
 use Rattle.flow_model.specs.declared.Arc.{Arc}
 use Rattle.flow_model.specs.Flows.{IsWithin}
-use Rattle.flow_arcs.specs.Ends.{no_arc}
+use Rattle.flow_arcs.specs.Arcs.{no_arc}
 use Rattle.flow_arcs.proofs.Sums.{within_each}
 use Rattle.flow_arcs.proofs.check.check_flow.Goals as goal
 

@@ -1,6 +1,6 @@
 use Rattle.std.proofs.Common.{◌≡◌, ℕ, ◌<◌, ◌≤◌, get_or}
 use Rattle.flow_model.specs.Flows.{given, taken}
-use Rattle.flow_arcs.specs.Ends.{no_arc}
+use Rattle.flow_arcs.specs.Arcs.{no_arc}
 use Rattle.flow_arcs.proofs.check.check_flow.Given as goal
 
 abbrev pub invariant-loop-i : goal.invariant-loop-i

@@ -22,14 +22,14 @@ module _ (arcs : List Arc) (on first next : List ℕ) (node : ℕ) (h : IsLists 
   pub begins_given : (position : ℕ) → position ≡ get_or first node 0 → 0 + below position (tails arcs) (outs on) node ≡ given arcs on node
   begins_given position p =
       let a = h.first_low node in
-      let b = walk_begins (tails arcs) (outs on) node position out_length (omega arith) (λ e f g. h.first_skips node e (omega arith) g) in
+      let b = walk_begins (tails arcs) (outs on) node position out_length (omega arith) (λ e f g. h.first_skips node e (omega arith) g tt) in
       let c = given_all arcs on (length (tails arcs)) node l refl in
       omega arith
 
   pub begins_taken : (position : ℕ) → position ≡ get_or first node 0 → 0 + below position (tails arcs) (ins on) node ≡ taken arcs on node
   begins_taken position p =
       let a = h.first_low node in
-      let b = walk_begins (tails arcs) (ins on) node position in_length (omega arith) (λ e f g. h.first_skips node e (omega arith) g) in
+      let b = walk_begins (tails arcs) (ins on) node position in_length (omega arith) (λ e f g. h.first_skips node e (omega arith) g tt) in
       let c = taken_all arcs on (length (tails arcs)) node l refl in
       omega arith
 
@@ -44,12 +44,12 @@ module _ (arcs : List Arc) (on first next : List ℕ) (node : ℕ) (h : IsLists 
     pub next_given : q ≡ get_or next e 0 → below position (tails arcs) (outs on) node ≡ below q (tails arcs) (outs on) node + get_or (outs on) e 0
     next_given n =
         let a = h.next_low e (omega arith) in
-        walk_step (tails arcs) (outs on) node e q position p (omega arith) out_length t (omega arith) (λ k f g z. h.next_skips e k (omega arith) (omega arith) g (z ∙ sym t))
+        walk_step (tails arcs) (outs on) node e q position p (omega arith) out_length t (omega arith) (λ k f g z. h.next_skips e k (omega arith) (omega arith) g tt (z ∙ sym t))
 
     pub next_taken : q ≡ get_or next e 0 → below position (tails arcs) (ins on) node ≡ below q (tails arcs) (ins on) node + get_or (ins on) e 0
     next_taken n =
         let a = h.next_low e (omega arith) in
-        walk_step (tails arcs) (ins on) node e q position p (omega arith) in_length t (omega arith) (λ k f g z. h.next_skips e k (omega arith) (omega arith) g (z ∙ sym t))
+        walk_step (tails arcs) (ins on) node e q position p (omega arith) in_length t (omega arith) (λ k f g z. h.next_skips e k (omega arith) (omega arith) g tt (z ∙ sym t))
 
 pub arcs-init : goal.arcs-init
 arcs-init c =

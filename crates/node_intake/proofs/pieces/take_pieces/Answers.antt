@@ -1,8 +1,17 @@
-use Rattle.std.proofs.Common.{◌++◌, Ok, ap, arith}
+use Rattle.std.proofs.Common.{◌++◌, Ok, inl, ap, arith}
 use Rattle.jupyter_frames.specs.Framing.{IsBegun}
 use Rattle.node_intake.specs.Standing.{StandsFor}
-use Rattle.node_intake.proofs.Taking.{Takes-both, risen_by_one_more, goes_on}
+use Rattle.node_intake.proofs.Taking.{Takes-both, risen_by_one_more, stays, goes_on}
 use Rattle.node_intake.proofs.pieces.take_pieces.Goals as goal
+
+pub loop-turn-init : goal.loop-turn-init
+loop-turn-init g c = (
+  stays c.args.hosts (g.S.Source.left c.args.source.now) c.args.framer.now (StandsFor g.D.Desk.holds c.args.node.now),
+  c.requires.begun,
+  inl (omega arith),
+  omega arith,
+  c.requires.room,
+)
 
 pub returns-in-Ok-Some-clause-taken : goal.returns-in-Ok-Some-clause-taken
 returns-in-Ok-Some-clause-taken g c =

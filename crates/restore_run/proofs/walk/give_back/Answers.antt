@@ -18,7 +18,7 @@ loop-next-init g c =
       before = before_begin read sound b c.args.number c.args.from e start;
       on = omega arith;
       within = start.within;
-      closed = c.requires.1.1.1.1.1.1;
+      valid = c.requires.1.1.1.1.1.1;
       left = c.requires.1.1.1.0;
     }
 
@@ -38,7 +38,7 @@ loop-next-preserved g c =
       before = between_more read sound (number - 1) number next w.0 w.1 (before_of number c.requires.1.1.1.1.1.0) w.2 w.3.0 gave.before;
       on = omega (arith, low);
       within = omega (arith, size, more);
-      closed = c.in_ok-given.ensures.closed;
+      valid = c.in_ok-given.ensures.valid;
       left = c.in_ok-given.ensures.left (ap (λ b. Ok b) c.if-not-given.false);
     }
 

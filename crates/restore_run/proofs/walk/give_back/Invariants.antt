@@ -1,6 +1,6 @@
 use Rattle.std.proofs.Common.{ℕ, ◌<◌, ◌≤◌, ◌-◌, length, take}
-use Rattle.py_heap.specs.References.{IsClosed}
 use Rattle.graph_model.specs.declared.graph.Version.{Version}
+use Rattle.reader_laws.specs.Valid.{IsValidState}
 use Rattle.replay_laws.specs.Walks.{GivesAllBack}
 use Rattle.restore_run.specs.Restoring.{copies}
 use Rattle.restore_run.specs.Walking.{CopiedAt, AreLeft}
@@ -12,7 +12,7 @@ invariant-loop-next g l = record {
   before : (i v : ℕ) (x : Version) → i < l.next → CopiedAt g.k i v x → x.writer ≤ l.number;
   on : l.from ≤ l.next;
   within : l.next ≤ length g.k.plan.copied;
-  closed : IsClosed l.state;
+  valid : IsValidState l.state;
   left : AreLeft g.k l.next l.parts;
 }
 

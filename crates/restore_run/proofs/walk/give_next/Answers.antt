@@ -4,7 +4,7 @@ use Rattle.graph_model.specs.declared.plan.Plan.{Plan}
 use Rattle.restore_run.proofs.Walking.{copied_above, copied_within, copied_at, left_within, taken, given_back}
 use Rattle.restore_run.proofs.walk.give_next.Goals as goal
 
--- the premises of the contract, in their order: sound, graph, plan, left, within, closed
+-- the premises of the contract, in their order: sound, graph, plan, left, within, valid
 
 pub overflow_sub-version : goal.overflow_sub-version
 overflow_sub-version g c =
@@ -42,8 +42,8 @@ returns-clause-left g c =
     let part = taken g.k c.args.next c.take_part-part.result c.args.parts.now c.take_part-part.new.parts c.requires.1.1.1.0 c.take_part-part.ensures.part c.take_part-part.ensures.left in
     λ _. part.1
 
-pub returns-clause-closed : goal.returns-clause-closed
-returns-clause-closed g c =
+pub returns-clause-valid : goal.returns-clause-valid
+returns-clause-valid g c =
     let v = get_or c.as_slice.result.now c.args.next 0 in
     let x = c.index-as_slice-v.result in
     let p = c.take_part-part.result in

@@ -11,17 +11,17 @@ push-requires c =
 
 pub overflow_add-self : goal.overflow_add-self
 overflow_add-self c =
-    let w = way_fits c.args.net.now.arcs c.args.self.now.rest.items c.args.self.now.rank.items c.args.self.now.last c.args.self.now.before c.requires.sending.way in
+    let w = way_fits c.args.net.now.arcs c.args.self.now.rest.items c.args.self.now.level.items c.args.self.now.last c.args.self.now.before c.requires.sending.way in
     omega arith
 
 pub returns-clause-sending : goal.returns-clause-sending
 returns-clause-sending c =
     rw c.push.ensures
-    (delivered c.args.net.now c.args.self.now.rest.items c.args.self.now.rank.items c.args.self.now.turn.items c.args.self.now.last c.args.self.now.before c.args.arc c.args.amount
+    (delivered c.args.net.now c.args.self.now.rest.items c.args.self.now.level.items c.args.self.now.turn.items c.args.self.now.last c.args.self.now.before c.args.arc c.args.amount
     c.requires.sending c.requires.arc c.requires.leaves c.requires.fits c.requires.asked)
 
 pub returns-clause-carried : goal.returns-clause-carried
 returns-clause-carried c =
     rw c.push.ensures
-    (delivered_carries c.args.net.now c.args.self.now.rest.items c.args.self.now.rank.items c.args.self.now.turn.items c.args.self.now.last c.args.self.now.before c.args.arc c.args.amount
+    (delivered_carries c.args.net.now c.args.self.now.rest.items c.args.self.now.level.items c.args.self.now.turn.items c.args.self.now.last c.args.self.now.before c.args.arc c.args.amount
     c.requires.sending c.requires.arc c.requires.leaves c.requires.enters c.requires.fits)

@@ -6,16 +6,16 @@ use Rattle.flow_arcs.proofs.send.Sender.try_arc.Goals as goal
 
 pub index-requires : goal.index-requires
 index-requires c =
-    let e = enters c.args.net.now c.args.turns.now.to.items c.args.turns.now.first.items c.args.turns.now.next.items c.args.arc c.index-node.result.now c.requires.turns c.requires.arc c.index-node.ensures in
+    let e = enters c.args.net.now c.args.links.now.to.items c.args.links.now.first.items c.args.links.now.next.items c.args.arc c.index-node.result.now c.requires.links c.requires.arc c.index-node.ensures in
     let h = heads_below c.args.net.now.nodes c.args.net.now.arcs c.requires.net.joined c.args.arc c.requires.arc in
-    let r = c.requires.sending.ranks in
-    omega (arith, c.args.self.now.rank.ok.0)
+    let r = c.requires.sending.levels in
+    omega (arith, c.args.self.now.level.ok.0)
 
 pub index-requires-2 : goal.index-requires-2
 index-requires-2 c =
-    let n = way_node c.args.net.now c.args.self.now.rest.items c.args.self.now.rank.items c.args.self.now.last c.args.self.now.before c.requires.net c.requires.sending.way in
-    let r = c.requires.sending.ranks in
-    omega (arith, c.args.self.now.rank.ok.0)
+    let n = way_node c.args.net.now c.args.self.now.rest.items c.args.self.now.level.items c.args.self.now.last c.args.self.now.before c.requires.net c.requires.sending.way in
+    let r = c.requires.sending.levels in
+    omega (arith, c.args.self.now.level.ok.0)
 
 pub index-requires-3 : goal.index-requires-3
 index-requires-3 c =
@@ -30,20 +30,20 @@ deliver-requires-clause-fits c =
     let m = c.min-room.ensures in
     omega arith
 
-pub descend-requires-clause-fits : goal.descend-requires-clause-fits
-descend-requires-clause-fits c =
+pub climb-requires-clause-fits : goal.climb-requires-clause-fits
+climb-requires-clause-fits c =
     let r = partner_rests c.args.net.now.arcs c.args.self.now.rest.items c.args.arc c.requires.sending.paired c.requires.arc in
     let g = get_or_read c.args.self.now.rest.items c.args.arc c.index-3.result.now r.0 c.index-3.ensures 0 in
     let m = c.min-room.ensures in
     omega arith
 
-pub descend-requires-clause-lower : goal.descend-requires-clause-lower
-descend-requires-clause-lower c =
-    let e = enters c.args.net.now c.args.turns.now.to.items c.args.turns.now.first.items c.args.turns.now.next.items c.args.arc c.index-node.result.now c.requires.turns c.requires.arc c.index-node.ensures in
+pub climb-requires-clause-higher : goal.climb-requires-clause-higher
+climb-requires-clause-higher c =
+    let e = enters c.args.net.now c.args.links.now.to.items c.args.links.now.first.items c.args.links.now.next.items c.args.arc c.index-node.result.now c.requires.links c.requires.arc c.index-node.ensures in
     let h = heads_below c.args.net.now.nodes c.args.net.now.arcs c.requires.net.joined c.args.arc c.requires.arc in
-    let n = way_node c.args.net.now c.args.self.now.rest.items c.args.self.now.rank.items c.args.self.now.last c.args.self.now.before c.requires.net c.requires.sending.way in
-    let r = c.requires.sending.ranks in
-    let a = get_or_read c.args.self.now.rank.items c.index-node.result.now c.index.result.now (omega arith) c.index.ensures 0 in
-    let b = get_or_read c.args.self.now.rank.items c.args.self.now.last.node c.index-2.result.now (omega arith) c.index-2.ensures 0 in
+    let n = way_node c.args.net.now c.args.self.now.rest.items c.args.self.now.level.items c.args.self.now.last c.args.self.now.before c.requires.net c.requires.sending.way in
+    let r = c.requires.sending.levels in
+    let a = get_or_read c.args.self.now.level.items c.index-node.result.now c.index.result.now (omega arith) c.index.ensures 0 in
+    let b = get_or_read c.args.self.now.level.items c.args.self.now.last.node c.index-2.result.now (omega arith) c.index-2.ensures 0 in
     let f = c.if-index.false in
     omega arith

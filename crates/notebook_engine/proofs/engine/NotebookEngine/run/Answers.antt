@@ -1,5 +1,4 @@
 use Rattle.std.proofs.Common.{◌≡◌, ℕ, List, [], Err, refl, ap, sym, ◌∙◌, subst}
-use Rattle.session_core.specs.declared.request.Ask.TheVariants as ask
 use Rattle.session_core.specs.declared.reply.Reply.TheVariants as reply
 use Rattle.py_reader.specs.Completeness.{completeness_of}
 use Rattle.py_reader.specs.Verdict.{verdict}
@@ -57,8 +56,3 @@ returns-in-Shutdown-clause-stands g c = λ served h no_end.
     told_stands c.args.self.now served h no_end c.shut.new.self c.args.ask.now (reply.Shut c.in-Shutdown.restart) c.shut.result c.shut.ensures.done (subst (λ a. MayServe (cells_of served) a []) (sym c.in-Shutdown.is) refl)
     (subst (λ a. HoldsCells c.shut.new.self (with_ask (cells_of served) a [])) (sym c.in-Shutdown.is)
     (shut_holds c.args.self.now c.shut.new.self (cells_of served) c.in-Shutdown.restart h.1 c.shut.ensures.anew c.shut.ensures.stays))
-
-pub returns-in-Shutdown-clause-usable : goal.returns-in-Shutdown-clause-usable
-returns-in-Shutdown-clause-usable g c =
-    let u = c.requires.usable in
-    (with_ask u.0 (ask.Shutdown c.in-Shutdown.restart) [], shut_holds c.args.self.now c.shut.new.self u.0 c.in-Shutdown.restart u.1 c.shut.ensures.anew c.shut.ensures.stays)

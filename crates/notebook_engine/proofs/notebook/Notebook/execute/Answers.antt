@@ -1,11 +1,17 @@
-use Rattle.std.proofs.Common.{◌≡◌, Bool, sym, subst}
-use Rattle.session_core.specs.declared.engine.RunFault.TheVariants as fault
+use Rattle.std.proofs.Common.{List, ◌∙◌, subst}
+use Rattle.run_graph.specs.RunLists.{ListedCell}
 use Rattle.notebook_meaning.specs.Cells.{recorded}
-use Rattle.notebook_engine.specs.Holding.{PassesWith}
+use Rattle.notebook_engine.specs.declared.session.Session.{Session}
+use Rattle.notebook_engine.specs.Holding.{HoldsCells, PassesWith, HasRun}
 use Rattle.notebook_engine.proofs.notebook.Notebook.execute.Goals as goal
 
-pub returns-then-count_in-clause-passes : goal.returns-then-count_in-clause-passes
-returns-then-count_in-clause-passes g c = λ which draws same.
-    let is : c.run_full.result ≡ fault.TooMany which draws = cc same in
-    subst (λ (b : Bool). PassesWith c.args.self.now (record { code = recorded c.args.code.now; draws = draws; counted = b }) which) (sym c.if-counted.true)
-    (c.run_full.ensures.passes which draws is)
+pub returns-in-Ok-clause-ran : goal.returns-in-Ok-clause-ran
+returns-in-Ok-clause-ran g c =
+    subst (λ (old : Session). (cells : List ListedCell) → HoldsCells old cells
+    → HasRun c.execute.new.self cells c.args.silent c.args.code.now (record { code = recorded c.args.code.now; draws = c.in-Ok.done.draws; counted = c.args.counted }) c.in-Ok.done.reply)
+    c.self.view_is c.in-Ok.ensures.ran
+
+pub returns-in-Err-clause-passes : goal.returns-in-Err-clause-passes
+returns-in-Err-clause-passes g c = λ which draws e.
+    subst (λ (old : Session). PassesWith old (record { code = recorded c.args.code.now; draws = draws; counted = c.args.counted }) which) c.self.view_is
+    (c.execute.ensures.passes which draws (c.in-Err.is ∙ e))

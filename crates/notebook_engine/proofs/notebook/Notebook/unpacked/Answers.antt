@@ -1,15 +1,8 @@
-use Rattle.notebook_meaning.specs.Cells.{cells_of}
 use Rattle.notebook_engine.proofs.Packed.{image_of, no_fault_in, stands_again, objects_again, only_memory}
 use Rattle.notebook_engine.proofs.notebook.Notebook.unpacked.Goals as goal
 
 pub returns-else-objects-clause-image : goal.returns-else-objects-clause-image
 returns-else-objects-clause-image c = image_of c.args.bytes.now c.args.host c.in-Ok.restored c.of.result c.of.ensures.kernel c.of.ensures.history c.in-Ok.ensures.restored
-
-pub returns-else-objects-clause-usable : goal.returns-else-objects-clause-usable
-returns-else-objects-clause-usable c =
-    let served = c.requires.0 in
-    let stands = stands_again served c.requires.1 c.args.bytes.now c.requires.2 c.args.host c.in-Ok.restored c.in-Ok.ensures.restored c.of.result c.of.ensures.kernel c.of.ensures.history in
-    (cells_of served, stands.1)
 
 pub returns-else-objects-clause-stands : goal.returns-else-objects-clause-stands
 returns-else-objects-clause-stands c = λ served plan packed. (

@@ -1,5 +1,0 @@
-use Rattle.std.proofs.Common.{◌≡◌, length}
-use Rattle.flow_arcs.proofs.ranks.Ranking.spread.Given as goal
-
-abbrev pub invariant-arcs : goal.invariant-arcs
-invariant-arcs l = length l.self.rank.items ≡ length l.fn.self.rank.items
