@@ -26,7 +26,7 @@ use std::alloc::{AllocError, Global};
 use std::mem::drop;
 
 /// What a sign after targets begins.
-#[derive(Clone, Copy, Debug, PartialEq, Eq)]
+#[derive(Clone, Copy)]
 pub enum Sign {
     Assign,
     Augment(Op),

@@ -4,7 +4,7 @@ use py_frames::{Places, Sight, State as Reading};
 use py_tree::{Arm, Expr, Op, Stmt, Target};
 
 /// Where a statement is: in a function, and in a loop of the same function or cell.
-#[derive(Clone, Copy, Debug, PartialEq, Eq)]
+#[derive(Clone, Copy)]
 pub struct Around {
     pub in_function: bool,
     pub in_loop: bool,
@@ -87,7 +87,7 @@ pub enum Purpose {
 }
 
 /// A statement of one word.
-#[derive(Clone, Copy, Debug, PartialEq, Eq)]
+#[derive(Clone, Copy)]
 pub enum Word {
     Pass,
     Break,
@@ -161,7 +161,7 @@ pub struct Reader {
 }
 
 /// Where a token is, counted down from `MOST`, and where the next is.
-#[derive(Clone, Copy, Debug, PartialEq, Eq)]
+#[derive(Clone, Copy)]
 pub struct Place {
     pub at: usize,
     pub left: usize,

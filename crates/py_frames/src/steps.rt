@@ -24,7 +24,7 @@ use std::alloc::Global;
 use std::mem::drop;
 
 /// What a token makes of a comparison that goes on with it.
-#[derive(Clone, Copy, Debug, PartialEq, Eq)]
+#[derive(Clone, Copy)]
 pub enum Link {
     With(Op),
     Not,
