@@ -1,5 +1,5 @@
 //! Simple statements.
-ghost use Rattle.std.specs.Prelude.{◌≡◌, List, [], ◌++◌, ◌∷◌, Some, None, IfOk};
+ghost use Rattle.std.specs.Prelude.{◌≡◌, List, [], ◌++◌, ◌∷◌, Some, None, false, IfOk};
 ghost use Rattle.py_tree.specs.declared.statements.Stmt.TheVariants as tree;
 ghost use Rattle.py_frames.specs.declared.stop.Stop.TheVariants.{Refused};
 ghost use Rattle.py_frames.specs.Gives.{Gives};
