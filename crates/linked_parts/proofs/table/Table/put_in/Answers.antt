@@ -1,8 +1,6 @@
 use Rattle.std.proofs.Common.{◌≡◌, ◌≢◌, ℕ, ◌+◌, ◌*◌, ◌<◌, ◌≤◌, ◌^◌, List, ◌∷◌, [], ◌++◌, length, get_or, set, slice_index, Option, Some, None, vec_len, refl, sym, ap, ◌∙◌, ◌⊎◌, subst, arith}
 use Rattle.std.specs.Prelude.{Contains, All, IsSome, insert, ◌↔◌}
-use Rattle.std.specs.List.{sum_by}
 use Rattle.std.specs.FinMap as finite
-use Rattle.std.proofs.lemmas.List.Sums.{sum_by-le}
 use Rattle.graph_model.specs.Faults.{least_name}
 use Rattle.linked_parts.specs.declared.part.Part.{Part}
 use Rattle.linked_parts.specs.declared.table.Head.{Head}
@@ -11,6 +9,7 @@ use Rattle.linked_parts.specs.Placed.{Placed, part_at}
 use Rattle.linked_parts.specs.Tables.{Numbers, head_room, part_of, IsWhole}
 use Rattle.linked_parts.specs.Places.{IsPlace}
 use Rattle.linked_parts.specs.Moves.{IsFilled, AreGiven, CanPutIn, IsWith}
+use Rattle.linked_parts.proofs.Rooms.{room_bounded}
 use Rattle.linked_parts.proofs.Reading.{number_heads}
 use Rattle.linked_parts.proofs.TableComing.{members, part_still, part_here, new_whole, new_others}
 use Rattle.linked_parts.proofs.table.Table.put_in.Goals as goal
@@ -22,16 +21,8 @@ place_of-place-requires-clause-within c = λ n h.
 pub place_of-place-requires-clause-ordered : goal.place_of-place-requires-clause-ordered
 place_of-place-requires-clause-ordered c = rw c.as_slice.ensures.value c.requires.whole.ordered
 
--- the room of the parts is far below 128 bits
-room_bounded : (t : Table) → IsWhole t → t.room ≤ length t.order.items * 18446744073709551615
-room_bounded t whole =
-    let each : All (λ n. head_room t.heads n ≤ 18446744073709551615) t.order.items = λ k d l. (let s = whole.small (get_or t.order.items k d) in omega (arith, s)) in
-    let l = sum_by-le (head_room t.heads) 18446744073709551615 t.order.items each in
-    let r = whole.room in
-    omega (arith, l, r)
-
-place_there : (t : Table) (names order named : List (List ℕ)) (is : List ℕ) (place : ℕ) → is ≡ t.order.items → named ≡ names → IsPlace t.heads is (least_name named) place → IsPlace t.heads t.order.items (least_name names) place
-place_there t names order named is place e f h =
+place_there : (t : Table) (names named : List (List ℕ)) (is : List ℕ) (place : ℕ) → is ≡ t.order.items → named ≡ names → IsPlace t.heads is (least_name named) place → IsPlace t.heads t.order.items (least_name names) place
+place_there t names named is place e f h =
     subst (λ ns. IsPlace t.heads t.order.items (least_name ns) place) f (subst (λ ns. IsPlace t.heads ns (least_name named) place) e h)
 
 pub fill-requires-clause-number : goal.fill-requires-clause-number
