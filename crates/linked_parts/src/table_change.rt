@@ -1,4 +1,4 @@
-ghost use Rattle.std.specs.Prelude.{ℕ, ◌≡◌, ◌+◌, ◌-◌, ◌^◌, ◌<◌, ◌≤◌, ◌↔◌, ◌⊎◌, [], min, map, length, slice_index, IsTrue, Contains, IfOk, IfErr};
+ghost use Rattle.std.specs.Prelude.{ℕ, ◌≡◌, ◌+◌, ◌-◌, ◌^◌, ◌<◌, ◌≤◌, ◌↔◌, ◌⊎◌, ◌++◌, ◌∷◌, [], min, map, length, slice_index, vec_len, vec_capacity, IsTrue, Contains, IfOk, IfErr};
 ghost use Rattle.linked_parts.specs.declared.part.Part.{Part};
 ghost use Rattle.linked_parts.specs.Tables.{table_parts, IsWhole};
 ghost use Rattle.linked_parts.specs.Parts.{room_in};
@@ -102,6 +102,19 @@ fn take_all(alloc: Global, table: &mut Table, mut gone: Items<u32>, news: &Items
     }
 }
 
+/// Takes a spare number, if there is one.
+fn take_spare(spare: &mut Vec<u32>) -> u32
+    requires { 0 < vec_len spare.old }
+    ensures items { spare.old.items ≡ spare.new.items ++ result ∷ [] }
+    ensures len { vec_len spare.new + 1 ≡ vec_len spare.old }
+    ensures capacity { vec_capacity spare.new ≡ vec_capacity spare.old }
+{
+    match spare.pop() {
+        Some(number) => number,
+        None => unreachable!(),
+    }
+}
+
 /// Puts these parts in under spare numbers. Takes no memory.
 fn put_all(table: &mut Table, mut news: Items<Part>)
     requires { IsReady table.old [] news }
@@ -109,9 +122,8 @@ fn put_all(table: &mut Table, mut news: Items<Part>)
     ensures members { (p : Part) → Contains (table_parts table.new) p ↔ (Contains (table_parts table.old) p ⊎ Contains news p) }
 {
     while let Some(part) = news.pop() {
-        if let Some(number) = table.spare.pop() {
-            table.put_in(number, part);
-        }
+        let number = take_spare(&mut table.spare);
+        table.put_in(number, part);
     }
 }
 
