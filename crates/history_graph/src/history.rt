@@ -17,7 +17,7 @@ use graph_model::Graph;
 use linked_parts::Parts;
 use py_heap::State;
 use py_machine::Marks;
-use std::alloc::{Global};
+use std::alloc::Global;
 use std::marker::Model;
 use std::mem::replace;
 
