@@ -19,3 +19,6 @@ loop-low-preserved c = elim c.if-precedes.branch [
 
 pub returns : goal.returns
 returns c = narrowed_place c.args.heads.now c.args.order.now (least_name c.args.names.now) c.loop-low.low c.loop-low.high c.loop-low.invariant c.loop-low-test.false
+
+pub precedes-requires : goal.precedes-requires
+precedes-requires c = c.requires.within _ (Contains-get_or c.args.order.now _ 0 (omega arith))

@@ -5,7 +5,7 @@ use Rattle.linked_parts.specs.declared.part.Part.{Part}
 use Rattle.linked_parts.specs.declared.table.Table.{Table}
 use Rattle.linked_parts.specs.Tables.{table_parts}
 use Rattle.linked_parts.specs.Changes.{IsReady}
-use Rattle.linked_parts.proofs.TableLists.{front_in, in_front, last_in, none_in}
+use Rattle.linked_parts.proofs.TableLists.{in_front, last_in, none_in}
 use Rattle.linked_parts.proofs.Readying.{mid_whole, ready_fits, ready_in, members_in}
 use Rattle.std.proofs.lemmas.List.Elements.{Contains-push_cases}
 use Rattle.linked_parts.proofs.table_change.put_all.Goals as goal
@@ -65,3 +65,13 @@ loop-part-preserved c =
             ]),
           );
     }
+
+pub returns-clause-whole : goal.returns-clause-whole
+returns-clause-whole c = c.loop-part.invariant.ready.whole
+
+pub returns-clause-members : goal.returns-clause-members
+returns-clause-members c = λ p.
+    let m = c.loop-part.invariant.members p in (
+      (λ h. m.0 (inl h)),
+      (λ w. elim (m.1 w) [ inl old ↦ old | inr none ↦ absurd (none_in p (subst (λ ps. Contains ps p) c.in_default.ensures.0 none)) ]),
+    )

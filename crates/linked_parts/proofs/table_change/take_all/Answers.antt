@@ -36,3 +36,13 @@ loop-number-preserved c =
           let b = subst (λ ns. Contains (parts_in t.lists t.heads (without ns t.order.items)) p ↔ Contains (changing c.args.table.now c.args.gone news).stay p) c.in-Some.ensures (c.loop-number.invariant.stay p) in
           ((λ h. b.0 (a.0 h)), (λ h. a.1 (b.1 h)));
     }
+
+pub returns-clause-ready : goal.returns-clause-ready
+returns-clause-ready c = subst (λ ns. IsReady c.loop-number.table ns c.args.news.now) c.in_default.ensures.0 c.loop-number.invariant.ready
+
+pub returns-clause-stay : goal.returns-clause-stay
+returns-clause-stay c = λ p.
+    let t = c.loop-number.table in
+    let a = stay_all t p in
+    let b = subst (λ ns. Contains (parts_in t.lists t.heads (without ns t.order.items)) p ↔ Contains (changing c.args.table.now c.args.gone c.args.news.now).stay p) c.in_default.ensures.0 (c.loop-number.invariant.stay p) in
+    ((λ h. b.0 (a.0 h)), (λ h. a.1 (b.1 h)))

@@ -13,7 +13,7 @@ one_place t parts x whole view m n v w = one_named t whole m n x (subst (λ ps. 
 
 pub place-requires-clause-there : goal.place-requires-clause-there
 place-requires-clause-there c =
-    (of_name c.self.inside.table c.self.invariant c.args.name.now c.number_of-number.result c.number_of-number.ensures c.in_ok-number.number c.in_ok-number.was).0
+    (of_name c.self.inside.table c.self.invariant c.args.name.now c.number_of.result c.number_of.ensures c.in_ok-number.number c.in_ok-number.was).0
 
 pub returns-clause-found : goal.returns-clause-found
 returns-clause-found c =
@@ -21,7 +21,7 @@ returns-clause-found c =
     let n = c.in_ok-number.number in
     subst (λ ps. HasNameAt ps c.place.result c.args.name.now) c.self.view_is
     (named_at t c.self.invariant c.place.result n c.args.name.now c.place.ensures
-    (of_name t c.self.invariant c.args.name.now c.number_of-number.result c.number_of-number.ensures n c.in_ok-number.was).1)
+    (of_name t c.self.invariant c.args.name.now c.number_of.result c.number_of.ensures n c.in_ok-number.was).1)
 
 pub returns-clause-only : goal.returns-clause-only
 returns-clause-only c = one_place c.self.inside.table c.args.self.now c.args.name.now c.self.invariant c.self.view_is
@@ -39,6 +39,6 @@ returns-in_err-number-clause-none c = (
       let x = c.args.name.now in
       let m = at_named t c.self.invariant k x (subst (λ ps. HasNameAt ps k x) (sym c.self.view_is) w) in
       let there : Contains t.order.items m.0 = (k, slice_get_within t.order.items k m.0 m.1, get_or_from_slice_get t.order.items k m.0 m.0 m.1) in
-      none-some m.0 (sym c.in_err-number.was ∙ to_name t c.self.invariant x c.number_of-number.result c.number_of-number.ensures m.0 there m.2)),
+      none-some m.0 (sym c.in_err-number.was ∙ to_name t c.self.invariant x c.number_of.result c.number_of.ensures m.0 there m.2)),
   (λ _. refl),
 )
