@@ -1,5 +1,5 @@
 -- What shows as itself between quotes.
-use Rattle.std.proofs.Common.{◌≡◌, ℕ, ◌+◌, ◌-◌, ◌<◌, ◌≤◌, Bool, true, false, ◌==◌, nat_lt, nat_le, not, List, [], ◌∷◌, ◌++◌, length, get_or, take, drop, refl, ap, sym, ◌∙◌, subst, inl, inr, append_assoc, arith}
+use Rattle.std.proofs.Common.{◌≡◌, ℕ, ◌+◌, ◌-◌, ◌/◌, ◌%◌, ◌<◌, ◌≤◌, Bool, true, false, cond, ◌==◌, nat_lt, nat_le, not, List, [], ◌∷◌, ◌++◌, length, get_or, take, drop, refl, ap, sym, ◌∙◌, subst, inl, inr, append_assoc, arith}
 use Rattle.std.specs.Prelude.{slice_range}
 use Rattle.std.proofs.lemmas.List.{take-append-drop, drop_more, length-take-le, get_or-take, nil_from_length}
 use Rattle.std.proofs.lemmas.List.Edits.{get_or-between, length-between}
@@ -8,12 +8,41 @@ use Rattle.std.proofs.lemmas.List.Sums.{AllPass-from_list_all, list_all-from_All
 use Rattle.std.proofs.lemmas.Bool.{le-ltb, le-leb, and_parts, and_from, cases_lt, ne_eqb, not_from_false, true≢false}
 use Rattle.std.proofs.lemmas.Grind.{common_steps, flat_map-append}
 use Rattle.std.specs.List.{flat_map, list_all}
+use Rattle.std.specs.Char.{encode_utf8}
 use Rattle.std.specs.Str.{IsCharBoundary}
 use Rattle.std.proofs.lemmas.Str.{IsCharBoundary-before_ascii, IsCharBoundary-end}
 use Rattle.py_value.specs.Reprs.{escaped, is_plain}
 
 different : (a b : ℕ) → (a ≡ b → ⊥) → (a == b) ≡ false
 different a b h = grind (arith, common_steps)
+
+pub escaped-high : (quote c : ℕ) → quote < 128 → 128 ≤ c → escaped quote c ≡ c ∷ []
+unfolding escaped
+escaped-high quote c q h =
+    let e1 : (c == 92) ≡ false = different c 92 (λ e. absurd (omega arith)) in
+    let e2 : (c == quote) ≡ false = different c quote (λ e. absurd (omega arith)) in
+    let e3 : (c == 10) ≡ false = different c 10 (λ e. absurd (omega arith)) in
+    let e4 : (c == 13) ≡ false = different c 13 (λ e. absurd (omega arith)) in
+    let e5 : (c == 9) ≡ false = different c 9 (λ e. absurd (omega arith)) in
+    let e6 : nat_lt c 32 ≡ false = le-ltb c 32 (omega arith) in
+    let e7 : (c == 127) ≡ false = different c 127 (λ e. absurd (omega arith)) in
+    simp (e1, e2, e3, e4, e5, e6, e7)
+
+one : (quote c : ℕ) (cs : List ℕ) → quote < 128 → 128 ≤ c → flat_map (escaped quote) cs ≡ cs → flat_map (escaped quote) (c ∷ cs) ≡ c ∷ cs
+one quote c cs q h same = ap (λ xs. xs ++ flat_map (escaped quote) cs) (escaped-high quote c q h) ∙ ap (λ xs. c ∷ xs) same
+
+-- a character of several bytes
+pub escaped_character : (quote c : ℕ) → quote < 128 → 128 ≤ c → flat_map (escaped quote) (encode_utf8 c) ≡ encode_utf8 c
+unfolding encode_utf8
+escaped_character quote c q h =
+    rw (le-ltb c 128 h)
+    (by_size (nat_lt c 2048) (nat_lt c 65536))
+  where
+    by_size : (b d : Bool) → flat_map (escaped quote) (cond b ((192 + c / 64) ∷ (128 + c % 64) ∷ []) (cond d ((224 + c / 4096) ∷ (128 + c / 64 % 64) ∷ (128 + c % 64) ∷ []) ((240 + c / 262144) ∷ (128 + c / 4096 % 64) ∷ (128 + c / 64 % 64) ∷ (128 + c % 64) ∷ [])))
+        ≡ cond b ((192 + c / 64) ∷ (128 + c % 64) ∷ []) (cond d ((224 + c / 4096) ∷ (128 + c / 64 % 64) ∷ (128 + c % 64) ∷ []) ((240 + c / 262144) ∷ (128 + c / 4096 % 64) ∷ (128 + c / 64 % 64) ∷ (128 + c % 64) ∷ []))
+    by_size true d = one quote _ _ q (omega arith) (one quote _ _ q (omega arith) refl)
+    by_size false true = one quote _ _ q (omega arith) (one quote _ _ q (omega arith) (one quote _ _ q (omega arith) refl))
+    by_size false false = one quote _ _ q (omega arith) (one quote _ _ q (omega arith) (one quote _ _ q (omega arith) (one quote _ _ q (omega arith) refl)))
 
 plain_byte : (quote c : ℕ) → is_plain quote c ≡ true → escaped quote c ≡ c ∷ []
 unfolding escaped
