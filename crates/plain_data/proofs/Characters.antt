@@ -1,26 +1,9 @@
 -- The characters of a text, one after the other, and cut between two of them.
-use Rattle.std.proofs.Common.{◌≡◌, ℕ, ◌+◌, ◌-◌, ◌≤◌, List, ◌++◌, length, take, drop, Option, Some, None, sym, ap, ◌∙◌, subst, arith}
-use Rattle.std.specs.Prelude.{encode_utf8, slice_range}
-use Rattle.std.specs.Option.{MatchOption}
+use Rattle.std.proofs.Common.{◌≡◌, ℕ, ◌+◌, ◌-◌, ◌≤◌, List, ◌++◌, length, take, drop, sym, ap, ◌∙◌, subst, arith}
+use Rattle.std.specs.Prelude.{slice_range}
 use Rattle.std.specs.Str.{chars, encode_utf8_all, IsAscii, IsUtf8, IsCharBoundary}
-use Rattle.std.specs.declared.str.Chars.{Chars}
-use Rattle.std.proofs.lemmas.List.{drop-drop, drop_all, length-append, length-drop, take-append-drop, take_at}
-use Rattle.std.proofs.lemmas.Str.{length-le-encodes, cons_from_encodes, encodes-append, encodes-IsAscii, chars-IsAscii, chars_from_encodes, IsAscii-take, IsAscii-drop, IsCharBoundary-at_seam}
-
-past_none : (cs : List ℕ) (i : ℕ) → length (encode_utf8_all (drop i cs)) ≡ 0 → encode_utf8_all (drop i cs) ≡ encode_utf8_all (drop (i + 1) cs)
-past_none cs i e =
-    let few : length (drop i cs) ≤ length (encode_utf8_all (drop i cs)) = length-le-encodes (drop i cs) in
-    let rest : length (drop i cs) ≡ length cs - i = length-drop i cs in
-    ap encode_utf8_all (drop_all i cs (omega arith) ∙ sym (drop_all (i + 1) cs (omega arith)))
-
--- what is after one character more
-pub past_one : (cs : List ℕ) (i : ℕ) (old new : Chars) (r : Option ℕ) → old.rest.now ≡ encode_utf8_all (drop i cs)
-    → MatchOption r ((length old.rest.now ≡ 0) × (new ≡ old)) (λ c. old.rest.now ≡ encode_utf8 c ++ new.rest.now)
-    → new.rest.now ≡ encode_utf8_all (drop (i + 1) cs)
-past_one cs i old new None e h = ap (λ (s : Chars). s.rest.now) h.1 ∙ (e ∙ past_none cs i (ap (λ (bs : List ℕ). length bs) (sym e) ∙ h.0))
-past_one cs i old new (Some c) e h =
-    let split = cons_from_encodes (drop i cs) new.rest.now c (sym e ∙ h) in
-    sym split.2 ∙ ap encode_utf8_all (sym (sym (drop-drop 1 i cs) ∙ ap (drop 1) split.1))
+use Rattle.std.proofs.lemmas.List.{length-append, take-append-drop, take_at}
+use Rattle.std.proofs.lemmas.Str.{encodes-append, encodes-IsAscii, chars-IsAscii, chars_from_encodes, IsAscii-take, IsAscii-drop, IsCharBoundary-at_seam}
 
 module _ (text : List ℕ) (from to : ℕ) (ordered : from ≤ to) (within : to ≤ length (chars text)) where
   module _ (ascii : IsAscii text) where
