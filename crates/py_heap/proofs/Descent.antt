@@ -1,9 +1,9 @@
 -- The way from the sum of all marks down to one of them.
-use Rattle.std.proofs.Common.{◌≡◌, ℕ, zero, suc, ◌+◌, ◌-◌, ◌*◌, ◌/◌, ◌^◌, ◌<◌, ◌≤◌, List, length, get_or, take, drop, refl, sym, ap, ◌∙◌, subst, arith, mul-le-mul_left}
+use Rattle.std.proofs.Common.{◌≡◌, ℕ, zero, suc, ◌+◌, ◌-◌, ◌*◌, ◌/◌, ◌^◌, ◌<◌, ◌≤◌, List, length, get_or, take, drop, refl, sym, ap, ◌∙◌, arith, mul-le-mul_left}
 use Rattle.std.specs.Prelude.{sum}
 use Rattle.std.proofs.lemmas.List.{length-drop, get_or-drop, take_all}
 use Rattle.std.proofs.lemmas.Nat.{pow_pos}
-use Rattle.py_heap.specs.Sums.{IsRoom, AreSums, marks}
+use Rattle.py_heap.specs.Sums.{AreSums, marks}
 use Rattle.py_heap.proofs.Ranges.{sum_from, sum_from_split, sum_below, sum_of_front}
 
 abbrev at : List ℕ → ℕ → ℕ

@@ -1,11 +1,11 @@
 -- The places with a number, and their marks.
-use Rattle.std.proofs.Common.{◌≡◌, ◌≢◌, ℕ, zero, suc, ◌+◌, ◌-◌, ◌<◌, ◌≤◌, ◌==◌, Bool, true, false, not, cond, List, [], ◌∷◌, ◌++◌, length, get_or, set, map, take, drop, replicate, Some, slice_get, refl, sym, ap, ◌∙◌, subst, inl, inr, arith, one-add}
+use Rattle.std.proofs.Common.{◌≡◌, ◌≢◌, ℕ, zero, suc, ◌+◌, ◌<◌, ◌≤◌, ◌==◌, Bool, true, false, not, cond, List, [], ◌∷◌, ◌++◌, length, get_or, map, take, Some, slice_get, refl, sym, ap, ◌∙◌, inl, inr, arith}
 use Rattle.std.specs.Prelude.{sum, filter}
 use Rattle.std.proofs.lemmas.Bool.{cases_eq, cases_lt, eq-eqb, ne_eqb, false≢true}
-use Rattle.std.proofs.lemmas.List.{length-append, length-map, take_at, take-append-le, take-take, get_or_append_left, get_or-map, set-append_left, set-get_or, map-set, map-append, same_lists, get_or-set_same, get_or-set_other, get_or_default, length-set}
+use Rattle.std.proofs.lemmas.List.{length-map, take_at, take-append-le, take-take, get_or_append_left, get_or-map}
 use Rattle.std.proofs.lemmas.List.Elements.{filter-append}
-use Rattle.std.proofs.lemmas.List.Sums.{sum_by-cons, sum_by-take-le, sum_by-set}
-use Rattle.py_heap.specs.Orders.{renamed, without}
+use Rattle.std.proofs.lemmas.List.Sums.{sum_by-cons, sum_by-take-le}
+use Rattle.py_heap.specs.Orders.{renamed}
 use Rattle.py_heap.specs.Tables.{gone, is_held, held, mark}
 
 held_test : (number : ℕ) → number ≢ gone → is_held number ≡ true

@@ -1,8 +1,8 @@
 -- The tables of an order, and what keeps them so.
-use Rattle.std.proofs.Common.{◌≡◌, ◌≢◌, ℕ, zero, suc, ◌+◌, ◌-◌, ◌*◌, ◌^◌, ◌<◌, ◌≤◌, true, List, [], ◌∷◌, ◌++◌, length, get_or, set, map, take, drop, replicate, refl, sym, ap, ◌∙◌, subst, inl, inr, arith, append_assoc}
+use Rattle.std.proofs.Common.{◌≡◌, ◌≢◌, ℕ, suc, ◌+◌, ◌-◌, ◌^◌, ◌<◌, ◌≤◌, true, List, [], ◌∷◌, ◌++◌, length, get_or, set, map, take, drop, replicate, refl, sym, ap, ◌∙◌, subst, inl, inr, arith, append_assoc}
 use Rattle.std.specs.Prelude.{All, AllPairs, Contains, sum, filter, not, ◌==◌}
 use Rattle.std.proofs.lemmas.Bool.{cases_eq, cases_lt}
-use Rattle.std.proofs.lemmas.List.{length-append, length-map, length_push, length-set, length-take-le, get_or_append_left, get_or_push, get_or-map, get_or-take, get_or-set_same, get_or-set_other, get_or_default, map-set, map_push, set-get_or, set-append_left, same_lists, append-nil, take_all, drop_all, replicate-append-replicate}
+use Rattle.std.proofs.lemmas.List.{length-map, length_push, length-set, length-take-le, get_or_append_left, get_or_push, get_or-map, get_or-take, get_or-set_same, get_or-set_other, get_or_default, map-set, map_push, set-get_or, set-append_left, same_lists, append-nil, take_all, drop_all, replicate-append-replicate}
 use Rattle.std.proofs.lemmas.List.Sums.{sum_by-set, sum_by-append}
 use Rattle.py_heap.specs.Orders.{IsOrder, numbers_below, renamed, without}
 use Rattle.py_heap.specs.Sums.{AreSums, marks}

@@ -1,5 +1,5 @@
 -- The tables of an order: the numbers by their places, the places by their numbers, and the sums over marks of the places.
-use Rattle.std.specs.Prelude.{◌≡◌, ◌≢◌, ℕ, ◌+◌, ◌-◌, ◌<◌, ◌≤◌, ◌==◌, Bool, not, cond, List, ◌++◌, length, map, filter, replicate, slice_index}
+use Rattle.std.specs.Prelude.{◌≡◌, ◌≢◌, ℕ, ◌-◌, ◌<◌, ◌≤◌, ◌==◌, Bool, not, cond, List, ◌++◌, length, map, filter, replicate, slice_index}
 use Rattle.py_heap.specs.Sums.{AreSums, marks}
 
 pub record Tabled : Type 0 where

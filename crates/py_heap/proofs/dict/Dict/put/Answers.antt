@@ -1,7 +1,3 @@
-use Rattle.std.proofs.Common.{◌≡◌, ap, ◌∙◌, subst}
-use Rattle.std.specs.Prelude.{OnOk}
-use Rattle.py_heap.specs.Dicts.{Pairs, with_pair}
-use Rattle.py_heap.specs.Entries.{in_order}
 use Rattle.py_heap.proofs.Entries.{last_is_new, put_there_so}
 use Rattle.py_heap.proofs.dict.Dict.put.Goals as goal
 

@@ -1,7 +1,7 @@
-use Rattle.std.proofs.Common.{◌≡◌, ℕ, List, ◌+◌, ◌-◌, ◌/◌, ◌<◌, ◌++◌, length, get_or, set, take, drop, sym, ap, ◌∙◌, subst, arith}
+use Rattle.std.proofs.Common.{◌≡◌, ℕ, List, ◌+◌, ◌-◌, ◌/◌, ◌<◌, length, get_or, set, take, sym, ap, ◌∙◌, subst, arith}
 use Rattle.std.proofs.lemmas.List.{get_or_default}
 use Rattle.py_heap.specs.Orders.{without}
-use Rattle.py_heap.specs.Sums.{AreSums, marks}
+use Rattle.py_heap.specs.Sums.{marks}
 use Rattle.py_heap.specs.Tables.{Tabled, AreTables, gone, held}
 use Rattle.py_heap.proofs.Keeping.{slots_few, written_back, marked_there, last_of, tables_so, held_so, one_less}
 use Rattle.py_heap.proofs.tables.Tables.swap_remove.Goals as goal
