@@ -7,7 +7,7 @@ use Rattle.checkpoint_bytes.proofs.Gathering.{one_code_more}
 use Rattle.checkpoint_bytes.proofs.texts.add_codes.Goals as goal
 
 pub loop-cell-preserved : goal.loop-cell-preserved
-loop-cell-preserved c = one_code_more c.args.texts.now _ _ c.args.cells.now c.loop-cell.cell-index c.cell-item.result c.loop-cell-test.true c.cell-item.is c.loop-cell.invariant 
+loop-cell-preserved c = one_code_more c.args.texts.now _ _ c.args.cells.now c.loop-cell.cell-index c.cell-item.result c.loop-cell-test.true c.cell-item.is c.loop-cell.invariant
     (c.in_ok-number.ensures.ok ∙ ap (with_text c.loop-cell.texts) c.as_str.ensures)
 
 pub returns : goal.returns
