@@ -16,6 +16,8 @@ import reader
 
 cells = histories.cells
 MOST_METER, MOST_STEPS, LONGEST_CODE = 16_777_216, 1_000_000, 262_148
+# The version of the format that the program writes, and those that it reads.
+WRITTEN, VERSIONS = 2, (1, 2)
 PART, ABSENT, HANDLE = 0, 1, 2
 NO_CHECKPOINT, DREW_AGAIN, UNLIKE = 7, 8, 9
 Record = collections.namedtuple("Record", "code meter steps drew rerun reads missing")
@@ -60,24 +62,38 @@ def list_bytes(items, one):
     return number(len(items)) + b"".join(map(one, items))
 
 
-def copy_bytes(session, version):
+def copy_bytes(session, version, spelled):
     if version["absent"]:
         return list_bytes(version["names"], name_bytes) + b"\7" + number(0)
-    return histories.part_bytes(version["names"], [session.globals[name] for name in version["names"]])
+    return histories.part_bytes(version["names"], [session.globals[name] for name in version["names"]], spelled)
 
 
-def written(codes, session, records, versions, copied, again):
-    """The bytes of a session under a plan."""
-    out = b"ENCK" + struct.pack(">H", 1) + number(len(codes)) + number(session.meter) + number(len(codes))
+def numbered_in(texts):
+    """How a text is spelled by its number among these, to which a new one is added."""
+    return lambda text: number(texts.setdefault(text if isinstance(text, bytes) else text.encode(), len(texts)))
+
+
+def cells_and_versions(codes, session, records, versions, copied, again, spelled):
+    out = number(len(codes))
     for c, (code, (meter, steps, drew, reads, misses)) in enumerate(zip(codes, records), 1):
-        out += histories.text_bytes(code) + number(meter) + number(steps) + bytes([drew, c in again])
+        out += spelled(code) + number(meter) + number(steps) + bytes([drew, c in again])
         out += list_bytes(reads, number) + list_bytes(misses, name_bytes)
     out += number(len(versions))
     for v, it in enumerate(versions, 1):
         kind = 1 if it["absent"] else 2 if it["handle"] else 0
         out += number(it["by"]) + number(it["replaced"]) + bytes([kind]) + number(it["size"]) + list_bytes(it["names"], name_bytes)
-        out += b"\1" + copy_bytes(session, it) if v in copied else b"\0"
+        out += b"\1" + copy_bytes(session, it, spelled) if v in copied else b"\0"
     return out
+
+
+def written(codes, session, records, versions, copied, again, version=WRITTEN):
+    """The bytes of a session under a plan, in a version of the format."""
+    head = b"ENCK" + struct.pack(">H", version) + number(len(codes)) + number(session.meter)
+    if version == 1:
+        return head + cells_and_versions(codes, session, records, versions, copied, again, histories.text_bytes)
+    texts = {}
+    rest = cells_and_versions(codes, session, records, versions, copied, again, numbered_in(texts))
+    return head + list_bytes(texts, histories.text_bytes) + rest
 
 
 # ---- what history_show prints of a session
@@ -181,12 +197,40 @@ class Bytes:
         return [one() for _ in range(self.number())]
 
 
-class PartBytes(Bytes):
-    """The bytes of a part. Whatever is wrong with it is told at its first byte."""
+class Texts:
+    """The table of texts of version 2, with their places, and how many of them were referred to."""
 
-    def __init__(self, data, at):
+    def __init__(self):
+        self.all, self.places, self.used = [], [], 0
+
+    def of_number(self, number):
+        """The text of a number that is at most that of the texts referred to so far, or None."""
+        if number > self.used or number >= len(self.all):
+            return None
+        self.used = max(self.used, number + 1)
+        return self.all[number]
+
+
+class PartBytes(Bytes):
+    """The bytes of a part, whose texts are in a table or, if there is none, in the part. Whatever is wrong with it is told at its first byte.
+    Its size is that of version 1."""
+
+    def __init__(self, data, at, texts):
         super().__init__(data, at)
         self.first, self.met, self.most = at, 0, 2**32
+        self.texts, self.elsewhere = texts, 0
+
+    def size(self):
+        """In version 1 the four bytes of a text's number are its length, and its bytes come after that."""
+        return self.at - self.first + self.elsewhere
+
+    def text(self):
+        if self.texts is None:
+            return super().text()
+        it = self.texts.of_number(self.number())
+        self.refuse_if(it is None)
+        self.elsewhere += len(it.encode())
+        return it
 
     def bad(self, place):
         return super().bad(self.first)
@@ -242,8 +286,30 @@ class PartBytes(Bytes):
 
 
 class CheckpointBytes(Bytes):
+    texts = None
+
+    def table(self):
+        texts = Texts()
+        for _ in range(self.number()):
+            field = self.at
+            it = self.text()
+            if it in texts.all:
+                raise self.bad(field)
+            texts.all.append(it)
+            texts.places.append(field)
+        return texts
+
+    def code(self):
+        if self.texts is None:
+            return self.text(LONGEST_CODE)
+        field = self.at
+        it = self.texts.of_number(self.number())
+        if it is None or len(it.encode()) > LONGEST_CODE:
+            raise self.bad(field)
+        return it
+
     def cell(self):
-        code, meter, steps = self.text(LONGEST_CODE), self.number(MOST_METER), self.number(MOST_STEPS)
+        code, meter, steps = self.code(), self.number(MOST_METER), self.number(MOST_STEPS)
         drew, rerun = self.byte(1), self.byte(1)
         return Record(code, meter, steps, drew, rerun, self.many(self.number), self.many(self.name))
 
@@ -253,18 +319,24 @@ class CheckpointBytes(Bytes):
         names = self.many(self.name)
         if not self.byte(1):
             return Version(writer, replaced, kind, size, names, None, 0)
-        inside = PartBytes(self.data, self.at)
+        inside = PartBytes(self.data, self.at, self.texts)
         part = inside.part()
         self.at = inside.at
-        return Version(writer, replaced, kind, size, names, part, inside.at - inside.first)
+        return Version(writer, replaced, kind, size, names, part, inside.size())
 
     def checkpoint(self):
         if not self.data.startswith(b"ENCK") and not b"ENCK".startswith(self.data):
             raise self.bad(0)
         self.take(4, 0)
-        if self.take(2, 4) != b"\0\1":
+        form = int.from_bytes(self.take(2, 4), "big")
+        if form not in VERSIONS:
             raise self.bad(4)
-        read = Checkpoint(self.number(), self.number(MOST_METER), self.many(self.cell), self.many(self.version))
+        count, meter = self.number(), self.number(MOST_METER)
+        if form == 2:
+            self.texts = self.table()
+        read = Checkpoint(count, meter, self.many(self.cell), self.many(self.version))
+        if self.texts is not None and self.texts.used < len(self.texts.all):
+            raise self.bad(self.texts.places[self.texts.used])
         if self.at < len(self.data):
             raise self.bad(self.at)
         return read

@@ -8,6 +8,7 @@ before. The cells run by the rules of tests/cells.py, which are watched here. A 
 Python 3, standard library.
 """
 import ast
+import itertools
 import struct
 import sys
 
@@ -120,7 +121,7 @@ def text_bytes(text):
     return struct.pack(">I", len(data)) + data
 
 
-def value_bytes(value, number):
+def value_bytes(value, number, spelled):
     if value is None:
         return b"\0"
     if type(value) is bool:
@@ -128,24 +129,26 @@ def value_bytes(value, number):
     if type(value) is int:
         return b"\3" + value.to_bytes(16, "big", signed=True)
     if type(value) is str:
-        return b"\4" + text_bytes(value)
+        return b"\4" + spelled(value)
     if type(value) is cells.Builtin:
         return b"\6" + bytes([ORDER.index(value.name)])
     return b"\5" + struct.pack(">I", number(value))
 
 
-def part_bytes(names, values):
+def part_bytes(names, values, spelled=text_bytes):
+    """The bytes of a part, in which each text is spelled so."""
     objects = reached(values)
     number = lambda it: next(n for n, other in enumerate(objects) if other is it)
+    one = lambda it: value_bytes(it, number, spelled)
     out = struct.pack(">I", len(names)) + b"".join(bytes([len(it.encode())]) + it.encode() for it in names)
-    out += b"".join(value_bytes(it, number) for it in values) + struct.pack(">I", len(objects))
+    out += b"".join(map(one, values)) + struct.pack(">I", len(objects))
     for it in objects:
         if type(it) in cells.SEQUENCES:
-            out += (b"\x10" if type(it) is cells.ListOf else b"\x13") + struct.pack(">I", len(it.items)) + b"".join(value_bytes(one, number) for one in it.items)
+            out += (b"\x10" if type(it) is cells.ListOf else b"\x13") + struct.pack(">I", len(it.items)) + b"".join(map(one, it.items))
         elif type(it) is cells.DictOf:
-            out += b"\x11" + struct.pack(">I", len(it.pairs)) + b"".join(value_bytes(one, number) for pair in it.pairs.items() for one in pair)
+            out += b"\x11" + struct.pack(">I", len(it.pairs)) + b"".join(map(one, itertools.chain.from_iterable(it.pairs.items())))
         else:
-            out += b"\x12" + text_bytes(it.source)
+            out += b"\x12" + spelled(it.source)
     return out
 
 

@@ -85,17 +85,10 @@ pub map_err : {A E : Type 0} {P Q : Type 0} (r : Result A E) → OnErr r P → (
 map_err (Ok a) h f = tt
 map_err (Err e) h f = f h
 
+pub on_ok : {A E : Type 0} {P : Type 0} (r : Result A E) → P → OnOk r P
+on_ok (Ok a) h = h
+on_ok (Err e) h = tt
+
 pub on_err : {A E : Type 0} {P : Type 0} (r : Result A E) → P → OnErr r P
 on_err (Ok a) h = tt
 on_err (Err e) h = h
-
--- two pieces are put after what is held
-pub put_both : (old mid new : Option (List ℕ)) (bytes held a b left : List ℕ) → WritesSoFar old mid bytes held → WritesSoFar mid new ((held ++ a) ++ b) left → WritesSoFar old new ((bytes ++ a) ++ b) left
-put_both old mid new bytes held a b left w v =
-    subst (λ zs. WritesSoFar old new zs left) (sym (append_assoc bytes a b))
-    (put old mid new bytes held (a ++ b) left w (subst (λ zs. WritesSoFar mid new zs left) (append_assoc held a b) v))
-
-pub put_both_front : (old mid new : Option (List ℕ)) (bytes held a b : List ℕ) → WritesSoFar old mid bytes held → AddsFront mid new ((held ++ a) ++ b) → AddsFront old new ((bytes ++ a) ++ b)
-put_both_front old mid new bytes held a b w front =
-    subst (AddsFront old new) (sym (append_assoc bytes a b))
-    (put_front old mid new bytes held (a ++ b) w (subst (AddsFront mid new) (append_assoc held a b) front))

@@ -6,7 +6,7 @@ use Rattle.graph_model.specs.declared.graph.Graph.{Graph}
 use Rattle.graph_model.specs.declared.plan.Plan.{Plan}
 use Rattle.py_heap.specs.declared.state.State.{State}
 use Rattle.part_bytes.specs.Plain.{IsText, IsPlainPart}
-use Rattle.checkpoint_bytes.specs.Texts.{lists}
+use Rattle.checkpoint_bytes.specs.Texts.{lists, table_of}
 
 -- its code is a text, and it read and missed fewer than 2^32
 pub record IsPlainCell (x : CellRecord) : Type 0 where
@@ -24,6 +24,7 @@ IsPlainIfCopied s p v x = lists p.copied v ≡ true → IsPlainPart s x.names
 
 pub record IsPlainCheckpoint (s : State) (g : Graph) (p : Plan) : Type 0 where
   pub count : s.count < 2 ^ 32
+  pub texts : length (table_of s g p) < 2 ^ 32
   pub cells : All IsPlainCell g.cells
   pub versions : All IsPlainVersion g.versions
   -- the parts that are copied, by the indexes of their versions

@@ -1,20 +1,20 @@
 ghost use Rattle.std.specs.Prelude.{◌≡◌, ◌++◌, ◌<◌, ◌^◌, length, OnOk};
 ghost use Rattle.std.specs.List.{flat_map};
-ghost use Rattle.part_bytes.specs.Texts.{four};
+ghost use Rattle.part_bytes.specs.Texts.{four, by_number};
 ghost use Rattle.part_bytes.specs.Plain.{IsText};
 ghost use Rattle.checkpoint_bytes.specs.Texts as spec;
 ghost use Rattle.checkpoint_bytes.specs.Plain.{IsPlainCell, IsPlainVersion};
 
 use graph_model::{CellRecord, Version};
-use part_bytes::{write_count, write_four, write_names, write_text};
+use part_bytes::{TextTable, write_count, write_four, write_names, write_text_number};
 use plain_data::{Items, Text};
 use py_heap::State;
 use std::alloc::AllocError;
 
 // Each function puts bytes at the end. After an error the bytes mean nothing, and are only dropped.
 
-/// The letters that a checkpoint begins with, and the format's version.
-const MAGIC: [u8; 6] = [69, 78, 67, 75, 0, 1];
+/// The letters that a checkpoint begins with, and the version of the format.
+const MAGIC: [u8; 6] = [69, 78, 67, 75, 0, 2];
 
 fn truth_byte(truth: bool) -> u8
     ensures { result ≡ spec.truth_byte truth }
@@ -53,12 +53,17 @@ fn write_counted_names(out: &mut Items<u8>, names: &[Text]) -> Result<(), AllocE
     write_names(out, names)
 }
 
-/// A cell's code, meter and steps, whether it drew, and whether it is to run again.
-fn write_cell_head(out: &mut Items<u8>, rerun: bool, cell: &CellRecord) -> Result<(), AllocError>
-    ensures bytes { OnOk result (out.new ≡ out.old ++ spec.cell_head_bytes rerun cell.now) }
+/// The number of a cell's code in the table, its meter and steps, whether it drew, and whether it is to run again.
+fn write_cell_head(
+    out: &mut Items<u8>,
+    texts: &TextTable,
+    rerun: bool,
+    cell: &CellRecord,
+) -> Result<(), AllocError>
+    ensures bytes { OnOk result (out.new ≡ out.old ++ spec.cell_head_bytes (by_number texts.now) rerun cell.now) }
     ensures plain { OnOk result (IsText cell.now.code) }
 {
-    write_text(out, cell.code.as_str())?;
+    write_text_number(out, texts, cell.code.as_str())?;
     write_four(out, cell.meter)?;
     write_four(out, cell.steps)?;
     out.push(truth_byte(cell.drew))?;
@@ -68,13 +73,14 @@ fn write_cell_head(out: &mut Items<u8>, rerun: bool, cell: &CellRecord) -> Resul
 /// A cell, and whether it is to run again.
 pub(crate) fn write_cell(
     out: &mut Items<u8>,
+    texts: &TextTable,
     rerun: bool,
     cell: &CellRecord,
 ) -> Result<(), AllocError>
-    ensures bytes { OnOk result (out.new ≡ out.old ++ spec.cell_bytes rerun cell.now) }
+    ensures bytes { OnOk result (out.new ≡ out.old ++ spec.cell_bytes (by_number texts.now) rerun cell.now) }
     ensures plain { OnOk result (IsPlainCell cell.now) }
 {
-    write_cell_head(out, rerun, cell)?;
+    write_cell_head(out, texts, rerun, cell)?;
     write_count(out, cell.reads.len())?;
     write_numbers(out, cell.reads.as_slice())?;
     write_counted_names(out, cell.missing.as_slice())
@@ -97,13 +103,12 @@ pub(crate) fn write_version(
     out.push(truth_byte(copied))
 }
 
-/// The letters and the format's version, the session's count and meter, and how many cells there are.
-pub(crate) fn write_head(out: &mut Items<u8>, state: &State, cells: usize) -> Result<(), AllocError>
-    ensures bytes { OnOk result (out.new ≡ out.old ++ spec.head_bytes state.now cells) }
-    ensures few { OnOk result ((state.now.count < 2 ^ 32) × (cells < 2 ^ 32)) }
+/// The letters and the version of the format, and the session's count and meter.
+pub(crate) fn write_head(out: &mut Items<u8>, state: &State) -> Result<(), AllocError>
+    ensures bytes { OnOk result (out.new ≡ out.old ++ spec.head_bytes 2 state.now.count state.now.meter) }
+    ensures few { OnOk result (state.now.count < 2 ^ 32) }
 {
     out.extend_from_slice(&MAGIC)?;
     write_four(out, state.count())?;
-    write_four(out, state.meter())?;
-    write_count(out, cells)
+    write_four(out, state.meter())
 }

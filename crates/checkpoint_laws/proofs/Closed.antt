@@ -32,7 +32,7 @@ use Rattle.part_bytes.specs.declared.part.PartValue.{PartValue}
 use Rattle.checkpoint_reader.specs.PartReading.{stands_after, follows}
 use Rattle.checkpoint_laws.specs.SpelledParts.{counted, IsHeld, ArePairs, IsObject, AreObjects, AreNames, HasPartText}
 use Rattle.checkpoint_laws.specs.Closed.{TextBelow, IsClosedPart}
-use Rattle.checkpoint_laws.proofs.Offs.{counted_grows, counted_parts}
+use Rattle.checkpoint_laws.proofs.Counts.{counted_grows, counted_parts}
 use Rattle.checkpoint_laws.proofs.InOrder.{in_order}
 
 -- ---- references

@@ -90,6 +90,11 @@ module _ (bytes : List ℕ) where
       → Eats m (Spells s) → ((a : A) → Eats (f a) (λ b ys. Q b (s a ++ ys))) → Eats (λ at. after (m at) f) Q
   eats_then {B = B} m f s Q h k = eats_with m f (Spells s) Q h (λ a xs e. subst (λ (zs : List ℕ). Eats (f a) (λ b ys. Q b (zs ++ ys))) (sym e) (k a))
 
+  -- the same, of a step that tells more than its bytes
+  pub eats_knowing : {A B : Type 0} (m : Read A) (f : A → Read B) (s : A → List ℕ) (K : A → Type 0) (Q : B → List ℕ → Type 0)
+      → Eats m (λ a xs. (xs ≡ s a) × K a) → ((a : A) → K a → Eats (f a) (λ b ys. Q b (s a ++ ys))) → Eats (λ at. after (m at) f) Q
+  eats_knowing {B = B} m f s K Q h k = eats_with m f (λ a xs. (xs ≡ s a) × K a) Q h (λ a xs e. subst (λ (zs : List ℕ). Eats (f a) (λ b ys. Q b (zs ++ ys))) (sym e.0) (k a e.1))
+
   -- a step and then what takes no bytes
   pub eats_end : {A B : Type 0} (m : Read A) (f : A → Read B) (P : A → List ℕ → Type 0) (Q : B → List ℕ → Type 0)
       → Eats m P → ((a : A) (b : B) (xs : List ℕ) (s t : ℕ) → P a xs → f a s ≡ answer b t → (s ≡ t) × Q b xs) → Eats (λ at. after (m at) f) Q

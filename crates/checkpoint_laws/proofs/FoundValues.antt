@@ -15,31 +15,36 @@ use Rattle.py_value.specs.Values.{builtin_number}
 use Rattle.py_heap.specs.Dicts.{Pairs, value_under}
 use Rattle.py_heap.specs.References.{value_refs, pair_refs}
 use Rattle.py_heap.specs.Reaching.{held_refs}
-use Rattle.part_bytes.specs.Texts.{four as four_bytes, sixteen as sixteen_bytes, text_bytes, value_bytes, held_bytes, pair_bytes}
+use Rattle.part_bytes.specs.Texts.{four as four_bytes, sixteen as sixteen_bytes, spelled_value, spelled_held, spelled_pair}
+use Rattle.part_bytes.specs.Uses.{value_texts, held_texts, pair_texts}
+use Rattle.checkpoint_reader.specs.declared.forms.Texts.{Texts}
 use Rattle.checkpoint_reader.specs.declared.part_fault.PartFault.TheVariants.{BadTag, BadRef, BadKey}
 use Rattle.checkpoint_reader.specs.declared.spot.Spot.{Spot}
 use Rattle.checkpoint_reader.specs.PartReads.{Read, pure, after}
 use Rattle.checkpoint_reader.specs.PartReading.{byte, four, sixteen, text, referred_to, builtin_of, builtin_at, key_by, reference, builtin, value_by, value, held, pair, pair_with}
 use Rattle.checkpoint_laws.specs.SpelledParts.{counted, IsValue, IsHeld, ArePairs}
 use Rattle.checkpoint_laws.proofs.Numbers.{IsBytes}
+use Rattle.checkpoint_laws.proofs.Counts.{spell_of, no_numbers, AreThere, Goes}
+use Rattle.checkpoint_laws.proofs.Listed.{IsTable}
 use Rattle.checkpoint_laws.proofs.Offs.{answer, AllGood}
 use Rattle.checkpoint_laws.proofs.Values.{GoodPair}
-use Rattle.checkpoint_laws.proofs.Found.{same_value, same_spot, failed, reached, Ate, ate_then, ate_none, ate_as, byte_found, four_found, sixteen_found, text_found}
+use Rattle.checkpoint_laws.proofs.Found.{same_value, same_spot, failed, reached, counts_of, Ate, ate_then, ate_none, ate_as, ate_is, byte_found, four_found, sixteen_found, text_found}
 
--- what comes after a tag
-pub record After (bytes : List ℕ) (tag : ℕ) (xs ns : List ℕ) (s t : Spot) : Type 0 where
-  pub body : List ℕ
-  pub is : xs ≡ tag ∷ body
-  pub ate : Ate bytes body ns s t
+module _ (texts : Texts) (bytes : List ℕ) where
+  -- what comes after a tag
+  pub record After (tag : ℕ) (xs ns : List ℕ) (us : List (List ℕ)) (s t : Spot) : Type 0 where
+    pub body : List ℕ
+    pub is : xs ≡ tag ∷ body
+    pub ate : Ate texts bytes body ns us s t
 
-pub after_whole : (bytes : List ℕ) (tag : ℕ) (xs ns : List ℕ) (s u t : Spot) → Ate bytes (tag ∷ []) [] s u → After bytes tag xs ns u t → Ate bytes xs ns s t
-after_whole bytes tag xs ns s u t a b = ate_as bytes (tag ∷ b.body) xs ns ns s t t (sym b.is) refl refl (ate_then bytes (tag ∷ []) b.body [] ns s u t a b.ate)
+  pub after_whole : (tag : ℕ) (xs ns : List ℕ) (us : List (List ℕ)) (s u t : Spot) → Ate texts bytes (tag ∷ []) [] [] s u → After tag xs ns us u t → Ate texts bytes xs ns us s t
+  after_whole tag xs ns us s u t a b = ate_is texts bytes (tag ∷ b.body) xs ns us s t t (sym b.is) refl (ate_then texts bytes (tag ∷ []) b.body [] ns [] us s u t a b.ate)
 
-abbrev FoundKey : List ℕ → ℕ → Spot → Spot → Key → Type 0
-FoundKey bytes tag s t k = IsValue (value_of k) × After bytes tag (value_bytes (value_of k)) (value_refs (value_of k)) s t
+  abbrev FoundKey : ℕ → Spot → Spot → Key → Type 0
+  FoundKey tag s t k = IsValue (value_of k) × After tag (spelled_value (spell_of texts) (value_of k)) [] (value_texts (value_of k)) s t
 
-abbrev FoundValue : List ℕ → ℕ → Spot → Spot → Value → Type 0
-FoundValue bytes tag s t v = IsValue v × After bytes tag (value_bytes v) (value_refs v) s t
+  abbrev FoundValue : ℕ → Spot → Spot → Value → Type 0
+  FoundValue tag s t v = IsValue v × After tag (spelled_value (spell_of texts) v) (value_refs v) (value_texts v) s t
 
 tagged_as : (tag n : ℕ) (xs : List ℕ) → tag ≡ n → n ∷ xs ≡ tag ∷ xs
 tagged_as tag n xs e = ap (λ (m : ℕ). m ∷ xs) (sym e)
@@ -88,6 +93,7 @@ none_of (Some a) e = absurd (let no : true ≡ false = e in cc)
 record Referred (n : ℕ) (v : Value) (s t : Spot) : Type 0 where
   pub is : v ≡ the_value.Ref n
   pub at : t.at ≡ s.at
+  pub known : t.known ≡ s.known
   pub refs : counted s.met (n ∷ []) ≡ Some t.met
   pub most : t.most ≡ s.most
   pub within : s.met ≤ s.most → t.met ≤ s.most
@@ -100,6 +106,7 @@ referred_found p n s t v h = elim (cases_Bool (nat_lt n s.met)) [
       record {
         is = sym (same_value (the_value.Ref n) v s t is);
         at = ap (λ (u : Spot). u.at) (sym there);
+        known = ap (λ (u : Spot). u.known) (sym there);
         refs = rw e (ap (λ (u : Spot). Some u.met) there);
         most = ap (λ (u : Spot). u.most) (sym there);
         within = λ l. subst (λ (u : Spot). u.met ≤ s.most) there l;
@@ -117,6 +124,7 @@ referred_found p n s t v h = elim (cases_Bool (nat_lt n s.met)) [
         record {
           is = sym (same_value (the_value.Ref n) v u t is);
           at = ap (λ (w : Spot). w.at) (sym there);
+          known = ap (λ (w : Spot). w.known) (sym there);
           refs = rw (f, parts.0) (ap (λ (m : ℕ). Some m) next ∙ ap (λ (w : Spot). Some w.met) there);
           most = ap (λ (w : Spot). w.most) (sym there);
           within = λ l. subst (λ (w : Spot). w.met ≤ s.most) there most;
@@ -129,37 +137,38 @@ builtin_value : (p b : ℕ) (o : Option Builtin) (s t : Spot) (v : Value) → bu
 builtin_value p b None s t v e h = absurd (let no : failed Value (BadTag p) ≡ answer v t = h in cc)
 builtin_value p b (Some f) s t v e h = (f, builtin_found b f e, sym (same_value (the_value.Builtin f) v s t h), same_spot (the_value.Builtin f) v s t h)
 
-module _ (bytes : List ℕ) (small : IsBytes bytes) where
+module _ (texts : Texts) (ok : IsTable texts) (bytes : List ℕ) (small : IsBytes bytes) where
   -- a key that is all of its tag
-  bare_key : (tag n : ℕ) (s t : Spot) (k l : Key) → tag ≡ n → value_bytes (value_of k) ≡ n ∷ [] → IsValue (value_of k) → pure k s ≡ answer l t → FoundKey bytes tag s t l
-  bare_key tag n s t k l e is good h =
-      let rest : Ate bytes [] (value_refs (value_of k)) s t = ate_as bytes [] [] [] (value_refs (value_of k)) s t t refl (sym (key_refs k)) refl (ate_none bytes s t (same_spot k l s t h)) in
-      subst (λ (m : Key). FoundKey bytes tag s t m) (same_value k l s t h) (good, record { body = []; is = is ∙ tagged_as tag n [] e; ate = rest })
+  bare_key : (tag n : ℕ) (s t : Spot) (k l : Key) → tag ≡ n → spelled_value (spell_of texts) (value_of k) ≡ n ∷ [] → value_texts (value_of k) ≡ [] → IsValue (value_of k) → pure k s ≡ answer l t → FoundKey texts bytes tag s t l
+  bare_key tag n s t k l e is none good h =
+      let rest : Ate texts bytes [] [] (value_texts (value_of k)) s t = ate_as texts bytes [] [] [] [] [] (value_texts (value_of k)) s t t refl refl (sym none) refl (ate_none texts bytes s t (same_spot k l s t h)) in
+      subst (λ (m : Key). FoundKey texts bytes tag s t m) (same_value k l s t h) (good, record { body = []; is = is ∙ tagged_as tag n [] e; ate = rest })
 
-  number_key : (tag : ℕ) (s t : Spot) (k : Key) → tag ≡ 3 → after (sixteen bytes s) (λ n. pure (the_key.Number n)) ≡ answer k t → FoundKey bytes tag s t k
+  number_key : (tag : ℕ) (s t : Spot) (k : Key) → tag ≡ 3 → after (sixteen bytes s) (λ n. pure (the_key.Number n)) ≡ answer k t → FoundKey texts bytes tag s t k
   number_key tag s t k e h =
       let r = reached (sixteen bytes s) (λ n. pure (the_key.Number n)) k t h in
-      let f = sixteen_found bytes small s r.mid r.first r.was in
-      let g : Ate bytes (sixteen_bytes r.first) [] s t = ate_as bytes (sixteen_bytes r.first) (sixteen_bytes r.first) [] [] s r.mid t refl refl (same_spot (the_key.Number r.first) k r.mid t r.next) f.1 in
-      subst (λ (m : Key). FoundKey bytes tag s t m) (same_value (the_key.Number r.first) k r.mid t r.next)
+      let f = sixteen_found texts bytes small s r.mid r.first r.was in
+      let g : Ate texts bytes (sixteen_bytes r.first) [] [] s t = ate_is texts bytes (sixteen_bytes r.first) (sixteen_bytes r.first) [] [] s r.mid t refl (same_spot (the_key.Number r.first) k r.mid t r.next) f.1 in
+      subst (λ (m : Key). FoundKey texts bytes tag s t m) (same_value (the_key.Number r.first) k r.mid t r.next)
       (f.0, record { body = sixteen_bytes r.first; is = tagged_as tag 3 (sixteen_bytes r.first) e; ate = g })
 
-  text_key : (tag : ℕ) (s t : Spot) (k : Key) → tag ≡ 4 → after (text bytes s) (λ x. pure (the_key.Text x)) ≡ answer k t → FoundKey bytes tag s t k
+  text_key : (tag : ℕ) (s t : Spot) (k : Key) → tag ≡ 4 → after (text texts bytes s) (λ x. pure (the_key.Text x)) ≡ answer k t → FoundKey texts bytes tag s t k
   text_key tag s t k e h =
-      let r = reached (text bytes s) (λ x. pure (the_key.Text x)) k t h in
-      let f = text_found bytes small s r.mid r.first r.was in
-      let g : Ate bytes (text_bytes r.first) [] s t = ate_as bytes (text_bytes r.first) (text_bytes r.first) [] [] s r.mid t refl refl (same_spot (the_key.Text r.first) k r.mid t r.next) f.1 in
-      subst (λ (m : Key). FoundKey bytes tag s t m) (same_value (the_key.Text r.first) k r.mid t r.next)
-      (f.0, record { body = text_bytes r.first; is = tagged_as tag 4 (text_bytes r.first) e; ate = g })
+      let r = reached (text texts bytes s) (λ x. pure (the_key.Text x)) k t h in
+      let f = text_found bytes small texts ok s r.mid r.first r.was in
+      let g : Ate texts bytes (spell_of texts r.first) [] (r.first ∷ []) s t =
+      ate_is texts bytes (spell_of texts r.first) (spell_of texts r.first) [] (r.first ∷ []) s r.mid t refl (same_spot (the_key.Text r.first) k r.mid t r.next) f.1 in
+      subst (λ (m : Key). FoundKey texts bytes tag s t m) (same_value (the_key.Text r.first) k r.mid t r.next)
+      (f.0, record { body = spell_of texts r.first; is = tagged_as tag 4 (spell_of texts r.first) e; ate = g })
 
-  pub key_found : (p tag : ℕ) (s t : Spot) (k : Key) → key_by bytes p tag s ≡ answer k t → FoundKey bytes tag s t k
+  pub key_found : (p tag : ℕ) (s t : Spot) (k : Key) → key_by texts bytes p tag s ≡ answer k t → FoundKey texts bytes tag s t k
   unfolding key_by
   key_found p tag s t k h = elim (cases_Bool (tag == 0)) [
-    | inl e ↦ bare_key tag 0 s t the_key.Nothing k (eqb-true tag 0 e) refl tt (rw e at h)
+    | inl e ↦ bare_key tag 0 s t the_key.Nothing k (eqb-true tag 0 e) refl refl tt (rw e at h)
     | inr f0 ↦ elim (cases_Bool (tag == 1)) [
-      | inl e ↦ bare_key tag 1 s t (the_key.Bool false) k (eqb-true tag 1 e) refl tt (rw (f0, e) at h)
+      | inl e ↦ bare_key tag 1 s t (the_key.Bool false) k (eqb-true tag 1 e) refl refl tt (rw (f0, e) at h)
       | inr f1 ↦ elim (cases_Bool (tag == 2)) [
-        | inl e ↦ bare_key tag 2 s t (the_key.Bool true) k (eqb-true tag 2 e) refl tt (rw (f0, f1, e) at h)
+        | inl e ↦ bare_key tag 2 s t (the_key.Bool true) k (eqb-true tag 2 e) refl refl tt (rw (f0, f1, e) at h)
         | inr f2 ↦ elim (cases_Bool (tag == 3)) [
           | inl e ↦ number_key tag s t k (eqb-true tag 3 e) (rw (f0, f1, f2, e) at h)
           | inr f3 ↦ elim (cases_Bool (tag == 4)) [
@@ -173,100 +182,120 @@ module _ (bytes : List ℕ) (small : IsBytes bytes) where
 
   -- ---- references and built-in functions
 
-  reference_found : (p tag : ℕ) (s t : Spot) (v : Value) → tag ≡ 5 → reference bytes p s ≡ answer v t → FoundValue bytes tag s t v
+  reference_found : (p tag : ℕ) (s t : Spot) (v : Value) → tag ≡ 5 → reference bytes p s ≡ answer v t → FoundValue texts bytes tag s t v
   unfolding reference
   reference_found p tag s t v e h =
       let r = reached (four bytes s) (λ n. referred_to p n) v t h in
-      let f = four_found bytes small s r.mid r.first r.was in
+      let f = four_found texts bytes small s r.mid r.first r.was in
       let g = referred_found p r.first r.mid t v r.next in
-      let ate : Ate bytes [] (r.first ∷ []) r.mid t = record {
-        stands = λ l. (ate_none bytes r.mid r.mid refl).stands l;
-        end = let f = g.at in omega (arith, f);
+      let goes : Goes texts (counts_of r.mid) (r.first ∷ []) [] (counts_of t) = record {
         refs = g.refs;
+        known = ap (λ (ns : List ℕ). counted r.mid.known ns) (no_numbers texts) ∙ ap (λ (k : ℕ). Some k) (sym g.known);
+      } in
+      let ate : Ate texts bytes [] (r.first ∷ []) [] r.mid t = record {
+        stands = λ l. (ate_none texts bytes r.mid r.mid refl).stands l;
+        end = let f = g.at in omega (arith, f);
+        goes = goes;
         most = g.most;
         within = g.within;
+        there = λ h. subst (AreThere texts) (sym g.known) h;
       } in
-      let whole : Ate bytes (four_bytes r.first) (r.first ∷ []) s t = ate_as bytes (four_bytes r.first ++ []) (four_bytes r.first) (r.first ∷ []) (r.first ∷ []) s t t (append-nil (four_bytes r.first)) refl refl
-      (ate_then bytes (four_bytes r.first) [] [] (r.first ∷ []) s r.mid t f.1 ate) in
-      subst (λ (w : Value). FoundValue bytes tag s t w) (sym g.is) (f.0, record { body = four_bytes r.first; is = tagged_as tag 5 (four_bytes r.first) e; ate = whole })
+      let whole : Ate texts bytes (four_bytes r.first) (r.first ∷ []) [] s t = ate_is texts bytes (four_bytes r.first ++ []) (four_bytes r.first) (r.first ∷ []) [] s t t (append-nil (four_bytes r.first)) refl
+      (ate_then texts bytes (four_bytes r.first) [] [] (r.first ∷ []) [] [] s r.mid t f.1 ate) in
+      subst (λ (w : Value). FoundValue texts bytes tag s t w) (sym g.is) (f.0, record { body = four_bytes r.first; is = tagged_as tag 5 (four_bytes r.first) e; ate = whole })
 
-  builtin_value_found : (tag : ℕ) (s t : Spot) (v : Value) → tag ≡ 6 → builtin bytes s ≡ answer v t → FoundValue bytes tag s t v
+  builtin_value_found : (tag : ℕ) (s t : Spot) (v : Value) → tag ≡ 6 → builtin bytes s ≡ answer v t → FoundValue texts bytes tag s t v
   unfolding builtin
   builtin_value_found tag s t v e h =
       let r = reached (byte bytes s) (λ b. builtin_at s.at (builtin_of b)) v t h in
       let g = builtin_value s.at r.first (builtin_of r.first) r.mid t v refl r.next in
-      let a : Ate bytes (builtin_number g.0 ∷ []) [] s t = ate_as bytes (r.first ∷ []) (builtin_number g.0 ∷ []) [] [] s r.mid t (ap (λ (c : ℕ). c ∷ []) g.1) refl g.3 (byte_found bytes s r.mid r.first r.was) in
-      subst (λ (w : Value). FoundValue bytes tag s t w) (sym g.2) (tt, record { body = builtin_number g.0 ∷ []; is = tagged_as tag 6 (builtin_number g.0 ∷ []) e; ate = a })
+      let a : Ate texts bytes (builtin_number g.0 ∷ []) [] [] s t = ate_is texts bytes (r.first ∷ []) (builtin_number g.0 ∷ []) [] [] s r.mid t (ap (λ (c : ℕ). c ∷ []) g.1) g.3 (byte_found texts bytes s r.mid r.first r.was) in
+      subst (λ (w : Value). FoundValue texts bytes tag s t w) (sym g.2) (tt, record { body = builtin_number g.0 ∷ []; is = tagged_as tag 6 (builtin_number g.0 ∷ []) e; ate = a })
 
   -- ---- values
 
-  pub value_by_found : (p tag : ℕ) (s t : Spot) (v : Value) → value_by bytes p tag s ≡ answer v t → FoundValue bytes tag s t v
+  -- a key is a value
+  key_value : (tag : ℕ) (s t : Spot) (k : Key) → FoundKey texts bytes tag s t k → FoundValue texts bytes tag s t (value_of k)
+  key_value tag s t k f = (f.0, subst (λ (ns : List ℕ). After texts bytes tag (spelled_value (spell_of texts) (value_of k)) ns (value_texts (value_of k)) s t) (sym (key_refs k)) f.1)
+
+  pub value_by_found : (p tag : ℕ) (s t : Spot) (v : Value) → value_by texts bytes p tag s ≡ answer v t → FoundValue texts bytes tag s t v
   unfolding value_by
   value_by_found p tag s t v h = elim (cases_Bool (tag == 5)) [
     | inl e ↦ reference_found p tag s t v (eqb-true tag 5 e) (rw e at h)
     | inr f ↦ elim (cases_Bool (tag == 6)) [
       | inl e ↦ builtin_value_found tag s t v (eqb-true tag 6 e) (rw (f, e) at h)
       | inr g ↦
-          let key : after (key_by bytes p tag s) (λ k. pure (value_of k)) ≡ answer v t = rw (f, g) at h in
-          let r = reached (key_by bytes p tag s) (λ k. pure (value_of k)) v t key in
-          let k = key_found p tag s r.mid r.first r.was in
-          let there : FoundValue bytes tag s t (value_of r.first) = subst (λ (u : Spot). FoundValue bytes tag s u (value_of r.first)) (same_spot (value_of r.first) v r.mid t r.next) k in
-          subst (λ (w : Value). FoundValue bytes tag s t w) (same_value (value_of r.first) v r.mid t r.next) there
+          let key : after (key_by texts bytes p tag s) (λ k. pure (value_of k)) ≡ answer v t = rw (f, g) at h in
+          let r = reached (key_by texts bytes p tag s) (λ k. pure (value_of k)) v t key in
+          let k = key_value tag s r.mid r.first (key_found p tag s r.mid r.first r.was) in
+          let there : FoundValue texts bytes tag s t (value_of r.first) = subst (λ (u : Spot). FoundValue texts bytes tag s u (value_of r.first)) (same_spot (value_of r.first) v r.mid t r.next) k in
+          subst (λ (w : Value). FoundValue texts bytes tag s t w) (same_value (value_of r.first) v r.mid t r.next) there
     ]
   ]
 
-  pub value_found : (s t : Spot) (v : Value) → value bytes s ≡ answer v t → IsValue v × Ate bytes (value_bytes v) (value_refs v) s t
+  abbrev AteValue : Value → Spot → Spot → Type 0
+  AteValue v s t = Ate texts bytes (spelled_value (spell_of texts) v) (value_refs v) (value_texts v) s t
+
+  pub value_found : (s t : Spot) (v : Value) → value texts bytes s ≡ answer v t → IsValue v × Ate texts bytes (spelled_value (spell_of texts) v) (value_refs v) (value_texts v) s t
   unfolding value
   value_found s t v h =
-      let r = reached (byte bytes s) (λ tag. value_by bytes s.at tag) v t h in
+      let r = reached (byte bytes s) (λ tag. value_by texts bytes s.at tag) v t h in
       let f = value_by_found s.at r.first r.mid t v r.next in
-      (f.0, after_whole bytes r.first (value_bytes v) (value_refs v) s r.mid t (byte_found bytes s r.mid r.first r.was) f.1)
+      (f.0, after_whole texts bytes r.first (spelled_value (spell_of texts) v) (value_refs v) (value_texts v) s r.mid t (byte_found texts bytes s r.mid r.first r.was) f.1)
 
   abbrev if_none : Bool → ℕ → ℕ → Read (Option Value)
-  if_none alone p tag = cond ((tag == 7) && alone) (pure None) (λ s. after (value_by bytes p tag s) (λ v. pure (Some v)))
+  if_none alone p tag = cond ((tag == 7) && alone) (pure None) (λ s. after (value_by texts bytes p tag s) (λ v. pure (Some v)))
 
-  pub held_found : (alone : Bool) (s t : Spot) (o : Option Value) → held bytes alone s ≡ answer o t → IsHeld alone o × Ate bytes (held_bytes o) (held_refs value_refs o) s t
+  abbrev AteHeld : Option Value → Spot → Spot → Type 0
+  AteHeld o s t = Ate texts bytes (spelled_held (spell_of texts) o) (held_refs value_refs o) (held_texts o) s t
+
+  pub held_found : (alone : Bool) (s t : Spot) (o : Option Value) → held texts bytes alone s ≡ answer o t
+      → IsHeld alone o × Ate texts bytes (spelled_held (spell_of texts) o) (held_refs value_refs o) (held_texts o) s t
   unfolding held
   held_found alone s t o h =
       let r = reached (byte bytes s) (λ tag. if_none alone s.at tag) o t h in
-      let a = byte_found bytes s r.mid r.first r.was in
+      let a = byte_found texts bytes s r.mid r.first r.was in
       let none : Option Value = None in
       elim (cases_Bool ((r.first == 7) && alone)) [
         | inl e ↦
             let parts = and_parts (r.first == 7) alone e in
             let is : answer none r.mid ≡ answer o t = rw e at r.next in
-            let b : Ate bytes (7 ∷ []) [] s t = ate_as bytes (r.first ∷ []) (7 ∷ []) [] [] s r.mid t (ap (λ (c : ℕ). c ∷ []) (eqb-true r.first 7 parts.0)) refl (same_spot none o r.mid t is) a in
-            subst (λ (q : Option Value). IsHeld alone q × Ate bytes (held_bytes q) (held_refs value_refs q) s t) (same_value none o r.mid t is) (parts.1, b)
+            let b : Ate texts bytes (7 ∷ []) [] [] s t = ate_is texts bytes (r.first ∷ []) (7 ∷ []) [] [] s r.mid t (ap (λ (c : ℕ). c ∷ []) (eqb-true r.first 7 parts.0)) (same_spot none o r.mid t is) a in
+            subst (λ (q : Option Value). IsHeld alone q × AteHeld q s t) (same_value none o r.mid t is) (parts.1, b)
         | inr f ↦
-            let some : after (value_by bytes s.at r.first r.mid) (λ v. pure (Some v)) ≡ answer o t = rw f at r.next in
-            let q = reached (value_by bytes s.at r.first r.mid) (λ v. pure (Some v)) o t some in
+            let some : after (value_by texts bytes s.at r.first r.mid) (λ v. pure (Some v)) ≡ answer o t = rw f at r.next in
+            let q = reached (value_by texts bytes s.at r.first r.mid) (λ v. pure (Some v)) o t some in
             let v = value_by_found s.at r.first r.mid q.mid q.first q.was in
-            let b : Ate bytes (value_bytes q.first) (value_refs q.first) s q.mid = after_whole bytes r.first (value_bytes q.first) (value_refs q.first) s r.mid q.mid a v.1 in
-            let there : Ate bytes (value_bytes q.first) (value_refs q.first) s t = subst (λ (u : Spot). Ate bytes (value_bytes q.first) (value_refs q.first) s u) (same_spot (Some q.first) o q.mid t q.next) b in
-            subst (λ (w : Option Value). IsHeld alone w × Ate bytes (held_bytes w) (held_refs value_refs w) s t) (same_value (Some q.first) o q.mid t q.next) (v.0, there)
+            let b : AteValue q.first s q.mid = after_whole texts bytes r.first (spelled_value (spell_of texts) q.first) (value_refs q.first) (value_texts q.first) s r.mid q.mid a v.1 in
+            let there : AteValue q.first s t = subst (λ (u : Spot). AteValue q.first s u) (same_spot (Some q.first) o q.mid t q.next) b in
+            subst (λ (w : Option Value). IsHeld alone w × AteHeld w s t) (same_value (Some q.first) o q.mid t q.next) (v.0, there)
       ]
 
   -- ---- pairs
 
-  pub pair_found : (before : Pairs) (s t : Spot) (p : Key × Value) → pair bytes before s ≡ answer p t → GoodPair before p × Ate bytes (pair_bytes p) (pair_refs p) s t
+  abbrev AtePair : Key × Value → Spot → Spot → Type 0
+  AtePair p s t = Ate texts bytes (spelled_pair (spell_of texts) p) (pair_refs p) (pair_texts p) s t
+
+  pub pair_found : (before : Pairs) (s t : Spot) (p : Key × Value) → pair texts bytes before s ≡ answer p t
+      → GoodPair before p × Ate texts bytes (spelled_pair (spell_of texts) p) (pair_refs p) (pair_texts p) s t
   unfolding pair
   pair_found before s t p h =
-      let r = reached (byte bytes s) (λ tag u. after (key_by bytes s.at tag u) (λ k. pair_with bytes s.at before k)) p t h in
-      let q = reached (key_by bytes s.at r.first r.mid) (λ k. pair_with bytes s.at before k) p t r.next in
+      let r = reached (byte bytes s) (λ tag u. after (key_by texts bytes s.at tag u) (λ k. pair_with texts bytes s.at before k)) p t h in
+      let q = reached (key_by texts bytes s.at r.first r.mid) (λ k. pair_with texts bytes s.at before k) p t r.next in
       let k = key_found s.at r.first r.mid q.mid q.first q.was in
       let kv : Value = value_of q.first in
-      let key : Ate bytes (value_bytes kv) (value_refs kv) s q.mid = after_whole bytes r.first (value_bytes kv) (value_refs kv) s r.mid q.mid (byte_found bytes s r.mid r.first r.was) k.1 in
+      let key : Ate texts bytes (spelled_value (spell_of texts) kv) [] (value_texts kv) s q.mid =
+      after_whole texts bytes r.first (spelled_value (spell_of texts) kv) [] (value_texts kv) s r.mid q.mid (byte_found texts bytes s r.mid r.first r.was) k.1 in
       elim (cases_Bool (is_some (value_under before q.first))) [
         | inl e ↦ absurd (let no : failed (Key × Value) (BadKey s.at) ≡ answer p t = rw e at q.next in cc)
         | inr e ↦
-            let rest : after (value bytes q.mid) (λ v. let both : Read (Key × Value) = pure (q.first, v) in both) ≡ answer p t = rw e at q.next in
-            let w = reached (value bytes q.mid) (λ v. let both : Read (Key × Value) = pure (q.first, v) in both) p t rest in
+            let rest : after (value texts bytes q.mid) (λ v. let both : Read (Key × Value) = pure (q.first, v) in both) ≡ answer p t = rw e at q.next in
+            let w = reached (value texts bytes q.mid) (λ v. let both : Read (Key × Value) = pure (q.first, v) in both) p t rest in
             let v = value_found q.mid w.mid w.first w.was in
             let both : Key × Value = (q.first, w.first) in
-            let whole : Ate bytes (pair_bytes both) (pair_refs both) s w.mid = ate_as bytes (value_bytes kv ++ value_bytes w.first) (pair_bytes both) (value_refs kv ++ value_refs w.first) (value_refs w.first) s w.mid w.mid
-            refl (ap (λ (ns : List ℕ). ns ++ value_refs w.first) (key_refs q.first)) refl (ate_then bytes (value_bytes kv) (value_bytes w.first) (value_refs kv) (value_refs w.first) s q.mid w.mid key v.1) in
-            let there : Ate bytes (pair_bytes both) (pair_refs both) s t = subst (λ (u : Spot). Ate bytes (pair_bytes both) (pair_refs both) s u) (same_spot both p w.mid t w.next) whole in
-            subst (λ (z : Key × Value). GoodPair before z × Ate bytes (pair_bytes z) (pair_refs z) s t) (same_value both p w.mid t w.next) ((k.0, none_of (value_under before q.first) e, v.0), there)
+            let whole : AtePair both s w.mid = ate_then texts bytes (spelled_value (spell_of texts) kv) (spelled_value (spell_of texts) w.first) [] (value_refs w.first) (value_texts kv) (value_texts w.first) s q.mid w.mid key v.1 in
+            let there : AtePair both s t = subst (λ (u : Spot). AtePair both s u) (same_spot both p w.mid t w.next) whole in
+            subst (λ (z : Key × Value). GoodPair before z × AtePair z s t) (same_value both p w.mid t w.next) ((k.0, none_of (value_under before q.first) e, v.0), there)
       ]
 
 -- ---- lists of these

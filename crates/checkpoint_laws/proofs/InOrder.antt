@@ -8,8 +8,8 @@ use Rattle.py_heap.specs.References.{value_refs, object_refs}
 use Rattle.py_heap.specs.Reaching.{held_refs, firsts}
 use Rattle.part_bytes.specs.declared.part.PartValue.{PartValue}
 use Rattle.checkpoint_laws.specs.SpelledParts.{counted, AreObjects, HasPartText}
-use Rattle.checkpoint_laws.proofs.Offs.{below, not_below, some_same, counted_grows}
-use Rattle.checkpoint_laws.proofs.Found.{counted_join}
+use Rattle.checkpoint_laws.proofs.Offs.{below, not_below}
+use Rattle.checkpoint_laws.proofs.Counts.{some_same, counted_grows, counted_join}
 
 -- ---- the numbers that come first, from one number on
 

@@ -1,3 +1,5 @@
+pub mod Counts
+pub mod Listed
 pub mod Offs
 pub mod Values
 pub mod Objects
@@ -12,14 +14,17 @@ pub mod Closed
 pub mod Knot
 pub mod Copied
 pub mod Steps
-pub mod Records
-pub mod Whole
 pub mod Marked
+pub mod Records
+pub mod TableOff
+pub mod Used
+pub mod Whole
 pub mod Answered
 pub mod Eats
 pub mod Pieces
 pub mod Lists
 pub mod TextRecords
+pub mod TableTexts
 pub mod WholeTexts
 pub mod Longer
 pub mod OneText

@@ -4,8 +4,8 @@ use Rattle.std.specs.List.{AllByRecursion}
 use Rattle.std.proofs.lemmas.Bool.{cases_Bool, eq-eqb, ne_eqb}
 use Rattle.std.proofs.lemmas.List.{append-nil, append_assoc}
 use Rattle.part_bytes.specs.declared.part.PartValue.{PartValue}
-use Rattle.part_bytes.specs.Texts.{bytes_of}
-use Rattle.checkpoint_bytes.specs.Texts.{lists, bytes_from}
+use Rattle.part_bytes.specs.Texts.{spelled_part}
+use Rattle.checkpoint_bytes.specs.Texts.{lists, each_from}
 use Rattle.checkpoint_reader.specs.Fields.{marked}
 use Rattle.checkpoint_laws.specs.Texts.{part_bytes}
 
@@ -13,20 +13,20 @@ use Rattle.checkpoint_laws.specs.Texts.{part_bytes}
 
 module _ {A : Type 0} (f g : ℕ → A → List ℕ) where
   -- what was written of the items so far is written of them still
-  bytes_stay : (xs : List A) (n : ℕ) → ((k : ℕ) (x : A) → k < n + length xs → f k x ≡ g k x) → bytes_from f n xs ≡ bytes_from g n xs
+  bytes_stay : (xs : List A) (n : ℕ) → ((k : ℕ) (x : A) → k < n + length xs → f k x ≡ g k x) → each_from f n xs ≡ each_from g n xs
   bytes_stay [] n h = refl
   bytes_stay (x ∷ xs) n h =
-      ap (λ (ys : List ℕ). ys ++ bytes_from f (n + 1) xs) (h n x (omega arith))
+      ap (λ (ys : List ℕ). ys ++ each_from f (n + 1) xs) (h n x (omega arith))
       ∙ ap (λ (ys : List ℕ). g n x ++ ys) (bytes_stay xs (n + 1) (λ k y l. h k y (omega (arith, l))))
 
-  bytes_put : (xs : List A) (x : A) (n : ℕ) → bytes_from f n (xs ++ x ∷ []) ≡ bytes_from f n xs ++ f (n + length xs) x
+  bytes_put : (xs : List A) (x : A) (n : ℕ) → each_from f n (xs ++ x ∷ []) ≡ each_from f n xs ++ f (n + length xs) x
   bytes_put [] x n = append-nil (f n x) ∙ ap (λ (k : ℕ). f k x) (omega arith)
   bytes_put (y ∷ xs) x n =
       let place : n + 1 + length xs ≡ n + length (y ∷ xs) = omega arith in
-      ap (λ (ys : List ℕ). f n y ++ ys) (bytes_put xs x (n + 1) ∙ ap (λ (k : ℕ). bytes_from f (n + 1) xs ++ f k x) place)
-      ∙ sym (append_assoc (f n y) (bytes_from f (n + 1) xs) (f (n + length (y ∷ xs)) x))
+      ap (λ (ys : List ℕ). f n y ++ ys) (bytes_put xs x (n + 1) ∙ ap (λ (k : ℕ). each_from f (n + 1) xs ++ f k x) place)
+      ∙ sym (append_assoc (f n y) (each_from f (n + 1) xs) (f (n + length (y ∷ xs)) x))
 
-  pub bytes_more : (xs : List A) (x : A) (n : ℕ) → ((k : ℕ) (y : A) → k < n + length xs → f k y ≡ g k y) → bytes_from f n (xs ++ x ∷ []) ≡ bytes_from g n xs ++ f (n + length xs) x
+  pub bytes_more : (xs : List A) (x : A) (n : ℕ) → ((k : ℕ) (y : A) → k < n + length xs → f k y ≡ g k y) → each_from f n (xs ++ x ∷ []) ≡ each_from g n xs ++ f (n + length xs) x
   bytes_more xs x n h = bytes_put xs x n ∙ ap (λ (ys : List ℕ). ys ++ f (n + length xs) x) (bytes_stay xs n h)
 
 -- ---- numbers that are listed
@@ -73,22 +73,23 @@ marked_other n k ns false l = refl
 
 -- ---- the parts of what is copied
 
-pub no_part : (n k : ℕ) (ns : List ℕ) (ps : List PartValue) → AreUpTo n ns → n < k → part_bytes ns ps k ≡ []
-no_part n k [] ps h l = refl
-no_part n k (m ∷ ns) [] h l = refl
-no_part n k (m ∷ ns) (p ∷ ps) h l = let low = h.0 in rw (ne_eqb m k (λ e. omega (arith, l, low, e))) (no_part n k ns ps h.1 l)
+module _ (spell : List ℕ → List ℕ) where
+  pub no_part : (n k : ℕ) (ns : List ℕ) (ps : List PartValue) → AreUpTo n ns → n < k → part_bytes spell ns ps k ≡ []
+  no_part n k [] ps h l = refl
+  no_part n k (m ∷ ns) [] h l = refl
+  no_part n k (m ∷ ns) (p ∷ ps) h l = let low = h.0 in rw (ne_eqb m k (λ e. omega (arith, l, low, e))) (no_part n k ns ps h.1 l)
 
-pub last_part : (n : ℕ) (ns : List ℕ) (ps : List PartValue) (p : PartValue) → AreUpTo n ns → length ns ≡ length ps → part_bytes (ns ++ (n + 1) ∷ []) (ps ++ p ∷ []) (n + 1) ≡ bytes_of p
-last_part n [] [] p h e = rw (eq-eqb (n + 1) (n + 1) refl) refl
-last_part n [] (q ∷ ps) p h e = absurd (omega (arith, e))
-last_part n (m ∷ ns) [] p h e = absurd (omega (arith, e))
-last_part n (m ∷ ns) (q ∷ ps) p h e = let low = h.0 in rw (ne_eqb m (n + 1) (λ same. omega (arith, low, same))) (last_part n ns ps p h.1 (omega (arith, e)))
+  pub last_part : (n : ℕ) (ns : List ℕ) (ps : List PartValue) (p : PartValue) → AreUpTo n ns → length ns ≡ length ps → part_bytes spell (ns ++ (n + 1) ∷ []) (ps ++ p ∷ []) (n + 1) ≡ spelled_part spell p
+  last_part n [] [] p h e = rw (eq-eqb (n + 1) (n + 1) refl) refl
+  last_part n [] (q ∷ ps) p h e = absurd (omega (arith, e))
+  last_part n (m ∷ ns) [] p h e = absurd (omega (arith, e))
+  last_part n (m ∷ ns) (q ∷ ps) p h e = let low = h.0 in rw (ne_eqb m (n + 1) (λ same. omega (arith, low, same))) (last_part n ns ps p h.1 (omega (arith, e)))
 
-pub other_part : (n k : ℕ) (ns : List ℕ) (ps : List PartValue) (p : PartValue) → k < n + 1 → length ns ≡ length ps → part_bytes (ns ++ (n + 1) ∷ []) (ps ++ p ∷ []) k ≡ part_bytes ns ps k
-other_part n k [] [] p l e = rw (ne_eqb (n + 1) k (λ same. omega (arith, l, same))) refl
-other_part n k [] (q ∷ ps) p l e = absurd (omega (arith, e))
-other_part n k (m ∷ ns) [] p l e = absurd (omega (arith, e))
-other_part n k (m ∷ ns) (q ∷ ps) p l e = elim (cases_Bool (m == k)) [
-  | inl y ↦ rw y refl
-  | inr f ↦ rw f (other_part n k ns ps p l (omega (arith, e)))
-]
+  pub other_part : (n k : ℕ) (ns : List ℕ) (ps : List PartValue) (p : PartValue) → k < n + 1 → length ns ≡ length ps → part_bytes spell (ns ++ (n + 1) ∷ []) (ps ++ p ∷ []) k ≡ part_bytes spell ns ps k
+  other_part n k [] [] p l e = rw (ne_eqb (n + 1) k (λ same. omega (arith, l, same))) refl
+  other_part n k [] (q ∷ ps) p l e = absurd (omega (arith, e))
+  other_part n k (m ∷ ns) [] p l e = absurd (omega (arith, e))
+  other_part n k (m ∷ ns) (q ∷ ps) p l e = elim (cases_Bool (m == k)) [
+    | inl y ↦ rw y refl
+    | inr f ↦ rw f (other_part n k ns ps p l (omega (arith, e)))
+  ]

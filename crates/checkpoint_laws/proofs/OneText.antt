@@ -8,7 +8,7 @@ use Rattle.checkpoint_reader.specs.declared.fields.Fields.{Fields}
 use Rattle.checkpoint_reader.specs.Reads.{Answer}
 use Rattle.checkpoint_reader.specs.Fields.{ended, fields}
 use Rattle.checkpoint_reader.specs.Judging.{checkpoint_of, IsAnswer}
-use Rattle.checkpoint_laws.specs.Texts.{fields_text}
+use Rattle.checkpoint_laws.specs.Texts.{fields_text, version_in}
 use Rattle.checkpoint_laws.proofs.Eats.{answer, failed}
 use Rattle.checkpoint_laws.proofs.WholeTexts.{read_is_text}
 use Rattle.checkpoint_laws.proofs.Longer.{fields_lead}
@@ -24,26 +24,26 @@ fields_of : (r : Answer Fields) (k : Checkpoint) → IsAnswer r (Ok k) → Field
 fields_of (Ok read) k h = record { read = read.0; end = read.1; was = refl; is = h.0 }
 fields_of (Err fault) k h = absurd (let no : Ok k ≡ Err fault = h in cc)
 
--- the text of a checkpoint
-text_for : Checkpoint → List ℕ
-text_for k = fields_text (record {
+-- the text of a checkpoint in a version of the format
+text_for : ℕ → Checkpoint → List ℕ
+text_for version k = fields_text version (record {
   count = k.count;
   meter = k.meter;
-  cells = record { records = k.graph.cells; rerun = k.plan.rerun };
-  versions = record { records = k.graph.versions; copied = k.plan.copied; parts = k.parts; unlike = None };
+  cells = record { records = k.graph.cells; rerun = k.plan.rerun; known = 0 };
+  versions = record { records = k.graph.versions; copied = k.plan.copied; parts = k.parts; unlike = None; known = 0 };
 })
 
-same_text : (f : Fields) → fields_text f ≡ text_for (checkpoint_of f)
+same_text : (version : ℕ) (f : Fields) → fields_text version f ≡ text_for version (checkpoint_of f)
 unfolding text_for
-same_text f = refl
+same_text version f = refl
 
-is_text : (a : List ℕ) (k : Checkpoint) → All (λ b. b < 256) a → IsAnswer (fields a 0) (Ok k) → a ≡ text_for k
+is_text : (a : List ℕ) (k : Checkpoint) → All (λ b. b < 256) a → IsAnswer (fields a 0) (Ok k) → a ≡ text_for (version_in a) k
 is_text a k small h =
     let f = fields_of (fields a 0) k h in
-    (read_is_text a small f.read f.end f.was).0 ∙ (same_text f.read ∙ ap text_for (sym f.is))
+    (read_is_text a small f.read f.end f.was).0 ∙ (same_text (version_in a) f.read ∙ ap (text_for (version_in a)) (sym f.is))
 
-pub one_text : (a b : List ℕ) (k : Checkpoint) → All (λ b. b < 256) a → All (λ b. b < 256) b → IsAnswer (fields a 0) (Ok k) → IsAnswer (fields b 0) (Ok k) → a ≡ b
-one_text a b k small also h i = is_text a k small h ∙ sym (is_text b k also i)
+pub one_text : (a b : List ℕ) (k : Checkpoint) → All (λ b. b < 256) a → All (λ b. b < 256) b → version_in a ≡ version_in b → IsAnswer (fields a 0) (Ok k) → IsAnswer (fields b 0) (Ok k) → a ≡ b
+one_text a b k small also version h i = is_text a k small h ∙ (ap (λ (v : ℕ). text_for v k) version ∙ sym (is_text b k also i))
 
 pub no_prefix : (a more : List ℕ) (k l : Checkpoint) → All (λ b. b < 256) a → IsAnswer (fields a 0) (Ok k) → IsAnswer (fields (a ++ more) 0) (Ok l) → more ≡ []
 unfolding ended

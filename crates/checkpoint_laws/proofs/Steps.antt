@@ -1,20 +1,26 @@
 -- What each step of reading reads off its bytes.
-use Rattle.std.proofs.Common.{◌≡◌, ℕ, ◌+◌, ◌-◌, ◌<◌, ◌≤◌, ◌^◌, Bool, true, false, List, [], ◌∷◌, ◌++◌, length, take, drop, Ok, refl, sym, ap, ◌∙◌, arith, add-zero}
-use Rattle.std.specs.Prelude.{nat_le, slice_index, slice_range}
+use Rattle.std.proofs.Common.{◌≡◌, ℕ, ◌+◌, ◌-◌, ◌<◌, ◌≤◌, ◌^◌, Bool, true, false, List, [], ◌∷◌, ◌++◌, length, take, drop, Some, Ok, refl, sym, ap, ◌∙◌, arith, add-zero}
+use Rattle.std.specs.Prelude.{nat_le, slice_get, slice_index, slice_range}
 use Rattle.std.specs.List.{flat_map, AllByRecursion}
 use Rattle.std.proofs.lemmas.Bool.{le-leb}
 use Rattle.std.proofs.lemmas.List.{append-nil, append_assoc, length-append, drop_at, take_at}
 use Rattle.byteorder.specs.Endian.{big_number, big_bytes}
 use Rattle.byteorder.specs.Numbers.{big_number-reads_back, length-bytes_high_first}
 use Rattle.part_bytes.specs.declared.part.PartValue.{PartValue}
-use Rattle.part_bytes.specs.Texts.{four as four_bytes, name_bytes, text_bytes, bytes_of}
-use Rattle.checkpoint_reader.specs.PartReading.{part_read}
-use Rattle.checkpoint_laws.specs.SpelledParts.{HasPartText}
+use Rattle.part_bytes.specs.Tables.{number_of}
+use Rattle.part_bytes.specs.Texts.{four as four_bytes, name_bytes, text_bytes, by_number, spelled_part}
+use Rattle.part_bytes.specs.Uses.{texts_of}
+use Rattle.checkpoint_reader.specs.declared.forms.Texts.{Texts}
+use Rattle.checkpoint_reader.specs.declared.forms.Texts.TheVariants.{InPlace, Numbered}
+use Rattle.checkpoint_reader.specs.PartReading.{part_read2}
+use Rattle.checkpoint_laws.specs.SpelledParts.{counted, HasPartText}
+use Rattle.checkpoint_laws.proofs.Counts.{spell_of, numbers_of, some_same, AreThere}
+use Rattle.checkpoint_laws.proofs.Listed.{AreListed, IsTable, known_next, number_there}
 use Rattle.checkpoint_laws.proofs.Offs.{Stands, stands_first, stands_next}
-use Rattle.checkpoint_laws.proofs.WholeParts.{read_back}
+use Rattle.checkpoint_laws.proofs.WholeParts.{read_back_by}
 use Rattle.checkpoint_bytes.specs.Texts.{truth_byte, names_bytes}
 use Rattle.checkpoint_reader.specs.Reads.{Answer, Read, pure, after, turns, one_more, many}
-use Rattle.checkpoint_reader.specs.Fields.{format_of, bounded, truth_of, as_text_field, code_of, part_of, taken, byte, two, four, format, at_most, truth, code, name, numbers, names, part}
+use Rattle.checkpoint_reader.specs.Fields.{format_of, bounded, truth_of, as_text_field, code_of, code_there, numbered_code, part_of, taken, byte, two, four, format, at_most, truth, code, code_by_number, code_as, name, numbers, names, part}
 use Rattle.checkpoint_laws.specs.Spelled.{IsCode, IsName, AreNames, AreNumbers}
 
 abbrev pub answer : {A : Type 0} → A → ℕ → Answer A
@@ -77,9 +83,14 @@ module _ (bytes : List ℕ) where
       off_map (taken bytes at 4) (λ xs. big_number 4 xs) (big_bytes 4 n) (big_bytes 4 n) (off_taken at 4 (big_bytes 4 n) (sym (length-bytes_high_first 4 n))) at s
       ∙ ap (λ (k : ℕ). answer k (at + length (big_bytes 4 n))) (number_back 4 n l)
 
-  pub off_format : Off (format bytes) (0 ∷ 1 ∷ []) 1
+  -- the version of the format
+  pub off_format1 : Off (format bytes) (0 ∷ 1 ∷ []) 1
   unfolding format two
-  off_format = λ at s. ap (λ r. after (after r (λ xs. pure (big_number 2 xs))) (λ n. format_of n)) (off_taken at 2 (0 ∷ 1 ∷ []) refl at s)
+  off_format1 = λ at s. ap (λ r. after (after r (λ xs. pure (big_number 2 xs))) (λ n. format_of n)) (off_taken at 2 (0 ∷ 1 ∷ []) refl at s)
+
+  pub off_format2 : Off (format bytes) (0 ∷ 2 ∷ []) 2
+  unfolding format two
+  off_format2 = λ at s. ap (λ r. after (after r (λ xs. pure (big_number 2 xs))) (λ n. format_of n)) (off_taken at 2 (0 ∷ 2 ∷ []) refl at s)
 
   pub off_at_most : (most n : ℕ) → n ≤ most → n < 2 ^ 32 → Off (at_most bytes most) (four_bytes n) n
   unfolding at_most
@@ -90,11 +101,29 @@ module _ (bytes : List ℕ) where
   off_truth true = λ at s. off_end (byte bytes) (λ b. truth_of at b) (1 ∷ []) 1 true (off_byte 1) (λ end. refl) at s
   off_truth false = λ at s. off_end (byte bytes) (λ b. truth_of at b) (0 ∷ []) 0 false (off_byte 0) (λ end. refl) at s
 
-  pub off_code : (t : List ℕ) → IsCode t → Off (code bytes) (text_bytes t) t
+  off_spelled_code : (t : List ℕ) → IsCode t → Off (code bytes) (text_bytes t) t
   unfolding code
-  off_code t h = λ at s.
+  off_spelled_code t h = λ at s.
       off_then (four bytes) (λ n r. after (taken bytes at n r) (λ xs. code_of at xs)) (four_bytes (length t)) t (length t) t (off_four (length t) (let l = h.1 in omega (arith, l)))
       (off_end (taken bytes at (length t)) (λ xs. code_of at xs) t t t (off_taken at (length t) t refl) (λ end. rw (up_to (length t) 262148 h.1, h.0) refl)) at s
+
+  off_numbered_code : (table : List (List ℕ)) (t : List ℕ) (known next : ℕ) → AreListed table → IsCode t → counted known (number_of table t ∷ []) ≡ Some next → next ≤ length table
+      → Off (code_by_number bytes table known) (by_number table t) (t, next)
+  unfolding code_by_number
+  off_numbered_code table t known next ok h e room = λ at s.
+      let n = known_next known (number_of table t) next e in
+      let few = ok.few in
+      let low = n.below in
+      let there : slice_get table (number_of table t) ≡ Some t = number_there table t (omega (arith, room, low)) in
+      off_end (four bytes) (λ m. numbered_code table known at m) (four_bytes (number_of table t)) (number_of table t) (t, next) (off_four (number_of table t) (omega (arith, few, room, low)))
+      (λ end. rw (up_to (number_of table t) known n.old, there) (rw (up_to (length t) 262148 h.1) (ap (λ (k : ℕ). answer (t, k) end) n.then_))) at s
+
+  -- a code, and how many texts were referred to after it
+  pub off_code : (texts : Texts) (t : List ℕ) (known next : ℕ) → IsTable texts → IsCode t → counted known (numbers_of texts (t ∷ [])) ≡ Some next → AreThere texts next
+      → Off (code_as bytes texts known) (spell_of texts t) (t, next)
+  off_code InPlace t known next ok h e room = λ at s.
+      off_map (code bytes) (λ u. (u, known)) (text_bytes t) t (off_spelled_code t h) at s ∙ ap (λ (k : ℕ). answer (t, k) (at + length (text_bytes t))) (some_same known next e)
+  off_code (Numbered table) t known next ok h e room = off_numbered_code table t known next ok h e room
 
   pub off_name : (x : List ℕ) → IsName x → Off (name bytes) (name_bytes x) x
   unfolding name
@@ -124,6 +153,11 @@ module _ (bytes : List ℕ) where
 
   -- ---- a part
 
-  pub off_part : (p : PartValue) → HasPartText p → Off (part bytes) (bytes_of p) (p, length (bytes_of p))
+  -- and how many texts were referred to after it
+  pub off_part : (texts : Texts) (p : PartValue) (known next : ℕ) → IsTable texts → HasPartText p → counted known (numbers_of texts (texts_of p)) ≡ Some next → AreThere texts next
+      → Off (part bytes texts known) (spelled_part (spell_of texts) p) (p, next)
   unfolding part
-  off_part p h = λ at s. ap (λ r. part_of at r) (ap part_read (later at (bytes_of p) s) ∙ read_back p s.rest h)
+  off_part texts p known next ok h e room = λ at s.
+      let xs : List ℕ = spelled_part (spell_of texts) p in
+      let front : Stands (drop at bytes) 0 xs = record { front = []; rest = s.rest; is = later at xs s; where_ = refl } in
+      ap (λ r. part_of at r) (read_back_by texts ok (drop at bytes) p known next h e room front)

@@ -10,14 +10,10 @@ use Rattle.graph_model.specs.Graphs.{VersionAt}
 use Rattle.py_heap.specs.declared.state.State.{State}
 use Rattle.part_bytes.specs.declared.part.PartValue.{PartValue}
 use Rattle.part_bytes.specs.Parts.{part_of}
-use Rattle.part_bytes.specs.Texts.{part_text}
+use Rattle.checkpoint_bytes.specs.Texts.{table_of}
 use Rattle.checkpoint_laws.specs.SpelledParts.{HasPartText}
-use Rattle.checkpoint_bytes.specs.Texts.{lists}
 use Rattle.checkpoint_reader.specs.declared.checkpoint.Checkpoint.{Checkpoint}
-use Rattle.checkpoint_reader.specs.declared.fields.Cells.{Cells}
-use Rattle.checkpoint_reader.specs.declared.fields.Versions.{Versions}
-use Rattle.checkpoint_reader.specs.declared.fields.Fields.{Fields}
-use Rattle.checkpoint_reader.specs.Fields.{with_cell, with_version, with_copy, no_cells, no_versions, is_unlike}
+use Rattle.checkpoint_reader.specs.Fields.{is_unlike}
 
 abbrev pub IsCode : List ℕ → Type 0
 IsCode text = (is_utf8 text ≡ true) × (length text ≤ 262148)
@@ -51,7 +47,8 @@ pub record IsVersion (x : Version) : Type 0 where
 abbrev pub EachCopied : Graph → Plan → (Version → Type 0) → Type 0
 EachCopied g p P = (v : ℕ) (x : Version) → Contains p.copied v → VersionAt g v x → P x
 
-pub record HasText (s : State) (g : Graph) (p : Plan) : Type 0 where
+-- in version 1
+pub record HasText1 (s : State) (g : Graph) (p : Plan) : Type 0 where
   pub count : s.count < 2 ^ 32
   pub meter : s.meter ≤ 16777216
   pub few_cells : length g.cells < 2 ^ 32
@@ -60,24 +57,10 @@ pub record HasText (s : State) (g : Graph) (p : Plan) : Type 0 where
   pub versions : AllByRecursion IsVersion g.versions
   pub parts : EachCopied g p (λ x. HasPartText (part_of s x.names))
 
--- ---- what is read from it
-
--- these cells after those before, each run again if the plan says so
-abbrev pub cells_after : Plan → Cells → List CellRecord → Cells
-cells_after p before [] = before
-cells_after p before (x ∷ xs) = cells_after p (with_cell before (x, lists p.rerun (length before.records + 1))) xs
-
-abbrev pub version_after : State → Bool → Versions → Version → Versions
-version_after s true before x = with_copy before x (part_of s x.names, length (part_text s x.names))
-version_after s false before x = with_version before x
-
--- these versions after those before, each with its part if the plan copies it
-abbrev pub versions_after : State → Plan → Versions → List Version → Versions
-versions_after s p before [] = before
-versions_after s p before (x ∷ xs) = versions_after s p (version_after s (lists p.copied (length before.records + 1)) before x) xs
-
-abbrev pub read_of : State → Graph → Plan → Fields
-read_of s g p = record { count = s.count; meter = s.meter; cells = cells_after p no_cells g.cells; versions = versions_after s p no_versions g.versions }
+-- in version 2, if there are fewer than 2^32 texts
+pub record HasText (s : State) (g : Graph) (p : Plan) : Type 0 where
+  pub one : HasText1 s g p
+  pub texts : length (table_of s g p) < 2 ^ 32
 
 -- ---- the checkpoint that it is read as
 
@@ -91,7 +74,7 @@ part_at s g v = part_in s (slice_get g.versions (v - 1))
 
 -- a copied version is as its part
 abbrev pub IsLike : State → Version → Type 0
-IsLike s x = is_unlike x (part_of s x.names) (length (part_text s x.names)) ≡ false
+IsLike s x = is_unlike x (part_of s x.names) ≡ false
 
 -- the session's count and meter, its graph, the plan, and the part of each version that the plan copies
 abbrev pub checkpoint_for : State → Graph → Plan → Checkpoint

@@ -1,13 +1,15 @@
 -- A cell that is read is within its bounds, and a version that is read has no handle and no size if its name was deleted.
-use Rattle.std.proofs.Common.{◌≡◌, ℕ, ◌≤◌, Bool, true, false, List, length, Ok, Err, refl, sym, subst, inl, inr}
-use Rattle.std.specs.Prelude.{nat_le, ◌==◌, ◌||◌}
+use Rattle.std.proofs.Common.{◌≡◌, ℕ, ◌≤◌, Bool, true, false, List, length, Option, Some, None, Ok, Err, refl, sym, subst, inl, inr}
+use Rattle.std.specs.Prelude.{nat_le, ◌==◌, ◌||◌, slice_get}
 use Rattle.std.specs.Str.{is_utf8}
 use Rattle.std.proofs.lemmas.Bool.{cases_Bool, leb-true, eqb-true}
 use Rattle.graph_model.specs.declared.graph.CellRecord.{CellRecord}
 use Rattle.graph_model.specs.declared.graph.Version.{Version}
 use Rattle.checkpoint_bytes.specs.Sessions.{IsWithinBounds}
-use Rattle.checkpoint_reader.specs.Reads.{Answer, Read, place, after, ◌>>=◌}
-use Rattle.checkpoint_reader.specs.Fields.{bounded, as_text_field, code_of, size_of, taken, code, four, at_most, truth, numbers, names, cell, flag, size, version}
+use Rattle.checkpoint_reader.specs.Reads.{Answer, Read, pure, place, after, ◌>>=◌}
+use Rattle.checkpoint_reader.specs.declared.forms.Texts.{Texts}
+use Rattle.checkpoint_reader.specs.declared.forms.Texts.TheVariants.{InPlace, Numbered}
+use Rattle.checkpoint_reader.specs.Fields.{bounded, as_text_field, code_of, code_there, numbered_code, size_of, taken, code, code_by_number, code_as, four, at_most, truth, numbers, names, cell, flag, size, version}
 use Rattle.checkpoint_reader.specs.Numbered.{IsEmptyIfAbsent}
 
 -- what was read is such
@@ -60,6 +62,22 @@ short_code at xs to = elim (cases_Bool (nat_le (length xs) 262148)) [
   | inr l ↦ rw l tt
 ]
 
+abbrev IsShortCode : List ℕ × ℕ → Type 0
+IsShortCode c = IsShort c.0
+
+short_there : (at known n : ℕ) (t : Option (List ℕ)) (to : ℕ) → Has IsShortCode (code_there at known n t to)
+short_there at known n (Some t) to = elim (cases_Bool (nat_le (length t) 262148)) [
+  | inl l ↦ rw l (leb-true (length t) 262148 l)
+  | inr l ↦ rw l tt
+]
+short_there at known n None to = tt
+
+short_numbered : (all : List (List ℕ)) (known at n to : ℕ) → Has IsShortCode (numbered_code all known at n to)
+short_numbered all known at n to = elim (cases_Bool (nat_le n known)) [
+  | inl l ↦ rw l (short_there at known n (slice_get all n) to)
+  | inr l ↦ rw l tt
+]
+
 -- only a part without a handle has a size
 abbrev HasSizeBy : ℕ → ℕ → Type 0
 HasSizeBy kind n = ((kind == 0) || (n == 0)) ≡ true
@@ -81,16 +99,24 @@ module _ (bytes : List ℕ) where
   unfolding code
   code_gives = then_gives IsShort place _ (λ at. then_gives IsShort (four bytes) _ (λ n. then_gives IsShort (taken bytes at n) _ (λ xs. record { has = λ to. short_code at xs to })))
 
+  code_number_gives : (all : List (List ℕ)) (known : ℕ) → Gives IsShortCode (code_by_number bytes all known)
+  unfolding code_by_number
+  code_number_gives all known = then_gives IsShortCode place _ (λ at. then_gives IsShortCode (four bytes) _ (λ n. record { has = λ to. short_numbered all known at n to }))
+
+  code_as_gives : (texts : Texts) (known : ℕ) → Gives IsShortCode (code_as bytes texts known)
+  code_as_gives InPlace known = then_knowing IsShortCode IsShort (code bytes) (λ t. pure (t, known)) code_gives (λ t short. record { has = λ to. short })
+  code_as_gives (Numbered all) known = code_number_gives all known
+
   size_gives : (kind : ℕ) → Gives (HasSizeBy kind) (size bytes kind)
   unfolding size
   size_gives kind = then_gives (HasSizeBy kind) place _ (λ at. then_gives (HasSizeBy kind) (four bytes) _ (λ n. record { has = λ to. sized_by kind at n to }))
 
-  abbrev Bounded : CellRecord × Bool → Type 0
+  abbrev Bounded : CellRecord × Bool × ℕ → Type 0
   Bounded c = IsWithinBounds c.0
 
-  pub cell_bounded : Gives Bounded (cell bytes)
+  pub cell_bounded : (texts : Texts) (known : ℕ) → Gives Bounded (cell bytes texts known)
   unfolding cell
-  cell_bounded = then_knowing Bounded IsShort (code bytes) _ code_gives (λ text short.
+  cell_bounded texts known = then_knowing Bounded IsShortCode (code_as bytes texts known) _ (code_as_gives texts known) (λ text short.
       then_knowing Bounded (λ n. n ≤ 16777216) (at_most bytes 16777216) _ (at_most_gives bytes 16777216) (λ meter within.
       then_knowing Bounded (λ n. n ≤ 1000000) (at_most bytes 1000000) _ (at_most_gives bytes 1000000) (λ steps few.
       then_gives Bounded (truth bytes) _ (λ drew.

@@ -4,7 +4,8 @@ use Rattle.graph_model.specs.declared.graph.CellRecord.{CellRecord}
 use Rattle.graph_model.specs.declared.graph.Version.{Version}
 use Rattle.part_bytes.specs.declared.part.PartValue.{PartValue}
 use Rattle.checkpoint_reader.specs.declared.part_fault.PartFault.{PartFault}
-use Rattle.checkpoint_reader.specs.PartReading.{part_read}
+use Rattle.checkpoint_reader.specs.declared.forms.Texts.{Texts}
+use Rattle.checkpoint_reader.specs.PartReading.{part_read2}
 use Rattle.checkpoint_reader.specs.declared.fields.Cells.{Cells}
 use Rattle.checkpoint_reader.specs.declared.fields.Versions.{Versions}
 use Rattle.checkpoint_reader.specs.Reads.{Answer, pure, after}
@@ -18,40 +19,41 @@ abbrev read_of : {A : Type 0} → A → Answer A → A
 read_of none (Ok read) = read.0
 read_of none (Err fault) = none
 
-cells_from : (n : ℕ) (before now : Cells) (next : ℕ) (answer : Answer (CellRecord × Bool)) → AreCells n before → Has (λ c. IsWithinBounds c.0) answer
+cells_from : (n : ℕ) (before now : Cells) (next : ℕ) (answer : Answer (CellRecord × Bool × ℕ)) → AreCells n before → Has (λ c. IsWithinBounds c.0) answer
     → after answer (λ c. pure (with_cell before c)) ≡ Ok (now, next) → AreCells (n + 1) now
 cells_from n before now next (Ok read) a within e =
     let same : with_cell before read.0 ≡ now = ap (read_of now) e in
     subst (AreCells (n + 1)) same (cells_grow n before read.0 a within)
 cells_from n before now next (Err fault) a within e = absurd (let is = e in cc)
 
-pub cells_turn : (bytes : List ℕ) (n : ℕ) (before now : Cells) (at next : ℕ) → AreCells n before → next_cell bytes before at ≡ Ok (now, next) → AreCells (n + 1) now
+pub cells_turn : (texts : Texts) (bytes : List ℕ) (n : ℕ) (before now : Cells) (at next : ℕ) → AreCells n before → next_cell bytes texts before at ≡ Ok (now, next) → AreCells (n + 1) now
 unfolding next_cell
-cells_turn bytes n before now at next a e = cells_from n before now next (cell bytes at) a ((cell_bounded bytes).has at) e
+cells_turn texts bytes n before now at next a e = cells_from n before now next (cell bytes texts before.known at) a ((cell_bounded bytes texts before.known).has at) e
 
-copies_from : (n : ℕ) (before now : Versions) (x : Version) (at next : ℕ) (front : List ℕ) (answer : Result (PartValue × ℕ) PartFault) → part_read front ≡ answer → AreVersions n before → IsEmptyIfAbsent x
-    → after (part_of at answer) (λ copy. pure (with_copy before x copy)) ≡ Ok (now, next) → AreVersions (n + 1) now
-copies_from n before now x at next front (Ok copy) was a empty e =
+copies_from : (texts : Texts) (known n : ℕ) (before now : Versions) (x : Version) (at next : ℕ) (front : List ℕ) (answer : Result (PartValue × ℕ × ℕ) PartFault)
+    → part_read2 texts known front ≡ answer → AreVersions n before → IsEmptyIfAbsent x → after (part_of at answer) (λ copy. pure (with_copy before x copy)) ≡ Ok (now, next) → AreVersions (n + 1) now
+copies_from texts known n before now x at next front (Ok read) was a empty e =
+    let copy : PartValue × ℕ = (read.0, read.2) in
     let same : with_copy before x copy ≡ now = ap (read_of now) e in
-    subst (AreVersions (n + 1)) same (copies_grow n before x copy front was a empty)
-copies_from n before now x at next front (Err fault) was a empty e = absurd (let is = e in cc)
+    subst (AreVersions (n + 1)) same (copies_grow n before x copy texts known front read.1 read.2 was a empty)
+copies_from texts known n before now x at next front (Err fault) was a empty e = absurd (let is = e in cc)
 
-versions_kept : (bytes : List ℕ) (n : ℕ) (before now : Versions) (x : Version) (copied : Bool) (at next : ℕ) → AreVersions n before → IsEmptyIfAbsent x
-    → kept bytes before x copied at ≡ Ok (now, next) → AreVersions (n + 1) now
+versions_kept : (texts : Texts) (bytes : List ℕ) (n : ℕ) (before now : Versions) (x : Version) (copied : Bool) (at next : ℕ) → AreVersions n before → IsEmptyIfAbsent x
+    → kept bytes texts before x copied at ≡ Ok (now, next) → AreVersions (n + 1) now
 unfolding kept part
-versions_kept bytes n before now x true at next a empty e = copies_from n before now x at next (drop at bytes) (part_read (drop at bytes)) refl a empty e
-versions_kept bytes n before now x false at next a empty e =
+versions_kept texts bytes n before now x true at next a empty e = copies_from texts before.known n before now x at next (drop at bytes) (part_read2 texts before.known (drop at bytes)) refl a empty e
+versions_kept texts bytes n before now x false at next a empty e =
     let same : with_version before x ≡ now = ap (read_of now) e in
     subst (AreVersions (n + 1)) same (versions_grow n before x a empty)
 
-versions_from : (bytes : List ℕ) (n : ℕ) (before now : Versions) (next : ℕ) (answer : Answer (Version × Bool)) → AreVersions n before → Has (λ x. IsEmptyIfAbsent x.0) answer
-    → after answer (λ x. kept bytes before x.0 x.1) ≡ Ok (now, next) → AreVersions (n + 1) now
-versions_from bytes n before now next (Ok read) a empty e = versions_kept bytes n before now read.0.0 read.0.1 read.1 next a empty e
-versions_from bytes n before now next (Err fault) a empty e = absurd (let is = e in cc)
+versions_from : (texts : Texts) (bytes : List ℕ) (n : ℕ) (before now : Versions) (next : ℕ) (answer : Answer (Version × Bool)) → AreVersions n before → Has (λ x. IsEmptyIfAbsent x.0) answer
+    → after answer (λ x. kept bytes texts before x.0 x.1) ≡ Ok (now, next) → AreVersions (n + 1) now
+versions_from texts bytes n before now next (Ok read) a empty e = versions_kept texts bytes n before now read.0.0 read.0.1 read.1 next a empty e
+versions_from texts bytes n before now next (Err fault) a empty e = absurd (let is = e in cc)
 
-pub versions_turn : (bytes : List ℕ) (n : ℕ) (before now : Versions) (at next : ℕ) → AreVersions n before → next_version bytes before at ≡ Ok (now, next) → AreVersions (n + 1) now
+pub versions_turn : (texts : Texts) (bytes : List ℕ) (n : ℕ) (before now : Versions) (at next : ℕ) → AreVersions n before → next_version bytes texts before at ≡ Ok (now, next) → AreVersions (n + 1) now
 unfolding next_version
-versions_turn bytes n before now at next a e = versions_from bytes n before now next (version bytes at) a ((version_empty bytes).has at) e
+versions_turn texts bytes n before now at next a e = versions_from texts bytes n before now next (version bytes at) a ((version_empty bytes).has at) e
 
 -- n turns were made
 pub all_cells : (n i : ℕ) (cells : Cells) → n ≤ i → i ≤ n → AreCells i cells → AreCells n cells

@@ -1,4 +1,5 @@
 pub mod Turns
+pub mod Seen
 pub mod Bounds
 pub mod Numbers
 pub mod Growing

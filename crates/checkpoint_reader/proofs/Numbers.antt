@@ -10,7 +10,8 @@ use Rattle.graph_model.specs.declared.graph.Version.{Version}
 use Rattle.graph_model.proofs.Ascending.{ascends-push}
 use Rattle.checkpoint_bytes.specs.Sessions.{IsWithinBounds}
 use Rattle.part_bytes.specs.declared.part.PartValue.{PartValue}
-use Rattle.checkpoint_reader.specs.PartReading.{part_read}
+use Rattle.checkpoint_reader.specs.declared.forms.Texts.{Texts}
+use Rattle.checkpoint_reader.specs.PartReading.{part_read2}
 use Rattle.checkpoint_reader.specs.declared.fields.Cells.{Cells}
 use Rattle.checkpoint_reader.specs.declared.fields.Versions.{Versions}
 use Rattle.checkpoint_reader.specs.Fields.{marked, with_cell, with_version, with_copy, first_found, is_unlike}
@@ -35,7 +36,7 @@ numbers_marked n xs false a = numbers_stay n xs a
 one_longer : {X : Type 0} (n : ℕ) (xs : List X) (x : X) → length xs ≡ n → length (xs ++ x ∷ []) ≡ n + 1
 one_longer n xs x e = length-append xs (x ∷ []) ∙ ap (λ k. k + 1) e
 
-pub cells_grow : (n : ℕ) (before : Cells) (cell : CellRecord × Bool) → AreCells n before → IsWithinBounds cell.0 → AreCells (n + 1) (with_cell before cell)
+pub cells_grow : (n : ℕ) (before : Cells) (cell : CellRecord × Bool × ℕ) → AreCells n before → IsWithinBounds cell.0 → AreCells (n + 1) (with_cell before cell)
 cells_grow n before cell a within = record {
   size = one_longer n before.records cell.0 a.size;
   bounds = All-append IsWithinBounds before.records (cell.0 ∷ []) a.bounds (All-cons IsWithinBounds cell.0 [] within (All-nil IsWithinBounds));
@@ -91,29 +92,31 @@ none_found (Some m) n b e = absurd (let n = e in cc)
 none_found None n true e = absurd (let n = e in cc)
 none_found None n false e = (refl, refl)
 
-like_is_active : (x : Version) (part : PartValue) (size : ℕ) → is_unlike x part size ≡ false → x.replaced ≡ 0
-like_is_active x part size e = eqb-true x.replaced 0 (not-false (nat_eq x.replaced 0) (or_parts (not (nat_eq x.replaced 0)) _ e).0)
+like_is_active : (x : Version) (part : PartValue) → is_unlike x part ≡ false → x.replaced ≡ 0
+like_is_active x part e = eqb-true x.replaced 0 (not-false (nat_eq x.replaced 0) (or_parts (not (nat_eq x.replaced 0)) _ e).0)
 
 copy_active : (n : ℕ) (records : List Version) (x : Version) (v : ℕ) → length records ≡ n → n + 1 ≡ v → x.replaced ≡ 0 → IsKeptActive (records ++ x ∷ []) v
 copy_active n records x v size e r = let at : length records ≡ v - 1 = omega (arith, size, e) in
     (x, ap (λ (i : ℕ). slice_get (records ++ x ∷ []) i) (sym at) ∙ stands_last records x, r)
 
-last_copy : (records : List Version) (x : Version) (copy : PartValue × ℕ) (front : List ℕ) → part_read front ≡ Ok copy → is_unlike x copy.0 copy.1 ≡ false → IsCopyAt (records ++ x ∷ []) (length records + 1) copy.0
-last_copy records x copy front was like =
+last_copy : (records : List Version) (x : Version) (part : PartValue) (texts : Texts) (known : ℕ) (front : List ℕ) (size later : ℕ) → part_read2 texts known front ≡ Ok (part, size, later)
+    → is_unlike x part ≡ false → IsCopyAt (records ++ x ∷ []) (length records + 1) part
+last_copy records x part texts known front size later was like =
     let at : length records + 1 - 1 ≡ length records = omega arith in
-    (x, ap (slice_get (records ++ x ∷ [])) at ∙ stands_last records x, record { bytes = front; size = copy.1; was_read = was; agrees = like })
+    (x, ap (slice_get (records ++ x ∷ [])) at ∙ stands_last records x, record { texts = texts; known = known; bytes = front; size = size; later = later; was_read = was; agrees = like })
 
-pub copies_grow : (n : ℕ) (before : Versions) (x : Version) (copy : PartValue × ℕ) (front : List ℕ) → part_read front ≡ Ok copy → AreVersions n before → IsEmptyIfAbsent x → AreVersions (n + 1) (with_copy before x copy)
-copies_grow n before x copy front was a e = record {
+pub copies_grow : (n : ℕ) (before : Versions) (x : Version) (copy : PartValue × ℕ) (texts : Texts) (known : ℕ) (front : List ℕ) (size later : ℕ) → part_read2 texts known front ≡ Ok (copy.0, size, later)
+    → AreVersions n before → IsEmptyIfAbsent x → AreVersions (n + 1) (with_copy before x copy)
+copies_grow n before x copy texts known front size later was a e = record {
   size = one_longer n before.records x a.size;
   absent = empty_grow before.records x a.absent e;
   copied = subst (λ k. AreNumbers (n + 1) (before.copied ++ (k + 1) ∷ [])) (sym a.size) (numbers_put n before.copied a.copied);
-  active = λ u v c. let none = none_found before.unlike (length before.records + 1) (is_unlike x copy.0 copy.1) u in
+  active = λ u v c. let none = none_found before.unlike (length before.records + 1) (is_unlike x copy.0) u in
       elim (Contains-push_cases before.copied (length before.records + 1) v c) [
         | inl old ↦ active_stays before.records x v (a.active none.0 v old)
-        | inr last ↦ copy_active n before.records x v a.size (ap (λ k. k + 1) (sym a.size) ∙ last) (like_is_active x copy.0 copy.1 none.1)
+        | inr last ↦ copy_active n before.records x v a.size (ap (λ k. k + 1) (sym a.size) ∙ last) (like_is_active x copy.0 none.1)
       ];
-  copies = λ u. let none = none_found before.unlike (length before.records + 1) (is_unlike x copy.0 copy.1) u in
+  copies = λ u. let none = none_found before.unlike (length before.records + 1) (is_unlike x copy.0) u in
       zip_put (IsCopyAt (before.records ++ x ∷ [])) before.copied before.parts (length before.records + 1) copy.0 (copies_stay before.records x before.copied before.parts (a.copies none.0))
-      (last_copy before.records x copy front was none.1);
+      (last_copy before.records x copy.0 texts known front size later was none.1);
 }

@@ -1,6 +1,6 @@
 -- A part has no more bytes than there are.
 use Rattle.std.proofs.Common.{◌≡◌, ℕ, zero, suc, ◌+◌, ◌≤◌, Bool, true, false, List, [], ◌∷◌, ◌++◌, length, Option, Some, None, Result, Ok, Err, ap, subst, inl, inr, arith}
-use Rattle.std.specs.Prelude.{◌==◌, ◌&&◌, nat_lt, nat_le, if◌then◌else◌, is_some}
+use Rattle.std.specs.Prelude.{◌==◌, ◌&&◌, nat_lt, nat_le, if◌then◌else◌, is_some, slice_get}
 use Rattle.std.specs.Str.{is_utf8}
 use Rattle.std.proofs.lemmas.Bool.{cases_Bool, leb-true}
 use Rattle.py_tree.specs.declared.statements.Def.{Def}
@@ -20,9 +20,11 @@ use Rattle.checkpoint_reader.specs.declared.part_fault.PartFault.{PartFault}
 use Rattle.checkpoint_reader.specs.declared.part_fault.PartFault.TheVariants.{BadTag, BadRef, BadKey, BadName, BadText}
 use Rattle.py_heap.specs.declared.heap.SequenceKind.{SequenceKind}
 use Rattle.py_heap.specs.declared.heap.SequenceKind.TheVariants as sequences
+use Rattle.checkpoint_reader.specs.declared.forms.Texts.{Texts}
+use Rattle.checkpoint_reader.specs.declared.forms.Texts.TheVariants.{InPlace, Numbered}
 use Rattle.checkpoint_reader.specs.declared.spot.Spot.{Spot}
 use Rattle.checkpoint_reader.specs.PartReads.{Answer, Read, pure, fail, place, after, ◌>>=◌, more}
-use Rattle.checkpoint_reader.specs.PartReading.{follows, referred_to, builtin_of, builtin_at, function_of, is_object_tag, bounded, taken, byte, four, sixteen, text, name, key_by, reference, builtin, value_by, value, held, pair_with, pair, list_or_tuple, dict, function, content, object_by, object, objects, names, values, part, start, with_size, part_read}
+use Rattle.checkpoint_reader.specs.PartReading.{follows, text_there, numbered_text, referred_to, builtin_of, builtin_at, function_of, is_object_tag, bounded, taken, byte, four, sixteen, spelled_text, text_by_number, text, name, key_by, reference, builtin, value_by, value, held, pair_with, pair, list_or_tuple, dict, function, content, object_by, object, objects, names, values, part, start, with_known, part_read2}
 
 module _ (bytes : List ℕ) where
   -- an answer that goes on goes on within the bytes
@@ -83,19 +85,35 @@ module _ (bytes : List ℕ) where
   unfolding sixteen
   sixteen_within = then_within (taken_within 16) (λ xs. pure_within _)
 
-  text_within : Within (text bytes)
+  spelled_text_within : Within (spelled_text bytes)
+  unfolding spelled_text
+  spelled_text_within = then_within place_within (λ at. then_within four_within (λ n. then_within (taken_within n) (λ xs. within_if (is_utf8 xs) (pure_within xs) (fail_within (BadText at)))))
+
+  there_ends : (at n : ℕ) (o : Option (List ℕ)) (spot : Spot) → spot.at ≤ length bytes → Ends (text_there at n o spot)
+  there_ends at n (Some t) spot h = h
+  there_ends at n None spot h = tt
+
+  numbered_text_within : (table : List (List ℕ)) (at n : ℕ) → Within (numbered_text table at n)
+  numbered_text_within table at n = record {
+    ends = λ spot h. ends_if {A = List ℕ} (nat_le n spot.known) (text_there at n (slice_get table n) spot) (Err (BadRef at)) (there_ends at n (slice_get table n) spot h) tt;
+  }
+
+  text_by_number_within : (table : List (List ℕ)) → Within (text_by_number bytes table)
+  unfolding text_by_number
+  text_by_number_within table = then_within place_within (λ at. then_within four_within (λ n. numbered_text_within table at n))
+
+  text_within : (texts : Texts) → Within (text texts bytes)
   unfolding text
-  text_within = then_within place_within (λ at. then_within four_within (λ n. then_within (taken_within n) (λ xs. within_if (is_utf8 xs) (pure_within xs) (fail_within (BadText at)))))
+  text_within InPlace = spelled_text_within
+  text_within (Numbered table) = text_by_number_within table
 
   name_within : (before : List (List ℕ)) → Within (name bytes before)
   unfolding name
   name_within before = then_within place_within (λ at. then_within byte_within (λ n. then_within (taken_within n) (λ xs. within_if (is_variable xs && follows before xs) (pure_within xs) (fail_within (BadName at)))))
 
-  key_within : (at tag : ℕ) → Within (key_by bytes at tag)
-  unfolding key_by
-  key_within at tag = within_if (tag == 0) (pure_within the_key.Nothing) (within_if (tag == 1) (pure_within (the_key.Bool false)) (within_if (tag == 2) (pure_within (the_key.Bool true))
-      (within_if (tag == 3) (then_within sixteen_within (λ n. pure_within (the_key.Number n)))
-      (within_if (tag == 4) (then_within text_within (λ t. pure_within (the_key.Text t))) (fail_within (BadTag at))))))
+  names_within : Within (names bytes)
+  unfolding names
+  names_within = then_within place_within (λ at. then_within four_within (λ n. within_if (n == 0) (fail_within (BadName at)) (more_within (name bytes) name_within n [])))
 
   referred_within : (at n : ℕ) → Within (referred_to at n)
   referred_within at n = record {
@@ -116,83 +134,86 @@ module _ (bytes : List ℕ) where
   unfolding builtin
   builtin_within = then_within place_within (λ at. then_within byte_within (λ b. builtin_at_within at (builtin_of b)))
 
-  value_by_within : (at tag : ℕ) → Within (value_by bytes at tag)
-  unfolding value_by
-  value_by_within at tag = within_if (tag == 5) (reference_within at) (within_if (tag == 6) builtin_within (then_within (key_within at tag) (λ k. pure_within (value_of k))))
+  module _ (texts : Texts) where
+    key_within : (at tag : ℕ) → Within (key_by texts bytes at tag)
+    unfolding key_by
+    key_within at tag = within_if (tag == 0) (pure_within the_key.Nothing) (within_if (tag == 1) (pure_within (the_key.Bool false)) (within_if (tag == 2) (pure_within (the_key.Bool true))
+        (within_if (tag == 3) (then_within sixteen_within (λ n. pure_within (the_key.Number n)))
+        (within_if (tag == 4) (then_within (text_within texts) (λ t. pure_within (the_key.Text t))) (fail_within (BadTag at))))))
 
-  value_within : Within (value bytes)
-  unfolding value
-  value_within = then_within place_within (λ at. then_within byte_within (λ tag. value_by_within at tag))
+    value_by_within : (at tag : ℕ) → Within (value_by texts bytes at tag)
+    unfolding value_by
+    value_by_within at tag = within_if (tag == 5) (reference_within at) (within_if (tag == 6) builtin_within (then_within (key_within at tag) (λ k. pure_within (value_of k))))
 
-  held_within : (alone : Bool) → Within (held bytes alone)
-  unfolding held
-  held_within alone = then_within place_within (λ at. then_within byte_within (λ tag. within_if ((tag == 7) && alone) (pure_within None) (then_within (value_by_within at tag) (λ v. pure_within (Some v)))))
+    value_within : Within (value texts bytes)
+    unfolding value
+    value_within = then_within place_within (λ at. then_within byte_within (λ tag. value_by_within at tag))
 
-  pair_with_within : (at : ℕ) (before : Pairs) (k : Key) → Within (pair_with bytes at before k)
-  pair_with_within at before k = within_if (is_some (value_under before k)) (fail_within (BadKey at)) (then_within value_within (λ v. pure_within (k, v)))
+    held_within : (alone : Bool) → Within (held texts bytes alone)
+    unfolding held
+    held_within alone = then_within place_within (λ at. then_within byte_within (λ tag. within_if ((tag == 7) && alone) (pure_within None) (then_within (value_by_within at tag) (λ v. pure_within (Some v)))))
 
-  pair_within : (before : Pairs) → Within (pair bytes before)
-  unfolding pair
-  pair_within before = then_within place_within (λ at. then_within byte_within (λ tag. then_within (key_within at tag) (λ k. pair_with_within at before k)))
+    pair_with_within : (at : ℕ) (before : Pairs) (k : Key) → Within (pair_with texts bytes at before k)
+    pair_with_within at before k = within_if (is_some (value_under before k)) (fail_within (BadKey at)) (then_within value_within (λ v. pure_within (k, v)))
 
-  sequence_within : (kind : SequenceKind) → Within (list_or_tuple bytes kind)
-  unfolding list_or_tuple
-  sequence_within kind = then_within four_within (λ n. then_within (more_within (λ before. value bytes) (λ before. value_within) n []) (λ items. pure_within _))
+    pair_within : (before : Pairs) → Within (pair texts bytes before)
+    unfolding pair
+    pair_within before = then_within place_within (λ at. then_within byte_within (λ tag. then_within (key_within at tag) (λ k. pair_with_within at before k)))
 
-  dict_within : Within (dict bytes)
-  unfolding dict
-  dict_within = then_within four_within (λ n. then_within (more_within (pair bytes) pair_within n []) (λ pairs. pure_within _))
+    sequence_within : (kind : SequenceKind) → Within (list_or_tuple texts bytes kind)
+    unfolding list_or_tuple
+    sequence_within kind = then_within four_within (λ n. then_within (more_within (λ before. value texts bytes) (λ before. value_within) n []) (λ items. pure_within _))
 
-  function_of_within : (at : ℕ) (verdict : Result Def SyntaxFault) → Within (function_of at verdict)
-  function_of_within at (Ok def) = record { ends = λ spot h. h }
-  function_of_within at (Err fault) = record { ends = λ spot h. tt }
+    dict_within : Within (dict texts bytes)
+    unfolding dict
+    dict_within = then_within four_within (λ n. then_within (more_within (pair texts bytes) pair_within n []) (λ pairs. pure_within _))
 
-  function_within : Within (function bytes)
-  unfolding function
-  function_within = then_within place_within (λ at. then_within text_within (λ source. function_of_within at (verdict_alone source)))
+    function_of_within : (at : ℕ) (verdict : Result Def SyntaxFault) → Within (function_of at verdict)
+    function_of_within at (Ok def) = record { ends = λ spot h. h }
+    function_of_within at (Err fault) = record { ends = λ spot h. tt }
 
-  content_within : (tag : ℕ) → Within (content bytes tag)
-  unfolding content
-  content_within tag = within_if (tag == 16) (sequence_within sequences.List) (within_if (tag == 17) dict_within (within_if (tag == 18) function_within (sequence_within sequences.Tuple)))
+    function_within : Within (function texts bytes)
+    unfolding function
+    function_within = then_within place_within (λ at. then_within (text_within texts) (λ source. function_of_within at (verdict_alone source)))
 
-  object_by_within : (n at tag : ℕ) → Within (object_by bytes n at tag)
-  unfolding object_by
-  object_by_within n at tag = record {
-    ends = λ spot h. ends_if {A = Object} (is_object_tag tag) (if nat_lt n spot.met then content bytes tag spot else Err (BadRef at)) (Err (BadTag at))
-        (ends_if {A = Object} (nat_lt n spot.met) (content bytes tag spot) (Err (BadRef at)) ((content_within tag).ends spot h) tt) tt;
-  }
+    content_within : (tag : ℕ) → Within (content texts bytes tag)
+    unfolding content
+    content_within tag = within_if (tag == 16) (sequence_within sequences.List) (within_if (tag == 17) dict_within (within_if (tag == 18) function_within (sequence_within sequences.Tuple)))
 
-  object_within : (before : List Object) → Within (object bytes before)
-  unfolding object
-  object_within before = then_within place_within (λ at. then_within byte_within (λ tag. object_by_within (length before) at tag))
+    object_by_within : (n at tag : ℕ) → Within (object_by texts bytes n at tag)
+    unfolding object_by
+    object_by_within n at tag = record {
+      ends = λ spot h. ends_if {A = Object} (is_object_tag tag) (if nat_lt n spot.met then content texts bytes tag spot else Err (BadRef at)) (Err (BadTag at))
+          (ends_if {A = Object} (nat_lt n spot.met) (content texts bytes tag spot) (Err (BadRef at)) ((content_within tag).ends spot h) tt) tt;
+    }
 
-  bounded_within : (at n : ℕ) → Within (bounded at n)
-  bounded_within at n = record { ends = λ spot h. ends_if {A = ℕ} (nat_lt n spot.met) (Err (BadRef at)) (Ok (n, record spot { most = n })) tt h }
+    object_within : (before : List Object) → Within (object texts bytes before)
+    unfolding object
+    object_within before = then_within place_within (λ at. then_within byte_within (λ tag. object_by_within (length before) at tag))
 
-  objects_within : Within (objects bytes)
-  unfolding objects
-  objects_within = then_within place_within (λ at. then_within four_within (λ n. then_within (bounded_within at n) (λ m. more_within (object bytes) object_within m [])))
+    bounded_within : (at n : ℕ) → Within (bounded at n)
+    bounded_within at n = record { ends = λ spot h. ends_if {A = ℕ} (nat_lt n spot.met) (Err (BadRef at)) (Ok (n, record spot { most = n })) tt h }
 
-  names_within : Within (names bytes)
-  unfolding names
-  names_within = then_within place_within (λ at. then_within four_within (λ n. within_if (n == 0) (fail_within (BadName at)) (more_within (name bytes) name_within n [])))
+    objects_within : Within (objects texts bytes)
+    unfolding objects
+    objects_within = then_within place_within (λ at. then_within four_within (λ n. then_within (bounded_within at n) (λ m. more_within (object texts bytes) object_within m [])))
 
-  values_within : (n : ℕ) → Within (values bytes n)
-  unfolding values
-  values_within n = more_within (λ before. held bytes (n == 1)) (λ before. held_within (n == 1)) n []
+    values_within : (n : ℕ) → Within (values texts bytes n)
+    unfolding values
+    values_within n = more_within (λ before. held texts bytes (n == 1)) (λ before. held_within (n == 1)) n []
 
-  whole_within : Within (part bytes)
-  unfolding part
-  whole_within = then_within names_within (λ ns. then_within (values_within (length ns)) (λ vs. then_within objects_within (λ os. pure_within _)))
+    whole_within : Within (part texts bytes)
+    unfolding part
+    whole_within = then_within names_within (λ ns. then_within (values_within (length ns)) (λ vs. then_within objects_within (λ os. pure_within _)))
 
-abbrev size_of : Result (PartValue × ℕ) PartFault → ℕ
+abbrev size_of : Result (PartValue × ℕ × ℕ) PartFault → ℕ
 size_of (Ok read) = read.1
 size_of (Err fault) = 0
 
-size_within : (bytes : List ℕ) (answer : Answer PartValue) (part : PartValue) (n : ℕ) → Ends bytes answer → with_size answer ≡ Ok (part, n) → n ≤ length bytes
-size_within bytes (Ok read) part n h e = let same : read.1.at ≡ n = ap size_of e in subst (λ k. k ≤ length bytes) same h
-size_within bytes (Err fault) part n h e = absurd (let is = e in cc)
+size_within : (bytes : List ℕ) (answer : Answer PartValue) (read : PartValue × ℕ × ℕ) → Ends bytes answer → with_known answer ≡ Ok read → read.1 ≤ length bytes
+size_within bytes (Ok here) read h e = let same : here.1.at ≡ read.1 = ap size_of e in subst (λ k. k ≤ length bytes) same h
+size_within bytes (Err fault) read h e = absurd (let is = e in cc)
 
-pub part_within : (bytes : List ℕ) (read : PartValue) (n : ℕ) → part_read bytes ≡ Ok (read, n) → n ≤ length bytes
-unfolding part_read
-part_within bytes read n e = size_within bytes (part bytes start) read n ((whole_within bytes).ends start (omega arith)) e
+pub part_within : (texts : Texts) (known : ℕ) (bytes : List ℕ) (read : PartValue × ℕ × ℕ) → part_read2 texts known bytes ≡ Ok read → read.1 ≤ length bytes
+unfolding part_read2
+part_within texts known bytes read e = size_within bytes (part texts bytes (start known)) read ((whole_within bytes texts).ends (start known) (omega arith)) e

@@ -1,3 +1,4 @@
+pub mod Steps
 pub mod Reads
 pub mod Fields
 pub mod Numbered

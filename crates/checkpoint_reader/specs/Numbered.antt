@@ -6,7 +6,8 @@ use Rattle.graph_model.specs.declared.graph.Version.{Version}
 use Rattle.graph_model.specs.Faults.{Ascends}
 use Rattle.checkpoint_bytes.specs.Sessions.{IsWithinBounds}
 use Rattle.part_bytes.specs.declared.part.PartValue.{PartValue}
-use Rattle.checkpoint_reader.specs.PartReading.{part_read}
+use Rattle.checkpoint_reader.specs.declared.forms.Texts.{Texts}
+use Rattle.checkpoint_reader.specs.PartReading.{part_read2}
 use Rattle.checkpoint_reader.specs.declared.checkpoint.Checkpoint.{Checkpoint}
 use Rattle.checkpoint_reader.specs.declared.fields.Cells.{Cells}
 use Rattle.checkpoint_reader.specs.declared.fields.Versions.{Versions}
@@ -32,12 +33,16 @@ IsEmptyIfAbsent x = x.absent ≡ true → (x.handle ≡ false) × (x.size ≡ 0)
 abbrev pub IsKeptActive : List Version → ℕ → Type 0
 IsKeptActive records v = (x : Version) × (slice_get records (v - 1) ≡ Some x) × (x.replaced ≡ 0)
 
--- the part was read from some bytes for this version, and is as the version says
+-- the part was read from some bytes for this version, in either version of the format, and is as the version says: so its text in version 1
+-- is as long as the version's size
 pub record IsCopyOf (x : Version) (part : PartValue) : Type 0 where
+  pub texts : Texts
+  pub known : ℕ
   pub bytes : List ℕ
   pub size : ℕ
-  pub was_read : part_read bytes ≡ Ok (part, size)
-  pub agrees : is_unlike x part size ≡ false
+  pub later : ℕ
+  pub was_read : part_read2 texts known bytes ≡ Ok (part, size, later)
+  pub agrees : is_unlike x part ≡ false
 
 -- it was read for version v of these
 abbrev pub IsCopyAt : List Version → ℕ → PartValue → Type 0

@@ -1,4 +1,4 @@
--- How bytes are read as a part, as a definition that computes.
+-- How bytes are read as a part, as a definition that computes: of both versions of the format, which differ in how a text is read.
 use Rattle.std.specs.Prelude.{ℕ, ℤ, ◌+◌, ◌-◌, ◌^◌, ◌==◌, ◌&&◌, ◌||◌, nat_lt, nat_le, Bool, true, false, if◌then◌else◌, List, [], length, slice_get, slice_index, slice_range, Option, Some, None, is_some, Result, Ok, Err}
 use Rattle.std.specs.Int.{w128, cast_signed}
 use Rattle.std.specs.Str.{is_utf8}
@@ -25,6 +25,8 @@ use Rattle.py_heap.specs.Dicts.{Pairs, value_under}
 use Rattle.part_bytes.specs.declared.part.PartValue.{PartValue}
 use Rattle.checkpoint_reader.specs.declared.part_fault.PartFault.{PartFault}
 use Rattle.checkpoint_reader.specs.declared.part_fault.PartFault.TheVariants.{Cut, BadTag, BadRef, BadKey, BadName, BadText}
+use Rattle.checkpoint_reader.specs.declared.forms.Texts.{Texts}
+use Rattle.checkpoint_reader.specs.declared.forms.Texts.TheVariants.{InPlace, Numbered}
 use Rattle.checkpoint_reader.specs.declared.spot.Spot.{Spot}
 use Rattle.checkpoint_reader.specs.PartReads.{Read, pure, fail, place, ◌>>=◌, more}
 
@@ -32,6 +34,18 @@ use Rattle.checkpoint_reader.specs.PartReads.{Read, pure, fail, place, ◌>>=◌
 
 abbrev pub as_text : ℕ → List ℕ → Read (List ℕ)
 as_text at xs = if is_utf8 xs then pure xs else fail (BadText at)
+
+-- how many texts were referred to after this one, if `known` were before
+abbrev pub known_after : ℕ → ℕ → ℕ
+known_after known n = if n == known then n + 1 else known
+
+abbrev pub text_there : ℕ → ℕ → Option (List ℕ) → Read (List ℕ)
+text_there at n (Some t) spot = Ok (t, record spot { known = known_after spot.known n })
+text_there at n None spot = Err (BadRef at)
+
+-- the text of that number, which was referred to before or is the next one
+abbrev pub numbered_text : List (List ℕ) → ℕ → ℕ → Read (List ℕ)
+numbered_text table at n spot = if nat_le n spot.known then text_there at n (slice_get table n) spot else Err (BadRef at)
 
 abbrev pub stands_after : Option (List ℕ) → List ℕ → Bool
 stands_after None name = true
@@ -92,12 +106,24 @@ module _ (bytes : List ℕ) where
     xs ← taken 16
     pure (cast_signed w128 (big_number 16 xs))
 
-  unfoldable pub text : Read (List ℕ)
-  text = do
+  -- a text after its length
+  unfoldable pub spelled_text : Read (List ℕ)
+  spelled_text = do
     at ← place
     n ← four
     xs ← taken n
     as_text at xs
+
+  -- a text by its number in a table
+  unfoldable pub text_by_number : List (List ℕ) → Read (List ℕ)
+  text_by_number table = do
+    at ← place
+    n ← four
+    numbered_text table at n
+
+  abbrev pub text_as : Texts → Read (List ℕ)
+  text_as InPlace = spelled_text
+  text_as (Numbered table) = text_by_number table
 
   -- a name, after those before it
   unfoldable pub name : List (List ℕ) → Read (List ℕ)
@@ -107,10 +133,11 @@ module _ (bytes : List ℕ) where
     xs ← taken n
     name_of at before xs
 
-  -- a key with this tag, which is at that place
-  unfoldable pub key_by : ℕ → ℕ → Read Key
-  key_by at tag = if tag == 0 then pure the_key.Nothing else (if tag == 1 then pure (the_key.Bool false) else (if tag == 2 then pure (the_key.Bool true)
-      else (if tag == 3 then (sixteen >>= λ n. pure (the_key.Number n)) else (if tag == 4 then (text >>= λ t. pure (the_key.Text t)) else fail (BadTag at)))))
+  unfoldable pub names : Read (List (List ℕ))
+  names = do
+    at ← place
+    n ← four
+    if n == 0 then fail (BadName at) else more name n []
 
   unfoldable pub reference : ℕ → Read Value
   reference at = do
@@ -123,20 +150,29 @@ module _ (bytes : List ℕ) where
     b ← byte
     builtin_at at (builtin_of b)
 
+module _ (texts : Texts) (bytes : List ℕ) where
+  unfoldable pub text : Read (List ℕ)
+  text = text_as bytes texts
+
+  -- a key with this tag, which is at that place
+  unfoldable pub key_by : ℕ → ℕ → Read Key
+  key_by at tag = if tag == 0 then pure the_key.Nothing else (if tag == 1 then pure (the_key.Bool false) else (if tag == 2 then pure (the_key.Bool true)
+      else (if tag == 3 then (sixteen bytes >>= λ n. pure (the_key.Number n)) else (if tag == 4 then (text >>= λ t. pure (the_key.Text t)) else fail (BadTag at)))))
+
   unfoldable pub value_by : ℕ → ℕ → Read Value
-  value_by at tag = if tag == 5 then reference at else (if tag == 6 then builtin else (key_by at tag >>= λ k. pure (value_of k)))
+  value_by at tag = if tag == 5 then reference bytes at else (if tag == 6 then builtin bytes else (key_by at tag >>= λ k. pure (value_of k)))
 
   unfoldable pub value : Read Value
   value = do
     at ← place
-    tag ← byte
+    tag ← byte bytes
     value_by at tag
 
   -- what a name has; only a name that is alone may have no value
   unfoldable pub held : Bool → Read (Option Value)
   held alone = do
     at ← place
-    tag ← byte
+    tag ← byte bytes
     if (tag == 7) && alone then pure None else (value_by at tag >>= λ v. pure (Some v))
 
   abbrev pub pair_with : ℕ → Pairs → Key → Read (Key × Value)
@@ -146,19 +182,19 @@ module _ (bytes : List ℕ) where
   unfoldable pub pair : Pairs → Read (Key × Value)
   pair before = do
     at ← place
-    tag ← byte
+    tag ← byte bytes
     k ← key_by at tag
     pair_with at before k
 
   unfoldable pub list_or_tuple : SequenceKind → Read Object
   list_or_tuple kind = do
-    n ← four
+    n ← four bytes
     items ← more (λ before. value) n []
     pure (sequence kind items)
 
   unfoldable pub dict : Read Object
   dict = do
-    n ← four
+    n ← four bytes
     pairs ← more pair n []
     pure (the_object.Dict pairs)
 
@@ -178,42 +214,45 @@ module _ (bytes : List ℕ) where
   unfoldable pub object : List Object → Read Object
   object before = do
     at ← place
-    tag ← byte
+    tag ← byte bytes
     object_by (length before) at tag
 
   unfoldable pub objects : Read (List Object)
   objects = do
     at ← place
-    n ← four
+    n ← four bytes
     m ← bounded at n
     more object m []
-
-  unfoldable pub names : Read (List (List ℕ))
-  names = do
-    at ← place
-    n ← four
-    if n == 0 then fail (BadName at) else more name n []
 
   unfoldable pub values : ℕ → Read (List (Option Value))
   values n = more (λ before. held (n == 1)) n []
 
   unfoldable pub part : Read PartValue
   part = do
-    ns ← names
+    ns ← names bytes
     vs ← values (length ns)
     os ← objects
     pure (record { names = ns; values = vs; objects = os })
 
 -- ---- the whole
 
--- at the first byte nothing was referred to, and as many objects may be as four bytes can number
-abbrev pub start : Spot
-start = record { at = 0; met = 0; most = 2 ^ 32 }
+-- at the first byte no object was referred to, and as many may be as four bytes can number; so many texts were
+abbrev pub start : ℕ → Spot
+start known = record { at = 0; met = 0; most = 2 ^ 32; known = known }
 
 abbrev pub with_size : Result (PartValue × Spot) PartFault → Result (PartValue × ℕ) PartFault
 with_size (Ok read) = Ok (read.0, read.1.at)
 with_size (Err fault) = Err fault
 
--- the part and the number of its bytes, or the first fault in the text
+-- version 1: the part and the number of its bytes, or the first fault in the text
 unfoldable pub part_read : List ℕ → Result (PartValue × ℕ) PartFault
-part_read bytes = with_size (part bytes start)
+part_read bytes = with_size (part InPlace bytes (start 0))
+
+abbrev pub with_known : Result (PartValue × Spot) PartFault → Result (PartValue × ℕ × ℕ) PartFault
+with_known (Ok read) = Ok (read.0, read.1.at, read.1.known)
+with_known (Err fault) = Err fault
+
+-- a part in a checkpoint of either version, before which so many texts were referred to: the part, the number of its bytes, and how many texts
+-- were referred to after it; or the first fault
+unfoldable pub part_read2 : Texts → ℕ → List ℕ → Result (PartValue × ℕ × ℕ) PartFault
+part_read2 texts known bytes = with_known (part texts bytes (start known))

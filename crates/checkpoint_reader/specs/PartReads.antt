@@ -1,37 +1,20 @@
--- Steps of reading: what is read at a spot, and where the next step goes on, or why the bytes begin with no part.
-use Rattle.std.specs.Prelude.{◌≡◌, ℕ, zero, suc, Bool, true, false, List, [], ◌∷◌, ◌++◌, Result, Ok, Err}
+-- Steps of reading a part.
+use Rattle.std.specs.Prelude.{◌≡◌, ℕ, Bool, true, false, Result, Ok, Err}
 use Rattle.checkpoint_reader.specs.declared.part_fault.PartFault.{PartFault}
 use Rattle.checkpoint_reader.specs.declared.part_fault.PartFault.TheVariants.{OutOfMemory, Cut, BadTag, BadRef, BadKey, BadName, BadText}
 use Rattle.checkpoint_reader.specs.declared.spot.Spot.{Spot}
+use Rattle.checkpoint_reader.specs.Steps as steps
+pub use Rattle.checkpoint_reader.specs.Steps.{pure, fail, after, ◌>>=◌, more}
 
 abbrev pub Answer : Type 0 → Type 0
-Answer A = Result (A × Spot) PartFault
+Answer A = steps.Answer Spot PartFault A
 
 abbrev pub Read : Type 0 → Type 0
-Read A = Spot → Answer A
-
-abbrev pub pure : {A : Type 0} → A → Read A
-pure a spot = Ok (a, spot)
-
-abbrev pub fail : {A : Type 0} → PartFault → Read A
-fail fault spot = Err fault
+Read A = steps.Read Spot PartFault A
 
 -- the place of the next byte
 abbrev pub place : Read ℕ
 place spot = Ok (spot.at, spot)
-
-abbrev pub after : {A B : Type 0} → Answer A → (A → Read B) → Answer B
-after (Ok read) next = next read.0 read.1
-after (Err fault) next = Err fault
-
-infixl 10 ◌>>=◌
-abbrev pub ◌>>=◌ : {A B : Type 0} → Read A → (A → Read B) → Read B
-m >>= next = λ spot. after (m spot) next
-
--- n steps, each of which knows what the steps before it read
-abbrev pub more : {A : Type 0} → (List A → Read A) → ℕ → List A → Read (List A)
-more step zero before = pure before
-more step (suc n) before = step before >>= λ a. more step n (before ++ a ∷ [])
 
 -- ---- what a function ensures: the answer, unless memory runs out
 

@@ -6,6 +6,7 @@ ghost use Rattle.checkpoint_reader.specs.Numbered.{AreCells};
 use crate::bytes::{read_at_most, read_four, read_truth};
 use crate::fault::CheckpointFault;
 use crate::fields::Cells;
+use crate::forms::Texts;
 use crate::texts::{read_code, read_names, read_numbers};
 use graph_model::CellRecord;
 use plain_data::Items;
@@ -17,16 +18,18 @@ pub(crate) const MOST_METER: u32 = 16_777_216;
 /// The most steps of a cell.
 const MOST_STEPS: u32 = 1_000_000;
 
-/// A cell, and whether the plan runs it again.
+/// A cell, if so many texts were referred to before it; whether the plan runs it again; and how many texts were referred to after it.
 #[tactic(auto, unfolding(crate::specs::Fields::cell))]
 fn read_cell(
     alloc: Global,
     bytes: &[u8],
     spot: &mut usize,
-) -> Result<(CellRecord, bool), CheckpointFault>
-    ensures { Is (spec.cell bytes.now spot.old) result spot.new }
+    texts: &Texts,
+    known: usize,
+) -> Result<(CellRecord, bool, usize), CheckpointFault>
+    ensures { Is (spec.cell bytes.now texts.now known spot.old) result spot.new }
 {
-    let code = read_code(alloc, bytes, spot)?;
+    let (code, known) = read_code(alloc, bytes, spot, texts, known)?;
     let meter = read_at_most(bytes, spot, MOST_METER)?;
     let steps = read_at_most(bytes, spot, MOST_STEPS)?;
     let drew = read_truth(bytes, spot)?;
@@ -41,23 +44,25 @@ fn read_cell(
         reads,
         missing,
     };
-    Ok((cell, rerun))
+    Ok((cell, rerun, known))
 }
 
-/// The cells, and one more with its number and whether the plan runs it again.
+/// The cells, and one more with its number, whether the plan runs it again, and how many texts were referred to after it.
 fn with_cell(
     mut cells: Cells,
     number: u32,
     cell: CellRecord,
     rerun: bool,
+    known: usize,
 ) -> Result<Cells, AllocError>
     requires { number ≡ length cells.records + 1 }
-    ensures { IfOk result (λ now. now ≡ spec.with_cell cells (cell, rerun)) }
+    ensures { IfOk result (λ now. now ≡ spec.with_cell cells (cell, rerun, known)) }
 {
     cells.records.push(cell)?;
     if rerun {
         cells.rerun.push(number)?;
     }
+    cells.known = known;
     Ok(cells)
 }
 
@@ -67,14 +72,15 @@ fn read_next_cell(
     alloc: Global,
     bytes: &[u8],
     spot: &mut usize,
+    texts: &Texts,
     number: u32,
     before: Cells,
 ) -> Result<Cells, CheckpointFault>
     requires { number ≡ length before.records + 1 }
-    ensures { Is (spec.next_cell bytes.now before spot.old) result spot.new }
+    ensures { Is (spec.next_cell bytes.now texts.now before spot.old) result spot.new }
 {
-    let (cell, rerun) = read_cell(alloc, bytes, spot)?;
-    Ok(with_cell(before, number, cell, rerun)?)
+    let (cell, rerun, known) = read_cell(alloc, bytes, spot, texts, before.known)?;
+    Ok(with_cell(before, number, cell, rerun, known)?)
 }
 
 /// `count` cells.
@@ -82,17 +88,19 @@ fn read_all_cells(
     alloc: Global,
     bytes: &[u8],
     spot: &mut usize,
+    texts: &Texts,
     count: u32,
 ) -> Result<Cells, CheckpointFault>
-    ensures exact { Is (turns (spec.next_cell bytes.now) count spec.no_cells spot.old) result spot.new }
+    ensures exact { Is (turns (spec.next_cell bytes.now texts.now) count spec.no_cells spot.old) result spot.new }
     ensures sound { IfOk result (AreCells count) }
 {
     let mut cells = Cells {
         records: Items::new(alloc),
         rerun: Items::new(alloc),
+        known: 0,
     };
     for index in 0..count {
-        cells = read_next_cell(alloc, bytes, spot, index + 1, cells)?;
+        cells = read_next_cell(alloc, bytes, spot, texts, index + 1, cells)?;
     }
     Ok(cells)
 }
@@ -103,10 +111,11 @@ pub(crate) fn read_cells(
     alloc: Global,
     bytes: &[u8],
     spot: &mut usize,
+    texts: &Texts,
 ) -> Result<Cells, CheckpointFault>
-    ensures exact { Is (spec.cells bytes.now spot.old) result spot.new }
+    ensures exact { Is (spec.cells bytes.now texts.now spot.old) result spot.new }
     ensures sound { IfOk result (λ cells. AreCells (length cells.records) cells × (length cells.records < 2 ^ 32)) }
 {
     let count = read_four(bytes, spot)?;
-    read_all_cells(alloc, bytes, spot, count)
+    read_all_cells(alloc, bytes, spot, texts, count)
 }

@@ -11,7 +11,7 @@ pub enum CheckpointFault {
     OutOfMemory,
     /// The bytes don't begin with `ENCK`, and `ENCK` doesn't begin with them.
     BadMagic,
-    /// The version of the format, which isn't 1. It is at byte 4.
+    /// The version of the format, which is neither 1 nor 2. It is at byte 4.
     BadVersion(u16),
     /// The bytes end within the field at that place.
     Cut(usize),
@@ -23,7 +23,7 @@ pub enum CheckpointFault {
     PlanDisagrees(Item),
     /// The first byte after the last version.
     Trailing(usize),
-    /// A field that has a value which it can't have.
+    /// A field that has a value which it can't have; a text of the table that is equal to an earlier one; or one to which nothing refers.
     BadField(usize),
 }
 

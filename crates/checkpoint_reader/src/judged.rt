@@ -22,12 +22,17 @@ pub(crate) fn judged(alloc: Global, read: Fields) -> Result<Checkpoint, Checkpoi
         cells,
         versions,
     } = read;
-    let Cells { records, rerun } = cells;
+    let Cells {
+        records,
+        rerun,
+        known: _cells_known,
+    } = cells;
     let Versions {
         records: all,
         copied,
         parts,
         unlike,
+        known: _known,
     } = versions;
     let graph = Graph {
         cells: records,

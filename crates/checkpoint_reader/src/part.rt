@@ -1,8 +1,9 @@
 ghost use Rattle.std.specs.Prelude.{◌≡◌, [], true};
 ghost use Rattle.checkpoint_reader.specs.PartReads.{Is, more, tells};
 ghost use Rattle.checkpoint_reader.specs.PartReading as spec;
-ghost use Rattle.checkpoint_reader.specs.PartReading.{part_read};
+ghost use Rattle.checkpoint_reader.specs.PartReading.{part_read, part_read2};
 
+use crate::forms::Texts;
 use crate::part_fault::PartFault;
 use crate::part_fields::{read_byte, read_four, take_bytes};
 use crate::part_objects::read_objects;
@@ -124,28 +125,34 @@ fn read_all_held(
     alloc: Global,
     bytes: &[u8],
     spot: &mut Spot,
+    texts: &Texts,
     count: usize,
     alone: bool,
 ) -> Result<Items<Option<Value>>, PartFault>
-    ensures { Is (more (λ before. spec.held bytes.now alone) count [] spot.old) result spot.new }
+    ensures { Is (more (λ before. spec.held texts.now bytes.now alone) count [] spot.old) result spot.new }
 {
     let mut all = Items::new(alloc);
     for index in 0..count {
-        let next = read_held(alloc, bytes, spot, alone)?;
+        let next = read_held(alloc, bytes, spot, texts, alone)?;
         all.push(next)?;
     }
     Ok(all)
 }
 
 #[tactic(auto, unfolding(crate::specs::PartReading::part, crate::specs::PartReading::values))]
-fn read_whole(alloc: Global, bytes: &[u8], spot: &mut Spot) -> Result<PartValue, PartFault>
-    ensures { Is (spec.part bytes.now spot.old) result spot.new }
+fn read_whole(
+    alloc: Global,
+    bytes: &[u8],
+    spot: &mut Spot,
+    texts: &Texts,
+) -> Result<PartValue, PartFault>
+    ensures { Is (spec.part texts.now bytes.now spot.old) result spot.new }
 {
     let names = read_names(alloc, bytes, spot)?;
     let count = names.len();
     let alone = count == 1;
-    let values = read_all_held(alloc, bytes, spot, count, alone)?;
-    let objects = read_objects(alloc, bytes, spot)?;
+    let values = read_all_held(alloc, bytes, spot, texts, count, alone)?;
+    let objects = read_objects(alloc, bytes, spot, texts)?;
     Ok(PartValue {
         names,
         values,
@@ -153,7 +160,28 @@ fn read_whole(alloc: Global, bytes: &[u8], spot: &mut Spot) -> Result<PartValue,
     })
 }
 
-/// Reads the part that the bytes begin with, and says how many bytes it has; or the first fault in the text.
+/// Reads the part of a checkpoint that the bytes begin with, whose texts are read so, and before which `known` texts of the table were referred to.
+/// Says how many bytes it has, and how many texts were referred to after it; or the first fault in the bytes.
+#[tactic(auto, unfolding(crate::specs::PartReading::part_read2))]
+pub fn read_part2(
+    alloc: Global,
+    bytes: &[u8],
+    texts: &Texts,
+    known: usize,
+) -> Result<(PartValue, usize, usize), PartFault>
+    ensures { tells result ≡ true → part_read2 texts.now known bytes.now ≡ result }
+{
+    let mut spot = Spot {
+        at: 0,
+        met: 0,
+        most: MOST_OBJECTS,
+        known,
+    };
+    let part = read_whole(alloc, bytes, &mut spot, texts)?;
+    Ok((part, spot.at, spot.known))
+}
+
+/// Reads the part that the bytes begin with in version 1, and says how many bytes it has; or the first fault in the text.
 #[tactic(auto, unfolding(crate::specs::PartReading::part_read))]
 pub fn read_part(alloc: Global, bytes: &[u8]) -> Result<(PartValue, usize), PartFault>
     ensures { tells result ≡ true → part_read bytes.now ≡ result }
@@ -162,7 +190,8 @@ pub fn read_part(alloc: Global, bytes: &[u8]) -> Result<(PartValue, usize), Part
         at: 0,
         met: 0,
         most: MOST_OBJECTS,
+        known: 0,
     };
-    let part = read_whole(alloc, bytes, &mut spot)?;
+    let part = read_whole(alloc, bytes, &mut spot, &Texts::InPlace)?;
     Ok((part, spot.at))
 }

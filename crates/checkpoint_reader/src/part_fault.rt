@@ -11,7 +11,7 @@ pub enum PartFault {
     /// A tag that can't be there, or a byte that no built-in function has.
     BadTag(usize),
     /// A reference whose number is neither that of an object referred to before nor the next one; an object that nothing
-    /// before it refers to; or fewer objects than were referred to.
+    /// before it refers to; fewer objects than were referred to; or such a number of a text, or one that no text has.
     BadRef(usize),
     /// A key equal to an earlier one of its dict.
     BadKey(usize),

@@ -3,9 +3,12 @@ ghost use Rattle.std.specs.Str.{is_utf8};
 ghost use Rattle.checkpoint_reader.specs.PartReads.{Is};
 ghost use Rattle.checkpoint_reader.specs.PartReading as spec;
 
+use crate::forms::Texts;
 use crate::part_fault::PartFault;
 use crate::spot::Spot;
 use byteorder::{BigEndian, ByteOrder};
+use plain_data::{Items, SharedText};
+use std::alloc::Global;
 use std::str::from_utf8;
 
 /// The next bytes.
@@ -64,12 +67,67 @@ fn text_of(xs: &[u8], at: usize) -> Result<&str, PartFault>
 }
 
 /// A text after its length.
-#[tactic(auto, unfolding(crate::specs::PartReading::text))]
-pub(crate) fn read_text<'a>(bytes: &'a [u8], spot: &mut Spot) -> Result<&'a str, PartFault>
-    ensures { MatchResult result (λ text. spec.text bytes.now spot.old ≡ Ok (text.now, spot.new)) (λ e. Is (spec.text bytes.now spot.old) (Err e) spot.new) }
+#[tactic(auto, unfolding(crate::specs::PartReading::spelled_text))]
+fn read_spelled_text(alloc: Global, bytes: &[u8], spot: &mut Spot) -> Result<SharedText, PartFault>
+    ensures { Is (spec.spelled_text bytes.now spot.old) result spot.new }
 {
     let at = spot.at;
     let n = read_four(bytes, spot)?;
     let xs = take_bytes(bytes, spot, n as usize)?;
-    text_of(xs, at)
+    let text = text_of(xs, at)?;
+    Ok(SharedText::from_str(alloc, text)?)
+}
+
+/// The text of that number, which is at that place: one that was referred to before, or the next one.
+#[tactic(auto, using(std::proofs::lemmas::Bool::Decides::nat_tests))]
+fn numbered_text(
+    table: &Items<SharedText>,
+    at: usize,
+    number: u32,
+    spot: &mut Spot,
+) -> Result<SharedText, PartFault>
+    ensures { Is (spec.numbered_text table.now at number spot.old) result spot.new }
+{
+    let place = number as usize;
+    if place > spot.known {
+        return Err(PartFault::BadRef(at));
+    }
+    let Some(text) = table.get(place) else {
+        return Err(PartFault::BadRef(at));
+    };
+    let shared = text.share()?;
+    if place == spot.known {
+        spot.known = place + 1;
+    }
+    Ok(shared)
+}
+
+/// A text by its number in a table.
+#[tactic(auto, unfolding(crate::specs::PartReading::text_by_number))]
+fn read_text_by_number(
+    bytes: &[u8],
+    spot: &mut Spot,
+    table: &Items<SharedText>,
+) -> Result<SharedText, PartFault>
+    ensures { Is (spec.text_by_number bytes.now table.now spot.old) result spot.new }
+{
+    let at = spot.at;
+    let n = read_four(bytes, spot)?;
+    numbered_text(table, at, n, spot)
+}
+
+/// A text, which is in its place or in a table.
+#[tactic(auto, unfolding(crate::specs::PartReading::text))]
+pub(crate) fn read_text(
+    alloc: Global,
+    bytes: &[u8],
+    spot: &mut Spot,
+    texts: &Texts,
+) -> Result<SharedText, PartFault>
+    ensures { Is (spec.text texts.now bytes.now spot.old) result spot.new }
+{
+    match texts {
+        Texts::InPlace => read_spelled_text(alloc, bytes, spot),
+        Texts::Numbered(table) => read_text_by_number(bytes, spot, table),
+    }
 }

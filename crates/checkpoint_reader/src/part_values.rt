@@ -2,11 +2,12 @@ ghost use Rattle.std.specs.Prelude.{◌≡◌, []};
 ghost use Rattle.checkpoint_reader.specs.PartReads.{Is, more};
 ghost use Rattle.checkpoint_reader.specs.PartReading as spec;
 
+use crate::forms::Texts;
 use crate::part_fault::PartFault;
 use crate::part_fields::{read_byte, read_four, read_sixteen, read_text};
 use crate::spot::Spot;
 use part_bytes::tag::{ABSENT, BUILTIN, FALSE, NOTHING, NUMBER, REFERENCE, TEXT, TRUE};
-use plain_data::{Items, SharedText};
+use plain_data::Items;
 use py_value::{Builtin, Key, Value};
 use std::alloc::Global;
 
@@ -16,10 +17,11 @@ pub(crate) fn read_key(
     alloc: Global,
     bytes: &[u8],
     spot: &mut Spot,
+    texts: &Texts,
     at: usize,
     tag: u8,
 ) -> Result<Key, PartFault>
-    ensures { Is (spec.key_by bytes.now at tag spot.old) result spot.new }
+    ensures { Is (spec.key_by texts.now bytes.now at tag spot.old) result spot.new }
 {
     match tag {
         NOTHING => Ok(Key::Nothing),
@@ -30,8 +32,8 @@ pub(crate) fn read_key(
             Ok(Key::Number(number))
         }
         TEXT => {
-            let text = read_text(bytes, spot)?;
-            Ok(Key::Text(SharedText::from_str(alloc, text)?))
+            let text = read_text(alloc, bytes, spot, texts)?;
+            Ok(Key::Text(text))
         }
         _ => Err(PartFault::BadTag(at)),
     }
@@ -90,10 +92,11 @@ pub(crate) fn read_value_by(
     alloc: Global,
     bytes: &[u8],
     spot: &mut Spot,
+    texts: &Texts,
     at: usize,
     tag: u8,
 ) -> Result<Value, PartFault>
-    ensures { Is (spec.value_by bytes.now at tag spot.old) result spot.new }
+    ensures { Is (spec.value_by texts.now bytes.now at tag spot.old) result spot.new }
 {
     if tag == REFERENCE {
         return read_reference(bytes, spot, at);
@@ -101,17 +104,22 @@ pub(crate) fn read_value_by(
     if tag == BUILTIN {
         return read_builtin(bytes, spot);
     }
-    let key = read_key(alloc, bytes, spot, at, tag)?;
+    let key = read_key(alloc, bytes, spot, texts, at, tag)?;
     Ok(key.value()?)
 }
 
 #[tactic(auto, unfolding(crate::specs::PartReading::value))]
-pub(crate) fn read_value(alloc: Global, bytes: &[u8], spot: &mut Spot) -> Result<Value, PartFault>
-    ensures { Is (spec.value bytes.now spot.old) result spot.new }
+pub(crate) fn read_value(
+    alloc: Global,
+    bytes: &[u8],
+    spot: &mut Spot,
+    texts: &Texts,
+) -> Result<Value, PartFault>
+    ensures { Is (spec.value texts.now bytes.now spot.old) result spot.new }
 {
     let at = spot.at;
     let tag = read_byte(bytes, spot)?;
-    read_value_by(alloc, bytes, spot, at, tag)
+    read_value_by(alloc, bytes, spot, texts, at, tag)
 }
 
 /// What a name has; only a name that is alone may have no value.
@@ -120,16 +128,17 @@ pub(crate) fn read_held(
     alloc: Global,
     bytes: &[u8],
     spot: &mut Spot,
+    texts: &Texts,
     alone: bool,
 ) -> Result<Option<Value>, PartFault>
-    ensures { Is (spec.held bytes.now alone spot.old) result spot.new }
+    ensures { Is (spec.held texts.now bytes.now alone spot.old) result spot.new }
 {
     let at = spot.at;
     let tag = read_byte(bytes, spot)?;
     if tag == ABSENT && alone {
         return Ok(None);
     }
-    let value = read_value_by(alloc, bytes, spot, at, tag)?;
+    let value = read_value_by(alloc, bytes, spot, texts, at, tag)?;
     Ok(Some(value))
 }
 
@@ -138,13 +147,14 @@ pub(crate) fn read_values(
     alloc: Global,
     bytes: &[u8],
     spot: &mut Spot,
+    texts: &Texts,
     count: u32,
 ) -> Result<Items<Value>, PartFault>
-    ensures { Is (more (λ before. spec.value bytes.now) count [] spot.old) result spot.new }
+    ensures { Is (more (λ before. spec.value texts.now bytes.now) count [] spot.old) result spot.new }
 {
     let mut all = Items::new(alloc);
     for index in 0..count {
-        let next = read_value(alloc, bytes, spot)?;
+        let next = read_value(alloc, bytes, spot, texts)?;
         all.push(next)?;
     }
     Ok(all)

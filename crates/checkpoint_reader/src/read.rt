@@ -1,4 +1,5 @@
 ghost use Rattle.std.specs.Prelude.{◌≡◌, true, IfOk, MatchResult, Ok, Err};
+ghost use Rattle.std.specs.Option.{option_copied};
 ghost use Rattle.checkpoint_reader.specs.Reads.{Is, tells};
 ghost use Rattle.checkpoint_reader.specs.Fields as spec;
 ghost use Rattle.checkpoint_reader.specs.Numbered.{AreFields, IsRestorable};
@@ -10,6 +11,7 @@ use crate::checkpoint::Checkpoint;
 use crate::fault::CheckpointFault;
 use crate::fields::Fields;
 use crate::judged::judged;
+use crate::table::read_table;
 use crate::versions::read_versions;
 use std::alloc::Global;
 
@@ -35,16 +37,26 @@ fn read_magic<'a>(bytes: &'a [u8], spot: &mut usize) -> Result<&'a [u8], Checkpo
     take_bytes(bytes, spot, 0, 4)
 }
 
-/// The version of the format, which is 1.
+/// The version of the format, which is 1 or 2.
 #[tactic(auto, using(std::proofs::lemmas::Bool::Decides::nat_tests), unfolding(crate::specs::Fields::format))]
 fn read_format(bytes: &[u8], spot: &mut usize) -> Result<u16, CheckpointFault>
     ensures { Is (spec.format bytes.now spot.old) result spot.new }
 {
     let format = read_two(bytes, spot)?;
-    if format == 1 {
+    if format == 1 || format == 2 {
         return Ok(format);
     }
     Err(CheckpointFault::BadVersion(format))
+}
+
+/// What was read, unless a text of the table is left to which nothing refers: the next one, at this place.
+fn all_used(unused: Option<&usize>, spot: usize, read: Fields) -> Result<Fields, CheckpointFault>
+    ensures { MatchResult result (λ now. (now ≡ read) × (spec.all_used (option_copied unused.entry) read spot ≡ Ok (read, spot))) (λ e. spec.all_used (option_copied unused.entry) read spot ≡ Err e) }
+{
+    match unused {
+        Some(place) => Err(CheckpointFault::BadField(*place)),
+        None => Ok(read),
+    }
 }
 
 /// What was read, if no byte is left.
@@ -65,22 +77,25 @@ fn read_fields(alloc: Global, bytes: &[u8], spot: &mut usize) -> Result<Fields, 
     ensures sound { IfOk result AreFields }
 {
     read_magic(bytes, spot)?;
-    read_format(bytes, spot)?;
+    let version = read_format(bytes, spot)?;
     let count = read_four(bytes, spot)?;
     let meter = read_at_most(bytes, spot, MOST_METER)?;
-    let cells = read_cells(alloc, bytes, spot)?;
-    let versions = read_versions(alloc, bytes, spot)?;
+    let table = read_table(alloc, bytes, spot, version)?;
+    let cells = read_cells(alloc, bytes, spot, &table.texts)?;
+    let versions = read_versions(alloc, bytes, spot, &table.texts, cells.known)?;
+    let unused = table.places.get(versions.known);
     let read = Fields {
         count,
         meter,
         cells,
         versions,
     };
+    let read = all_used(unused, *spot, read)?;
     ended(bytes, *spot, read)
 }
 
-/// Reads a checkpoint: its value, or the first of its faults. The fields come first, in their order, and then any byte that is
-/// left; then the graph; then the plan.
+/// Reads a checkpoint of either version of the format: its value, or the first of its faults. The fields come first, in their order, then a text
+/// of the table to which nothing refers, and then any byte that is left; then the graph; then the plan.
 pub fn read_checkpoint(alloc: Global, bytes: &[u8]) -> Result<Checkpoint, CheckpointFault>
     ensures exact { tells result ≡ true → IsAnswer (spec.fields bytes.now 0) result }
     // What its text brings: its meter and its cells are within their bounds, its deleted names have no handle and no size, and each version

@@ -7,4 +7,6 @@ pub struct Spot {
     pub met: usize,
     /// How many may be referred to.
     pub most: usize,
+    /// How many texts of the table were referred to, before the part and in it.
+    pub known: usize,
 }

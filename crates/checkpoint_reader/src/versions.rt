@@ -1,4 +1,5 @@
-ghost use Rattle.std.specs.Prelude.{◌≡◌, ◌<◌, ◌+◌, ◌^◌, length, IfOk};
+ghost use Rattle.std.specs.Prelude.{◌≡◌, ◌==◌, ◌<◌, ◌+◌, ◌^◌, length, IfOk};
+ghost use Rattle.part_bytes.specs.Texts.{bytes_of};
 ghost use Rattle.checkpoint_reader.specs.Reads.{Is, turns};
 ghost use Rattle.checkpoint_reader.specs.Fields as spec;
 ghost use Rattle.checkpoint_reader.specs.Numbered.{AreVersions};
@@ -6,10 +7,11 @@ ghost use Rattle.checkpoint_reader.specs.Numbered.{AreVersions};
 use crate::bytes::{read_byte, read_four, read_truth, rest_of};
 use crate::fault::CheckpointFault;
 use crate::fields::Versions;
+use crate::forms::Texts;
 use crate::texts::read_names;
-use crate::{PartFault, read_part};
+use crate::{PartFault, read_part2};
 use graph_model::Version;
-use part_bytes::PartValue;
+use part_bytes::{PartValue, part_size};
 use plain_data::Items;
 use py_value::Value;
 use std::alloc::{AllocError, Global};
@@ -66,20 +68,22 @@ fn read_version(
     Ok((version, copied))
 }
 
-/// The next part, with the number of its bytes.
+/// The next part, if so many texts were referred to before it, and how many were after it.
 #[tactic(auto, unfolding(crate::specs::Fields::part))]
 fn read_next_part(
     alloc: Global,
     bytes: &[u8],
     spot: &mut usize,
+    texts: &Texts,
+    known: usize,
 ) -> Result<(PartValue, usize), CheckpointFault>
-    ensures { Is (spec.part bytes.now spot.old) result spot.new }
+    ensures { Is (spec.part bytes.now texts.now known spot.old) result spot.new }
 {
     let at = *spot;
-    match read_part(alloc, rest_of(bytes, at)) {
-        Ok((part, size)) => {
+    match read_part2(alloc, rest_of(bytes, at), texts, known) {
+        Ok((part, size, known)) => {
             *spot = at + size;
-            Ok((part, size))
+            Ok((part, known))
         }
         Err(PartFault::OutOfMemory) => Err(CheckpointFault::OutOfMemory),
         Err(fault) => Err(CheckpointFault::Part { at, fault }),
@@ -96,25 +100,35 @@ fn has_no_value(values: &[Option<Value>]) -> bool
     }
 }
 
+/// Whether the text of a part in version 1 is so long.
+fn is_of_size(part: &PartValue, size: u32) -> bool
+    ensures { result ≡ (length (bytes_of part.now) == size) }
+{
+    match part_size(part) {
+        Some(len) => len == size,
+        None => false,
+    }
+}
+
 /// Whether an absent version's part has a value, or another version's part has none or isn't of the version's size.
 #[tactic(auto, using(std::proofs::lemmas::Bool::Decides::nat_tests))]
-fn is_otherwise(version: &Version, part: &PartValue, size: usize) -> bool
-    ensures { result ≡ spec.is_otherwise version.now part.now size }
+fn is_otherwise(version: &Version, part: &PartValue) -> bool
+    ensures { result ≡ spec.is_otherwise version.now part.now }
 {
     let empty = has_no_value(part.values.as_slice());
     if version.absent {
         return !empty;
     }
-    empty || !(size == version.size as usize)
+    empty || !is_of_size(part, version.size)
 }
 
 /// Whether a copied version can't be copied, or isn't as its part.
 #[tactic(auto, using(std::proofs::lemmas::Bool::Decides::nat_tests))]
-fn is_unlike(version: &Version, part: &PartValue, size: usize) -> bool
-    ensures { result ≡ spec.is_unlike version.now part.now size }
+fn is_unlike(version: &Version, part: &PartValue) -> bool
+    ensures { result ≡ spec.is_unlike version.now part.now }
 {
     let same = part.names.as_slice() == version.names.as_slice();
-    !(version.replaced == 0) || (version.handle || (!same || is_otherwise(version, part, size)))
+    !(version.replaced == 0) || (version.handle || (!same || is_otherwise(version, part)))
 }
 
 /// The versions, and one more.
@@ -135,22 +149,23 @@ fn first_found(before: Option<u32>, number: u32, found: bool) -> Option<u32>
     }
 }
 
-/// The versions, and one more that is copied, with its number, its part and the number of the part's bytes.
+/// The versions, and one more that is copied, with its number, its part, and how many texts were referred to after it.
 fn with_copy(
     mut versions: Versions,
     number: u32,
     version: Version,
     part: PartValue,
-    size: usize,
+    known: usize,
 ) -> Result<Versions, AllocError>
     requires { number ≡ length versions.records + 1 }
-    ensures { IfOk result (λ now. now ≡ spec.with_copy versions version (part, size)) }
+    ensures { IfOk result (λ now. now ≡ spec.with_copy versions version (part, known)) }
 {
-    let unlike = is_unlike(&version, &part, size);
+    let unlike = is_unlike(&version, &part);
     versions.unlike = first_found(versions.unlike, number, unlike);
     versions.records.push(version)?;
     versions.copied.push(number)?;
     versions.parts.push(part)?;
+    versions.known = known;
     Ok(versions)
 }
 
@@ -160,17 +175,18 @@ fn keep_version(
     alloc: Global,
     bytes: &[u8],
     spot: &mut usize,
+    texts: &Texts,
     number: u32,
     before: Versions,
     version: Version,
     copied: bool,
 ) -> Result<Versions, CheckpointFault>
     requires { number ≡ length before.records + 1 }
-    ensures { Is (spec.kept bytes.now before version copied spot.old) result spot.new }
+    ensures { Is (spec.kept bytes.now texts.now before version copied spot.old) result spot.new }
 {
     if copied {
-        let (part, size) = read_next_part(alloc, bytes, spot)?;
-        return Ok(with_copy(before, number, version, part, size)?);
+        let (part, known) = read_next_part(alloc, bytes, spot, texts, before.known)?;
+        return Ok(with_copy(before, number, version, part, known)?);
     }
     Ok(with_version(before, version)?)
 }
@@ -181,14 +197,15 @@ fn read_next_version(
     alloc: Global,
     bytes: &[u8],
     spot: &mut usize,
+    texts: &Texts,
     number: u32,
     before: Versions,
 ) -> Result<Versions, CheckpointFault>
     requires { number ≡ length before.records + 1 }
-    ensures { Is (spec.next_version bytes.now before spot.old) result spot.new }
+    ensures { Is (spec.next_version bytes.now texts.now before spot.old) result spot.new }
 {
     let (version, copied) = read_version(alloc, bytes, spot)?;
-    keep_version(alloc, bytes, spot, number, before, version, copied)
+    keep_version(alloc, bytes, spot, texts, number, before, version, copied)
 }
 
 /// `count` versions.
@@ -196,9 +213,11 @@ fn read_all_versions(
     alloc: Global,
     bytes: &[u8],
     spot: &mut usize,
+    texts: &Texts,
+    known: usize,
     count: u32,
 ) -> Result<Versions, CheckpointFault>
-    ensures exact { Is (turns (spec.next_version bytes.now) count spec.no_versions spot.old) result spot.new }
+    ensures exact { Is (turns (spec.next_version bytes.now texts.now) count (spec.no_versions known) spot.old) result spot.new }
     ensures sound { IfOk result (AreVersions count) }
 {
     let mut versions = Versions {
@@ -206,23 +225,26 @@ fn read_all_versions(
         copied: Items::new(alloc),
         parts: Items::new(alloc),
         unlike: None,
+        known,
     };
     for index in 0..count {
-        versions = read_next_version(alloc, bytes, spot, index + 1, versions)?;
+        versions = read_next_version(alloc, bytes, spot, texts, index + 1, versions)?;
     }
     Ok(versions)
 }
 
-/// The versions, after how many there are.
+/// The versions, after how many there are, if so many texts were referred to before them.
 #[tactic(auto, unfolding(crate::specs::Fields::versions))]
 pub(crate) fn read_versions(
     alloc: Global,
     bytes: &[u8],
     spot: &mut usize,
+    texts: &Texts,
+    known: usize,
 ) -> Result<Versions, CheckpointFault>
-    ensures exact { Is (spec.versions bytes.now spot.old) result spot.new }
+    ensures exact { Is (spec.versions bytes.now texts.now known spot.old) result spot.new }
     ensures sound { IfOk result (λ versions. AreVersions (length versions.records) versions × (length versions.records < 2 ^ 32)) }
 {
     let count = read_four(bytes, spot)?;
-    read_all_versions(alloc, bytes, spot, count)
+    read_all_versions(alloc, bytes, spot, texts, known, count)
 }

@@ -78,7 +78,7 @@ module _ (entries : List ListedCell) (g : Graph) (s : State) (p : Plan) (stands 
       false≢true (sym h ∙ (versions.handles v x active).1 ((handle_told s x.names stands.closed).0 t)))
 
   otherwise : (v : ℕ) (x : Version) (b : Bool) → x.absent ≡ b → IsActive g v x → x.handle ≡ false → 0 < length x.names
-      → is_otherwise x (part_of s x.names) (length (part_text s x.names)) ≡ false
+      → is_otherwise x (part_of s x.names) ≡ false
   otherwise v x true e active h some =
       let none : has_no_value (map (held_of s (number_in (order s x.names))) x.names) ≡ true = none_first s (number_in (order s x.names)) x.names some (λ y c. versions.are_absent v x active e y c) in
       rw (e, none) refl

@@ -29,7 +29,7 @@ use Rattle.checkpoint_reader.specs.Fields.{fields}
 use Rattle.checkpoint_reader.specs.Judging.{IsAnswer}
 use Rattle.checkpoint_laws.specs.Spelled.{EachCopied, HasText, IsLike, part_at, checkpoint_for}
 use Rattle.checkpoint_laws.proofs.Marked.{versions_of}
-use Rattle.checkpoint_laws.proofs.Answered.{read_exactly}
+use Rattle.checkpoint_laws.proofs.Answered.{Exactly, read_exactly}
 use Rattle.replay_laws.specs.Walks.{Walked}
 use Rattle.replay_laws.specs.Restored.{with_tallies, HasVersions}
 use Rattle.part_bytes.specs.Sizing.{size_of}
@@ -79,19 +79,23 @@ module _ (entries : List ListedCell) (g : Graph) (s : State) (p : Plan) (stands 
   K = checkpoint_for s g p
 
   all_like : EachCopied g p (IsLike s)
-  all_like = like entries g s p stands plan feasible has.parts
+  all_like = like entries g s p stands plan feasible has.one.parts
+
+  -- what is read of the text
+  abbrev Read : Exactly s g p has.one plan all_like Text
+  Read = read_exactly s g p has.one plan all_like has.texts
 
   -- ---- the bytes are this checkpoint, and no other
 
   the_checkpoint : (k : Checkpoint) → AreCheckpoint Text k → k ≡ K
-  the_checkpoint k are = (subst (λ (a : Answer Fields). IsAnswer a (Ok k)) (read_exactly s g p has plan all_like) are).0
+  the_checkpoint k are = (subst (λ (a : Answer Fields). IsAnswer a (Ok k)) Read.is are).0
 
   judged : (f : CheckpointFault) → IsAnswer (Ok (
     record {
       count = s.count;
       meter = s.meter;
-      cells = record { records = g.cells; rerun = p.rerun };
-      versions = versions_of g.versions p.copied (map (part_at s g) p.copied);
+      cells = record { records = g.cells; rerun = p.rerun; known = Read.mid };
+      versions = versions_of g.versions p.copied (map (part_at s g) p.copied) Read.last;
     },
     length Text,
   )) (Err f) → ⊥
@@ -106,7 +110,7 @@ module _ (entries : List ListedCell) (g : Graph) (s : State) (p : Plan) (stands 
   judged (checkpoint.BadField at) h = h
 
   no_bad_bytes : (f : CheckpointFault) → f ≢ checkpoint.OutOfMemory → IsAnswer (fields Text 0) (Err f) → ⊥
-  no_bad_bytes f known are = judged f (subst (λ (a : Answer Fields). IsAnswer a (Err f)) (read_exactly s g p has plan all_like) are)
+  no_bad_bytes f known are = judged f (subst (λ (a : Answer Fields). IsAnswer a (Err f)) Read.is are)
 
   -- ---- the walk
 

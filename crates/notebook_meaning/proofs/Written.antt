@@ -46,11 +46,11 @@ use Rattle.replay_laws.proofs.PartsAlike.{one_part}
 use Rattle.checkpoint_bytes.specs.Texts.{lists, checkpoint_text}
 use Rattle.checkpoint_bytes.specs.Sessions.{IsWithinBounds, AreVersionsOf, TellsOf}
 use Rattle.checkpoint_bytes.specs.Plain.{IsPlainCell, IsPlainVersion, IsPlainCheckpoint}
-use Rattle.checkpoint_laws.proofs.Alike.{one_checkpoint_text}
+use Rattle.checkpoint_laws.proofs.Alike.{one_checkpoint_text, table_alike}
 use Rattle.checkpoint_laws.specs.SpelledParts.{HasPartText}
 use Rattle.part_copies.specs.Written.{IsWritable, CanBeWritten}
 use Rattle.part_copies.proofs.Written.{part_is}
-use Rattle.checkpoint_laws.specs.Spelled.{IsCode, IsName, IsCellRecord, IsVersion, EachCopied, HasText}
+use Rattle.checkpoint_laws.specs.Spelled.{IsCode, IsName, IsCellRecord, IsVersion, EachCopied, HasText, HasText1}
 use Rattle.replay_laws.specs.Restored.{HasVersions}
 use Rattle.part_bytes.specs.Sizing.{holds_handle, have_values, size_of}
 use Rattle.replay_laws.specs.Sessions.{StandsFor}
@@ -313,8 +313,8 @@ module _ (cells : List ListedCell) (codes : HaveCodes cells) (g : Graph) (of : I
     parts v x c at =
         subst HasPartText (one_part x.names t Last stands.closed (closed_at (length cells)) (same_over t Last turned x.names)) (part_is t x.names stands.closed (can v x c at))
 
-    pub has_text : HasText Last g p
-    has_text = record {
+    in_version1 : HasText1 Last g p
+    in_version1 = record {
       count = subst (λ (n : ℕ). n < 2 ^ 32) (sym stands.same.count) plain.count;
       meter = (valid_at cells (length cells) codes).meter;
       few_cells = subst (λ (n : ℕ). n < 2 ^ 32) (sym H.cells) of.few_cells;
@@ -322,4 +322,10 @@ module _ (cells : List ListedCell) (codes : HaveCodes cells) (g : Graph) (of : I
       few_versions = of.few_versions;
       versions = by_places IsVersion g.versions (λ k x at. is_version k x at (at_position IsPlainVersion g.versions plain.versions k x at));
       parts = parts;
+    }
+
+    pub has_text : HasText Last g p
+    has_text = record {
+      one = in_version1;
+      texts = subst (λ (ts : List Name). length ts < 2 ^ 32) (sym (table_alike Last t (closed_at (length cells)) stands.closed stands.same p g)) plain.texts;
     }

@@ -17,8 +17,9 @@ use Rattle.py_heap.specs.declared.heap.Object.{Object}
 use Rattle.py_heap.specs.declared.heap.Object.TheVariants as object
 use Rattle.py_heap.specs.declared.state.State.{State}
 use Rattle.part_bytes.specs.Lengths.{held_at, object_at}
-use Rattle.part_bytes.specs.Parts.{order, number_in, numbered, numbered_pair, numbered_object, held_of, objects_of}
-use Rattle.part_bytes.specs.Texts.{four, sixteen, name_bytes, text_bytes, value_bytes, held_bytes, pair_bytes, object_bytes, part_text}
+use Rattle.part_bytes.specs.declared.part.PartValue.{PartValue}
+use Rattle.part_bytes.specs.Parts.{order, number_in, numbered, numbered_pair, numbered_object, held_of, objects_of, part_of}
+use Rattle.part_bytes.specs.Texts.{four, sixteen, name_bytes, text_bytes, value_bytes, held_bytes, pair_bytes, object_bytes, bytes_of, part_text}
 
 pub length-four : (n : ℕ) → length (four n) ≡ 4
 unfolding four
@@ -43,11 +44,7 @@ length-tuple items = omega (arith, length-append (four (length items)) (flat_map
 pub length-dict : (pairs : List (Key × Value)) → length (object_bytes (object.Dict pairs)) ≡ 5 + length (flat_map pair_bytes pairs)
 length-dict pairs = omega (arith, length-append (four (length pairs)) (flat_map pair_bytes pairs), length-four (length pairs))
 
-pub length-bool : (truth : Bool) → length (value_bytes (value.Bool truth)) ≡ 1
-length-bool true = refl
-length-bool false = refl
-
-pub ruleset lengths = (length-four, length-sixteen, length-text_bytes, length-bool)
+pub ruleset lengths = (length-four, length-sixteen, length-text_bytes)
 
 -- ---- piece by piece
 
@@ -143,17 +140,15 @@ module _ (number : ℕ → ℕ) where
         )
 
 -- the two counts, the names, what they have, and the objects
-pub length-part_text : (s : State) (names : List (List ℕ)) → length (part_text s names)
-    ≡ 8 + length (flat_map name_bytes names) + length (flat_map (held_at s) names) + length (flat_map (object_at s) (order s names))
-length-part_text s names =
-    let number : ℕ → ℕ = number_in (order s names) in
-    let objects : List Object = flat_map (objects_of s number) (order s names) in
-    let p : List ℕ = four (length names) in
-    let q : List ℕ = flat_map name_bytes names in
-    let r : List ℕ = flat_map held_bytes (map (held_of s number) names) in
-    let t : List ℕ = four (length objects) in
-    let u : List ℕ = flat_map object_bytes objects in
-    let whole : length (part_text s names) ≡ length ((((p ++ q) ++ r) ++ t) ++ u) = refl in
+pub length-part : (part : PartValue) → length (bytes_of part)
+    ≡ 8 + length (flat_map name_bytes part.names) + length (flat_map held_bytes part.values) + length (flat_map object_bytes part.objects)
+length-part part =
+    let p : List ℕ = four (length part.names) in
+    let q : List ℕ = flat_map name_bytes part.names in
+    let r : List ℕ = flat_map held_bytes part.values in
+    let t : List ℕ = four (length part.objects) in
+    let u : List ℕ = flat_map object_bytes part.objects in
+    let whole : length (bytes_of part) ≡ length ((((p ++ q) ++ r) ++ t) ++ u) = refl in
     omega (
       arith,
       whole,
@@ -161,11 +156,24 @@ length-part_text s names =
       length-append ((p ++ q) ++ r) t,
       length-append (p ++ q) r,
       length-append p q,
-      length-four (length names),
-      length-four (length objects),
-      length-held_by number s names,
-      length-objects_by number s (order s names),
+      length-four (length part.names),
+      length-four (length part.objects),
     )
+
+-- the same by lists that are those of the part
+pub length-part_of : (part : PartValue) (ns : List (List ℕ)) (vs : List (Option Value)) (os : List Object) → ns ≡ part.names → vs ≡ part.values → os ≡ part.objects
+    → length (bytes_of part) ≡ 8 + length (flat_map name_bytes ns) + length (flat_map held_bytes vs) + length (flat_map object_bytes os)
+length-part_of part ns vs os e f g =
+    length-part part
+    ∙ (ap (λ (xs : List (List ℕ)). 8 + length (flat_map name_bytes xs) + length (flat_map held_bytes part.values) + length (flat_map object_bytes part.objects)) (sym e)
+    ∙ (ap (λ (xs : List (Option Value)). 8 + length (flat_map name_bytes ns) + length (flat_map held_bytes xs) + length (flat_map object_bytes part.objects)) (sym f)
+    ∙ ap (λ (xs : List Object). 8 + length (flat_map name_bytes ns) + length (flat_map held_bytes vs) + length (flat_map object_bytes xs)) (sym g)))
+
+pub length-part_text : (s : State) (names : List (List ℕ)) → length (part_text s names)
+    ≡ 8 + length (flat_map name_bytes names) + length (flat_map (held_at s) names) + length (flat_map (object_at s) (order s names))
+length-part_text s names =
+    let number : ℕ → ℕ = number_in (order s names) in
+    omega (arith, length-part (part_of s names), length-held_by number s names, length-objects_by number s (order s names))
 
 -- the objects in the list that is their order
 pub length-part_by : (s : State) (names : List (List ℕ)) (found : List ℕ) → found ≡ order s names

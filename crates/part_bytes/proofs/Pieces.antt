@@ -14,7 +14,8 @@ use Rattle.py_heap.specs.declared.state.State.{State}
 use Rattle.py_heap.specs.Dicts.{Pairs}
 use Rattle.py_heap.specs.References.{AreLive}
 use Rattle.part_bytes.specs.Parts.{order, number_in, numbered, numbered_pair, numbered_object, objects_of, held_of}
-use Rattle.part_bytes.specs.Texts.{four, name_bytes, value_bytes, held_bytes, pair_bytes, object_bytes, bytes_of, part_text}
+use Rattle.part_bytes.specs.Parts.{part_of}
+use Rattle.part_bytes.specs.Texts.{four, name_bytes, spelled_value, spelled_held, spelled_pair, spelled_object, spelled_part}
 use Rattle.part_bytes.proofs.ByAddress.{there}
 
 -- what holds always holds if all went well
@@ -52,13 +53,14 @@ plain_more {A = A} f old out more xs i x l is e k =
     ∙ ap (λ (ys : List A). old ++ flat_map f ys) (sym (take_more xs i x l ∙ ap (λ (y : A). take i xs ++ y ∷ []) (sym is)))
 
 -- a key and then its value are a pair
-pub pair_more : (number : ℕ → ℕ) (old out key_out more : List ℕ) (pairs : Pairs) (i : ℕ) (key : Key) (value : Value) → slice_get pairs i ≡ Some (key, value)
-    → out ≡ old ++ flat_map pair_bytes (map (numbered_pair number) (take i pairs)) → key_out ≡ out ++ value_bytes (value_of key) → more ≡ key_out ++ value_bytes (numbered number value)
-    → more ≡ old ++ flat_map pair_bytes (map (numbered_pair number) (take (i + 1) pairs))
-pair_more number old out key_out more pairs i key value at e k v =
+pub pair_more : (spell : List ℕ → List ℕ) (number : ℕ → ℕ) (old out key_out more : List ℕ) (pairs : Pairs) (i : ℕ) (key : Key) (value : Value) → slice_get pairs i ≡ Some (key, value)
+    → out ≡ old ++ flat_map (spelled_pair spell) (map (numbered_pair number) (take i pairs)) → key_out ≡ out ++ spelled_value spell (value_of key) → more ≡ key_out ++ spelled_value spell (numbered number value)
+    → more ≡ old ++ flat_map (spelled_pair spell) (map (numbered_pair number) (take (i + 1) pairs))
+pair_more spell number old out key_out more pairs i key value at e k v =
     let pair : Key × Value = (key, value) in
-    let both : more ≡ out ++ pair_bytes (numbered_pair number pair) = v ∙ (ap (λ (zs : List ℕ). zs ++ value_bytes (numbered number value)) k ∙ append_assoc out (value_bytes (value_of key)) (value_bytes (numbered number value))) in
-    mapped_more pair_bytes (numbered_pair number) old out more pairs i pair (slice_get_within pairs i pair at) (sym (get_or_from_slice_get pairs i pair pair at)) e both
+    let last : List ℕ = spelled_value spell (numbered number value) in
+    let both : more ≡ out ++ spelled_pair spell (numbered_pair number pair) = v ∙ (ap (λ (zs : List ℕ). zs ++ last) k ∙ append_assoc out (spelled_value spell (value_of key)) last) in
+    mapped_more (spelled_pair spell) (numbered_pair number) old out more pairs i pair (slice_get_within pairs i pair at) (sym (get_or_from_slice_get pairs i pair pair at)) e both
 
 module _ (s : State) (number : ℕ → ℕ) where
   one_object : (at : ℕ) (o : Object) → slice_get s.heap at ≡ Some o → objects_of s number at ≡ numbered_object number o ∷ []
@@ -75,25 +77,25 @@ module _ (s : State) (number : ℕ → ℕ) where
       let one : length (objects_of s number at) ≡ 1 = ap (λ (os : List Object). length os) (one_object at o.0 o.1) in
       omega (arith, rest, size, one)
 
-module _ (s : State) (names : List (List ℕ)) where
+module _ (spell : List ℕ → List ℕ) (s : State) (names : List (List ℕ)) where
   -- the text of the part, if its objects are in this order
   abbrev text_by : List ℕ → List ℕ
-  text_by found = bytes_of (record {
+  text_by found = spelled_part spell (record {
     names = names;
     values = map (held_of s (number_in found)) names;
     objects = flat_map (objects_of s (number_in found)) found;
   })
 
   pub whole_text : (found : List ℕ) → found ≡ order s names → AreLive s.heap found → (n m : ℕ) → n ≡ length names → m ≡ length found → (z a b c d e : List ℕ) → z ≡ []
-      → a ≡ z ++ four n → b ≡ a ++ flat_map name_bytes names → c ≡ b ++ flat_map held_bytes (map (held_of s (number_in found)) names)
-      → d ≡ c ++ four m → e ≡ d ++ flat_map object_bytes (flat_map (objects_of s (number_in found)) found) → e ≡ part_text s names
+      → a ≡ z ++ four n → b ≡ a ++ flat_map name_bytes names → c ≡ b ++ flat_map (spelled_held spell) (map (held_of s (number_in found)) names)
+      → d ≡ c ++ four m → e ≡ d ++ flat_map (spelled_object spell) (flat_map (objects_of s (number_in found)) found) → e ≡ spelled_part spell (part_of s names)
   whole_text found is live n m size many z a b c d e zz aa bb ccc dd ee =
       let p : List ℕ = four (length names) in
       let q : List ℕ = flat_map name_bytes names in
-      let r : List ℕ = flat_map held_bytes (map (held_of s (number_in found)) names) in
+      let r : List ℕ = flat_map (spelled_held spell) (map (held_of s (number_in found)) names) in
       let objects : List Object = flat_map (objects_of s (number_in found)) found in
       let t : List ℕ = four (length objects) in
-      let u : List ℕ = flat_map object_bytes objects in
+      let u : List ℕ = flat_map (spelled_object spell) objects in
       let counted : four m ≡ t = ap four (many ∙ sym (as_many s (number_in found) found live)) in
       let first : a ≡ p = aa ∙ (ap (λ (zs : List ℕ). zs ++ four n) zz ∙ ap four size) in
       let second : b ≡ p ++ q = bb ∙ ap (λ (zs : List ℕ). zs ++ q) first in

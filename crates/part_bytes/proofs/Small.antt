@@ -10,7 +10,7 @@ use Rattle.part_bytes.specs.Examples.{two_in_x, two_in_x_bytes}
 use Rattle.part_bytes.specs.Parts.{order, number_in, numbered}
 use Rattle.part_bytes.specs.Texts.{four, sixteen, bytes_of, part_text}
 
-has_two : finite.get two_in_x.globals (codes "x") ≡ Some (value.Number (pos 2))
+pub has_two : finite.get two_in_x.globals (codes "x") ≡ Some (value.Number (pos 2))
 has_two = finite.get-insert nat_list_cmp_total finite.empty (codes "x") (value.Number (pos 2)) (codes "x")
 
 -- the text, by what `x` has

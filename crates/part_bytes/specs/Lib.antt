@@ -1,5 +1,9 @@
 pub mod Parts
+pub mod Tables
 pub mod Texts
+pub mod Uses
+pub mod Gathering
+pub mod Spellings
 pub mod Lengths
 pub mod Plain
 pub mod Examples

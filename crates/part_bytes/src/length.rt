@@ -7,6 +7,7 @@ ghost use Rattle.part_bytes.specs.Parts.{order};
 ghost use Rattle.part_bytes.specs.Texts as spec;
 ghost use Rattle.part_bytes.specs.Texts.{part_text};
 
+use crate::part::PartValue;
 use plain_data::{Items, Text};
 use py_heap::{Dict, Function, Object, State};
 use py_value::{Key, Value};
@@ -181,7 +182,48 @@ fn len_of(state: &State, names: &[Text], found: &[u32]) -> Option<u32>
     add_objects(counted, state, found)
 }
 
-/// The length in bytes of the text of the part of a state with these names, and None if it is 2^32 or more.
+/// The length of what a name has, or of no value.
+fn option_len(held: &Option<Value>) -> usize
+    ensures { result ≡ length (spec.held_bytes held.now) }
+{
+    match held {
+        Some(value) => value_len(value),
+        None => TAG,
+    }
+}
+
+/// Adds what each of the names of a part has.
+fn add_options(mut total: u32, values: &[Option<Value>]) -> Option<u32>
+    ensures { Adds total (flat_map spec.held_bytes values.now) result }
+{
+    for held in values {
+        total = add(total, option_len(held))?;
+    }
+    Some(total)
+}
+
+/// Adds the objects of a part.
+fn add_part_objects(mut total: u32, objects: &[Object]) -> Option<u32>
+    ensures { Adds total (flat_map spec.object_bytes objects.now) result }
+{
+    for object in objects {
+        total = add_object(total, object)?;
+    }
+    Some(total)
+}
+
+/// The length in bytes of the text of a part in version 1, and None if it is 2^32 or more. Takes no memory, and time for each name, item and pair,
+/// however long the texts are.
+pub fn part_size(part: &PartValue) -> Option<u32>
+    ensures { SomeIff result (length (spec.bytes_of part.now) < 2 ^ 32) (length (spec.bytes_of part.now)) }
+{
+    let named = add_names(COUNT as u32, part.names.as_slice())?;
+    let held = add_options(named, part.values.as_slice())?;
+    let counted = add(held, COUNT)?;
+    add_part_objects(counted, part.objects.as_slice())
+}
+
+/// The length in bytes of the text of the part of a state with these names in version 1, and None if it is 2^32 or more.
 ///
 /// The text isn't made: a text that a list refers to a thousand times is counted a thousand times and copied never. This takes
 /// time for each object of the state and for each name, item and pair of the part, however long its texts are, and memory for a

@@ -1,7 +1,7 @@
 -- What is read of a part is valid: it refers to its own objects, there are as many values as names, its names are such as a program may
 -- bind, no dict has a key twice, and a function is what its text is read as.
 use Rattle.std.proofs.Common.{◌≡◌, ℕ, zero, suc, ◌+◌, ◌<◌, ◌≤◌, Bool, true, false, List, [], ◌∷◌, ◌++◌, length, Option, Some, None, Result, Ok, Err, refl, sym, ap, ◌∙◌, subst, inl, inr, arith}
-use Rattle.std.specs.Prelude.{◌==◌, ◌&&◌, IsTrue, nat_lt, nat_le, if◌then◌else◌, is_some, All}
+use Rattle.std.specs.Prelude.{◌==◌, ◌&&◌, IsTrue, nat_lt, nat_le, if◌then◌else◌, is_some, All, slice_get}
 use Rattle.std.specs.Str.{is_utf8}
 use Rattle.std.specs.List.{flat_map, IsDistinct}
 use Rattle.std.proofs.lemmas.Bool.{cases_Bool, and_parts, eqb-true, ltb-true, ltb-false}
@@ -33,10 +33,12 @@ use Rattle.py_heap.proofs.Pairs.{with_pair_distinct}
 use Rattle.part_bytes.specs.declared.part.PartValue.{PartValue}
 use Rattle.checkpoint_reader.specs.declared.part_fault.PartFault.{PartFault}
 use Rattle.checkpoint_reader.specs.declared.part_fault.PartFault.TheVariants.{BadTag, BadRef, BadKey, BadName, BadText}
+use Rattle.checkpoint_reader.specs.declared.forms.Texts.{Texts}
+use Rattle.checkpoint_reader.specs.declared.forms.Texts.TheVariants.{InPlace, Numbered}
 use Rattle.checkpoint_reader.specs.declared.spot.Spot.{Spot}
 use Rattle.checkpoint_reader.specs.PartReads.{Answer, Read, pure, fail, place, after, ◌>>=◌, more}
 use Rattle.checkpoint_laws.proofs.FoundObjects.{has_text}
-use Rattle.checkpoint_reader.specs.PartReading.{follows, name_of, name, referred_to, builtin_of, builtin_at, function_of, is_object_tag, bounded, taken, byte, four, sixteen, text, key_by, reference, builtin, value_by, value, held, pair_with, pair, list_or_tuple, dict, function, content, object_by, object, objects, names, values, part, start, with_size, part_read}
+use Rattle.checkpoint_reader.specs.PartReading.{follows, name_of, name, text_there, numbered_text, referred_to, builtin_of, builtin_at, function_of, is_object_tag, bounded, taken, byte, four, sixteen, spelled_text, text_by_number, text, key_by, reference, builtin, value_by, value, held, pair_with, pair, list_or_tuple, dict, function, content, object_by, object, objects, names, values, part, start, with_known, part_read2}
 
 -- ---- from one spot to another
 
@@ -226,10 +228,26 @@ module _ (bytes : List ℕ) where
   unfolding sixteen
   sixteen_refers = then_any Any (taken bytes 16) _ (taken_refers 16) (λ xs. pure_refers Any _ (λ n. tt))
 
-  text_refers : Refers {A = List ℕ} Any (text bytes)
-  unfolding text
-  text_refers = then_any Any place _ place_refers (λ at. then_any Any (four bytes) _ four_refers (λ n. then_any Any (taken bytes n) _ (taken_refers n)
+  spelled_text_refers : Refers {A = List ℕ} Any (spelled_text bytes)
+  unfolding spelled_text
+  spelled_text_refers = then_any Any place _ place_refers (λ at. then_any Any (four bytes) _ four_refers (λ n. then_any Any (taken bytes n) _ (taken_refers n)
       (λ xs. refers_if Any (is_utf8 xs) (pure xs) (fail (BadText at)) (pure_refers Any xs (λ n. tt)) (fail_refers Any (BadText at)))))
+
+  there_ends : (at n : ℕ) (o : Option (List ℕ)) (s : Spot) → Ends {A = List ℕ} Any s (text_there at n o s)
+  there_ends at n (Some t) s = (record { up = omega arith; most = refl; within = λ l. l }, tt)
+  there_ends at n None s = tt
+
+  numbered_text_refers : (table : List (List ℕ)) (at n : ℕ) → Refers {A = List ℕ} Any (numbered_text table at n)
+  numbered_text_refers table at n = record { ends = λ s. ends_if Any s (nat_le n s.known) (text_there at n (slice_get table n) s) (Err (BadRef at)) (there_ends at n (slice_get table n) s) tt }
+
+  text_by_number_refers : (table : List (List ℕ)) → Refers {A = List ℕ} Any (text_by_number bytes table)
+  unfolding text_by_number
+  text_by_number_refers table = then_any Any place _ place_refers (λ at. then_any Any (four bytes) _ four_refers (λ n. numbered_text_refers table at n))
+
+  text_refers : (texts : Texts) → Refers {A = List ℕ} Any (text texts bytes)
+  unfolding text
+  text_refers InPlace = spelled_text_refers
+  text_refers (Numbered table) = text_by_number_refers table
 
   name_refers : (before : List (List ℕ)) → Refers OfName (name bytes before)
   unfolding name
@@ -247,13 +265,6 @@ module _ (bytes : List ℕ) where
   unfolding names
   names_refer = then_any AreVariables place _ place_refers (λ at. then_any AreVariables (four bytes) _ four_refers (λ n.
       refers_if AreVariables (n == 0) (fail (BadName at)) (more (name bytes) n []) (fail_refers AreVariables (BadName at)) (all_names_refer n)))
-
-  key_refers : (at tag : ℕ) → Refers {A = Key} Any (key_by bytes at tag)
-  unfolding key_by
-  key_refers at tag = refers_if Any (tag == 0) _ _ (pure_refers Any the_key.Nothing (λ n. tt)) (refers_if Any (tag == 1) _ _ (pure_refers Any (the_key.Bool false) (λ n. tt))
-      (refers_if Any (tag == 2) _ _ (pure_refers Any (the_key.Bool true) (λ n. tt))
-      (refers_if Any (tag == 3) _ _ (then_any Any (sixteen bytes) _ sixteen_refers (λ n. pure_refers Any (the_key.Number n) (λ k. tt)))
-      (refers_if Any (tag == 4) _ _ (then_any Any (text bytes) _ text_refers (λ t. pure_refers Any (the_key.Text t) (λ k. tt))) (fail_refers Any (BadTag at))))))
 
   one_below : (a n : ℕ) → a < n → AreBelow (a ∷ []) n
   one_below a n l = All-cons (λ b. b < n) a [] l (All-nil (λ b. b < n))
@@ -283,133 +294,141 @@ module _ (bytes : List ℕ) where
   unfolding builtin
   builtin_refers = then_any OfValue place _ place_refers (λ at. then_any OfValue (byte bytes) _ byte_refers (λ b. builtin_at_refers at (builtin_of b)))
 
-  value_by_refers : (at tag : ℕ) → Refers OfValue (value_by bytes at tag)
-  unfolding value_by
-  value_by_refers at tag = refers_if OfValue (tag == 5) _ _ (reference_refers at) (refers_if OfValue (tag == 6) _ _ builtin_refers
-      (then_any OfValue (key_by bytes at tag) _ (key_refers at tag) (λ k. pure_refers OfValue (value_of k) (λ n. key_refs k n))))
+  module _ (texts : Texts) where
+    key_refers : (at tag : ℕ) → Refers {A = Key} Any (key_by texts bytes at tag)
+    unfolding key_by
+    key_refers at tag = refers_if Any (tag == 0) _ _ (pure_refers Any the_key.Nothing (λ n. tt)) (refers_if Any (tag == 1) _ _ (pure_refers Any (the_key.Bool false) (λ n. tt))
+        (refers_if Any (tag == 2) _ _ (pure_refers Any (the_key.Bool true) (λ n. tt))
+        (refers_if Any (tag == 3) _ _ (then_any Any (sixteen bytes) _ sixteen_refers (λ n. pure_refers Any (the_key.Number n) (λ k. tt)))
+        (refers_if Any (tag == 4) _ _ (then_any Any (text texts bytes) _ (text_refers texts) (λ t. pure_refers Any (the_key.Text t) (λ k. tt))) (fail_refers Any (BadTag at))))))
 
-  value_refers : Refers OfValue (value bytes)
-  unfolding value
-  value_refers = then_any OfValue place _ place_refers (λ at. then_any OfValue (byte bytes) _ byte_refers (λ tag. value_by_refers at tag))
+    value_by_refers : (at tag : ℕ) → Refers OfValue (value_by texts bytes at tag)
+    unfolding value_by
+    value_by_refers at tag = refers_if OfValue (tag == 5) _ _ (reference_refers at) (refers_if OfValue (tag == 6) _ _ builtin_refers
+        (then_any OfValue (key_by texts bytes at tag) _ (key_refers at tag) (λ k. pure_refers OfValue (value_of k) (λ n. key_refs k n))))
 
-  held_refers : (alone : Bool) → Refers OfHeld (held bytes alone)
-  unfolding held
-  held_refers alone = then_any OfHeld place _ place_refers (λ at. then_any OfHeld (byte bytes) _ byte_refers (λ tag.
-      refers_if OfHeld ((tag == 7) && alone) _ _ (pure_refers OfHeld None (λ n. All-nil (λ a. a < n)))
-      (then_pure OfValue OfHeld (value_by bytes at tag) (λ v. Some v) (value_by_refers at tag) (λ v n q. q))))
+    value_refers : Refers OfValue (value texts bytes)
+    unfolding value
+    value_refers = then_any OfValue place _ place_refers (λ at. then_any OfValue (byte bytes) _ byte_refers (λ tag. value_by_refers at tag))
 
-  abbrev OfNext : Pairs → Key × Value → ℕ → Type 0
-  OfNext before p n = OfPair p n × HasNoKeyTwice (before ++ p ∷ [])
+    held_refers : (alone : Bool) → Refers OfHeld (held texts bytes alone)
+    unfolding held
+    held_refers alone = then_any OfHeld place _ place_refers (λ at. then_any OfHeld (byte bytes) _ byte_refers (λ tag.
+        refers_if OfHeld ((tag == 7) && alone) _ _ (pure_refers OfHeld None (λ n. All-nil (λ a. a < n)))
+        (then_pure OfValue OfHeld (value_by texts bytes at tag) (λ v. Some v) (value_by_refers at tag) (λ v n q. q))))
 
-  pair_with_refers : (at : ℕ) (before : Pairs) (k : Key) → HasNoKeyTwice before → Refers (OfNext before) (pair_with bytes at before k)
-  pair_with_refers at before k twice = refers_known (OfNext before) (is_some (value_under before k)) (fail (BadKey at)) (value bytes >>= λ v. pure (k, v))
-      (λ e. fail_refers (OfNext before) (BadKey at))
-      (λ e. then_pure OfValue (OfNext before) (value bytes) (λ v. (k, v)) value_refers (λ v n q. (q, still_distinct before k v twice e)))
+    abbrev OfNext : Pairs → Key × Value → ℕ → Type 0
+    OfNext before p n = OfPair p n × HasNoKeyTwice (before ++ p ∷ [])
 
-  pair_refers : (before : Pairs) → HasNoKeyTwice before → Refers (OfNext before) (pair bytes before)
-  unfolding pair
-  pair_refers before twice = then_any (OfNext before) place _ place_refers (λ at. then_any (OfNext before) (byte bytes) _ byte_refers (λ tag.
-      then_any (OfNext before) (key_by bytes at tag) _ (key_refers at tag) (λ k. pair_with_refers at before k twice)))
+    pair_with_refers : (at : ℕ) (before : Pairs) (k : Key) → HasNoKeyTwice before → Refers (OfNext before) (pair_with texts bytes at before k)
+    pair_with_refers at before k twice = refers_known (OfNext before) (is_some (value_under before k)) (fail (BadKey at)) (value texts bytes >>= λ v. pure (k, v))
+        (λ e. fail_refers (OfNext before) (BadKey at))
+        (λ e. then_pure OfValue (OfNext before) (value texts bytes) (λ v. (k, v)) value_refers (λ v n q. (q, still_distinct before k v twice e)))
 
-  abbrev ItemsSo : List Value → ℕ → Type 0
-  ItemsSo xs k = All (λ v. OfValue v k) xs
+    pair_refers : (before : Pairs) → HasNoKeyTwice before → Refers (OfNext before) (pair texts bytes before)
+    unfolding pair
+    pair_refers before twice = then_any (OfNext before) place _ place_refers (λ at. then_any (OfNext before) (byte bytes) _ byte_refers (λ tag.
+        then_any (OfNext before) (key_by texts bytes at tag) _ (key_refers at tag) (λ k. pair_with_refers at before k twice)))
 
-  items_refer : (n : ℕ) → Refers ItemsSo (more (λ before. value bytes) n [])
-  items_refer n = refers_weaker (AreSuch OfValue Anything n) ItemsSo (more (λ before. value bytes) n []) (λ vs k h. h.0)
-      (each_refers OfValue (λ v i j l h. below_up (value_refs v) i j l h) (λ before. value bytes) (λ before. value_refers) n)
+    abbrev ItemsSo : List Value → ℕ → Type 0
+    ItemsSo xs k = All (λ v. OfValue v k) xs
 
-  sequence_so : (kind : SequenceKind) (items : List Value) (k : ℕ) → AreBelow (flat_map value_refs items) k → OfObject (sequence kind items) k
-  sequence_so sequences.List items k q = (q, tt)
-  sequence_so sequences.Tuple items k q = (q, tt)
+    items_refer : (n : ℕ) → Refers ItemsSo (more (λ before. value texts bytes) n [])
+    items_refer n = refers_weaker (AreSuch OfValue Anything n) ItemsSo (more (λ before. value texts bytes) n []) (λ vs k h. h.0)
+        (each_refers OfValue (λ v i j l h. below_up (value_refs v) i j l h) (λ before. value texts bytes) (λ before. value_refers) n)
 
-  sequence_refers : (kind : SequenceKind) → Refers OfObject (list_or_tuple bytes kind)
-  unfolding list_or_tuple
-  sequence_refers kind = then_any OfObject (four bytes) _ four_refers (λ n.
-      then_pure ItemsSo OfObject (more (λ before. value bytes) n []) (λ items. sequence kind items) (items_refer n) (λ items k q. sequence_so kind items k (all_below value_refs k items q)))
+    sequence_so : (kind : SequenceKind) (items : List Value) (k : ℕ) → AreBelow (flat_map value_refs items) k → OfObject (sequence kind items) k
+    sequence_so sequences.List items k q = (q, tt)
+    sequence_so sequences.Tuple items k q = (q, tt)
 
-  nothing_twice : HasNoKeyTwice []
-  unfolding IsDistinct
-  nothing_twice = tt
+    sequence_refers : (kind : SequenceKind) → Refers OfObject (list_or_tuple texts bytes kind)
+    unfolding list_or_tuple
+    sequence_refers kind = then_any OfObject (four bytes) _ four_refers (λ n.
+        then_pure ItemsSo OfObject (more (λ before. value texts bytes) n []) (λ items. sequence kind items) (items_refer n) (λ items k q. sequence_so kind items k (all_below value_refs k items q)))
 
-  abbrev EntriesSo : Pairs → ℕ → Type 0
-  EntriesSo xs k = All (λ p. OfPair p k) xs × HasNoKeyTwice xs
+    nothing_twice : HasNoKeyTwice []
+    unfolding IsDistinct
+    nothing_twice = tt
 
-  pairs_refer : (n : ℕ) → Refers EntriesSo (more (pair bytes) n [])
-  pairs_refer n = refers_weaker (AreSuch OfPair HasNoKeyTwice n) EntriesSo (more (pair bytes) n []) (λ ps k h. (h.0, h.2))
-      (more_refers OfPair HasNoKeyTwice (λ p i j l h. below_up (pair_refs p) i j l h) nothing_twice (pair bytes) pair_refers n)
+    abbrev EntriesSo : Pairs → ℕ → Type 0
+    EntriesSo xs k = All (λ p. OfPair p k) xs × HasNoKeyTwice xs
 
-  dict_refers : Refers OfObject (dict bytes)
-  unfolding dict
-  dict_refers = then_any OfObject (four bytes) _ four_refers (λ n.
-      then_pure EntriesSo OfObject (more (pair bytes) n []) (λ pairs. the_object.Dict pairs) (pairs_refer n) (λ pairs k q. (all_below pair_refs k pairs q.0, q.1)))
+    pairs_refer : (n : ℕ) → Refers EntriesSo (more (pair texts bytes) n [])
+    pairs_refer n = refers_weaker (AreSuch OfPair HasNoKeyTwice n) EntriesSo (more (pair texts bytes) n []) (λ ps k h. (h.0, h.2))
+        (more_refers OfPair HasNoKeyTwice (λ p i j l h. below_up (pair_refs p) i j l h) nothing_twice (pair texts bytes) pair_refers n)
 
-  function_of_refers : (at : ℕ) (source : List ℕ) (verdict : Result Def SyntaxFault) → verdict_alone source ≡ verdict → Refers OfObject (function_of at verdict)
-  function_of_refers at source (Ok def) e = record { ends = λ s. (step_same s, (All-nil (λ a. a < s.met), its_text source def e)) }
-  function_of_refers at source (Err fault) e = record { ends = λ s. tt }
+    dict_refers : Refers OfObject (dict texts bytes)
+    unfolding dict
+    dict_refers = then_any OfObject (four bytes) _ four_refers (λ n.
+        then_pure EntriesSo OfObject (more (pair texts bytes) n []) (λ pairs. the_object.Dict pairs) (pairs_refer n) (λ pairs k q. (all_below pair_refs k pairs q.0, q.1)))
 
-  function_refers : Refers OfObject (function bytes)
-  unfolding function
-  function_refers = then_any OfObject place _ place_refers (λ at. then_any OfObject (text bytes) _ text_refers (λ source. function_of_refers at source (verdict_alone source) refl))
+    function_of_refers : (at : ℕ) (source : List ℕ) (verdict : Result Def SyntaxFault) → verdict_alone source ≡ verdict → Refers OfObject (function_of at verdict)
+    function_of_refers at source (Ok def) e = record { ends = λ s. (step_same s, (All-nil (λ a. a < s.met), its_text source def e)) }
+    function_of_refers at source (Err fault) e = record { ends = λ s. tt }
 
-  content_refers : (tag : ℕ) → Refers OfObject (content bytes tag)
-  unfolding content
-  content_refers tag = refers_if OfObject (tag == 16) _ _ (sequence_refers sequences.List) (refers_if OfObject (tag == 17) _ _ dict_refers
-      (refers_if OfObject (tag == 18) _ _ function_refers (sequence_refers sequences.Tuple)))
+    function_refers : Refers OfObject (function texts bytes)
+    unfolding function
+    function_refers = then_any OfObject place _ place_refers (λ at. then_any OfObject (text texts bytes) _ (text_refers texts) (λ source. function_of_refers at source (verdict_alone source) refl))
 
-  object_by_refers : (n at tag : ℕ) → Refers OfObject (object_by bytes n at tag)
-  unfolding object_by
-  object_by_refers n at tag = record {
-    ends = λ s. ends_if OfObject s (is_object_tag tag) (if nat_lt n s.met then content bytes tag s else Err (BadRef at)) (Err (BadTag at))
-        (ends_if OfObject s (nat_lt n s.met) (content bytes tag s) (Err (BadRef at)) ((content_refers tag).ends s) tt) tt;
-  }
+    content_refers : (tag : ℕ) → Refers OfObject (content texts bytes tag)
+    unfolding content
+    content_refers tag = refers_if OfObject (tag == 16) _ _ (sequence_refers sequences.List) (refers_if OfObject (tag == 17) _ _ dict_refers
+        (refers_if OfObject (tag == 18) _ _ function_refers (sequence_refers sequences.Tuple)))
 
-  object_refers : (before : List Object) → Refers OfObject (object bytes before)
-  unfolding object
-  object_refers before = then_any OfObject place _ place_refers (λ at. then_any OfObject (byte bytes) _ byte_refers (λ tag. object_by_refers (length before) at tag))
+    object_by_refers : (n at tag : ℕ) → Refers OfObject (object_by texts bytes n at tag)
+    unfolding object_by
+    object_by_refers n at tag = record {
+      ends = λ s. ends_if OfObject s (is_object_tag tag) (if nat_lt n s.met then content texts bytes tag s else Err (BadRef at)) (Err (BadTag at))
+          (ends_if OfObject s (nat_lt n s.met) (content texts bytes tag s) (Err (BadRef at)) ((content_refers tag).ends s) tt) tt;
+    }
 
-  -- ---- the objects, among which all references are
+    object_refers : (before : List Object) → Refers OfObject (object texts bytes before)
+    unfolding object
+    object_refers before = then_any OfObject place _ place_refers (λ at. then_any OfObject (byte bytes) _ byte_refers (λ tag. object_by_refers (length before) at tag))
 
-  abbrev AreClosed : Spot → Answer (List Object) → Type 0
-  AreClosed s (Ok read) = (s.met ≤ read.1.met) × All (λ o. OfObject o read.1.met) read.0 × (read.1.met ≤ length read.0)
-  AreClosed s (Err fault) = Unit {0}
+    -- ---- the objects, among which all references are
 
-  abbrev ObjectsSo : ℕ → List Object → ℕ → Type 0
-  ObjectsSo count xs k = All (λ o. OfObject o k) xs × (length xs ≡ count)
+    abbrev AreClosed : Spot → Answer (List Object) → Type 0
+    AreClosed s (Ok read) = (s.met ≤ read.1.met) × All (λ o. OfObject o read.1.met) read.0 × (read.1.met ≤ length read.0)
+    AreClosed s (Err fault) = Unit {0}
 
-  all_objects_refer : (n : ℕ) → Refers (ObjectsSo n) (more (object bytes) n [])
-  all_objects_refer n = refers_weaker (AreSuch OfObject Anything n) (ObjectsSo n) (more (object bytes) n []) (λ os k h. (h.0, h.1)) (each_refers OfObject object_up (object bytes) object_refers n)
+    abbrev ObjectsSo : ℕ → List Object → ℕ → Type 0
+    ObjectsSo count xs k = All (λ o. OfObject o k) xs × (length xs ≡ count)
 
-  closed_by : (s u : Spot) (n : ℕ) (answer : Answer (List Object)) → s.met ≤ u.met → u.met ≤ n → u.most ≡ n → Ends (ObjectsSo n) u answer → AreClosed s answer
-  closed_by s u n (Ok read) l room most e =
-      let step = e.0 in
-      let end = step.within (omega (arith, room, most)) in
-      let same = step.most in
-      let size = e.1.1 in
-      let up = step.up in
-      (omega (arith, l, up), e.1.0, omega (arith, end, same, most, size))
-  closed_by s u n (Err fault) l room most e = tt
+    all_objects_refer : (n : ℕ) → Refers (ObjectsSo n) (more (object texts bytes) n [])
+    all_objects_refer n = refers_weaker (AreSuch OfObject Anything n) (ObjectsSo n) (more (object texts bytes) n []) (λ os k h. (h.0, h.1)) (each_refers OfObject object_up (object texts bytes) object_refers n)
 
-  from_four : (s : Spot) (at : ℕ) (answer : Answer ℕ) → Ends {A = ℕ} Any s answer → AreClosed s (after answer (λ n. bounded at n >>= λ m. more (object bytes) m []))
-  from_four s at (Ok read) e = elim (cases_Bool (nat_lt read.0 read.1.met)) [
-    | inl f ↦ rw f tt
-    | inr f ↦
-        let u : Spot = record read.1 { most = read.0 } in
-        let room = ltb-false read.0 read.1.met f in
-        rw f (closed_by s u read.0 (more (object bytes) read.0 [] u) e.0.up room refl ((all_objects_refer read.0).ends u))
-  ]
-  from_four s at (Err fault) e = tt
+    closed_by : (s u : Spot) (n : ℕ) (answer : Answer (List Object)) → s.met ≤ u.met → u.met ≤ n → u.most ≡ n → Ends (ObjectsSo n) u answer → AreClosed s answer
+    closed_by s u n (Ok read) l room most e =
+        let step = e.0 in
+        let end = step.within (omega (arith, room, most)) in
+        let same = step.most in
+        let size = e.1.1 in
+        let up = step.up in
+        (omega (arith, l, up), e.1.0, omega (arith, end, same, most, size))
+    closed_by s u n (Err fault) l room most e = tt
 
-  objects_closed : (s : Spot) → AreClosed s (objects bytes s)
-  unfolding objects
-  objects_closed s = from_four s s.at (four bytes s) (four_refers.ends s)
+    from_four : (s : Spot) (at : ℕ) (answer : Answer ℕ) → Ends {A = ℕ} Any s answer → AreClosed s (after answer (λ n. bounded at n >>= λ m. more (object texts bytes) m []))
+    from_four s at (Ok read) e = elim (cases_Bool (nat_lt read.0 read.1.met)) [
+      | inl f ↦ rw f tt
+      | inr f ↦
+          let u : Spot = record read.1 { most = read.0 } in
+          let room = ltb-false read.0 read.1.met f in
+          rw f (closed_by s u read.0 (more (object texts bytes) read.0 [] u) e.0.up room refl ((all_objects_refer read.0).ends u))
+    ]
+    from_four s at (Err fault) e = tt
 
-  abbrev ValuesSo : ℕ → List (Option Value) → ℕ → Type 0
-  ValuesSo count xs k = All (λ o. OfHeld o k) xs × (length xs ≡ count)
+    objects_closed : (s : Spot) → AreClosed s (objects texts bytes s)
+    unfolding objects
+    objects_closed s = from_four s s.at (four bytes s) (four_refers.ends s)
 
-  values_refer : (n : ℕ) → Refers (ValuesSo n) (values bytes n)
-  unfolding values
-  values_refer n = refers_weaker (AreSuch OfHeld Anything n) (ValuesSo n) (values bytes n) (λ vs k h. (h.0, h.1))
-      (each_refers OfHeld (λ o i j l h. below_up (held_refs value_refs o) i j l h) (λ before. held bytes (n == 1)) (λ before. held_refers (n == 1)) n)
+    abbrev ValuesSo : ℕ → List (Option Value) → ℕ → Type 0
+    ValuesSo count xs k = All (λ o. OfHeld o k) xs × (length xs ≡ count)
+
+    values_refer : (n : ℕ) → Refers (ValuesSo n) (values texts bytes n)
+    unfolding values
+    values_refer n = refers_weaker (AreSuch OfHeld Anything n) (ValuesSo n) (values texts bytes n) (λ vs k h. (h.0, h.1))
+        (each_refers OfHeld (λ o i j l h. below_up (held_refs value_refs o) i j l h) (λ before. held texts bytes (n == 1)) (λ before. held_refers (n == 1)) n)
 
 -- ---- the part
 
@@ -424,9 +443,9 @@ abbrev IsWhole : Answer PartValue → Type 0
 IsWhole (Ok read) = IsOfItself read.0
 IsWhole (Err fault) = Unit {0}
 
-module _ (bytes : List ℕ) where
+module _ (texts : Texts) (bytes : List ℕ) where
   whole_by : (ns : List (List ℕ)) (vs : List (Option Value)) (s : Spot) (answer : Answer (List Object)) → All (λ x. IsTrue (is_variable x)) ns → length vs ≡ length ns → All (λ o. OfHeld o s.met) vs
-      → AreClosed bytes s answer → IsWhole (after answer (λ os. pure (record { names = ns; values = vs; objects = os })))
+      → AreClosed bytes texts s answer → IsWhole (after answer (λ os. pure (record { names = ns; values = vs; objects = os })))
   whole_by ns vs s (Ok read) named size h c =
       let l = c.0 in
       let m = c.2 in
@@ -439,29 +458,29 @@ module _ (bytes : List ℕ) where
       }
   whole_by ns vs s (Err fault) named size h c = tt
 
-  whole_after : (ns : List (List ℕ)) (s : Spot) (answer : Answer (List (Option Value))) → All (λ x. IsTrue (is_variable x)) ns → Ends (ValuesSo bytes (length ns)) s answer
-      → IsWhole (after answer (λ vs. objects bytes >>= λ os. pure (record { names = ns; values = vs; objects = os })))
-  whole_after ns s (Ok read) named e = whole_by ns read.0 read.1 (objects bytes read.1) named e.1.1 e.1.0 (objects_closed bytes read.1)
+  whole_after : (ns : List (List ℕ)) (s : Spot) (answer : Answer (List (Option Value))) → All (λ x. IsTrue (is_variable x)) ns → Ends (ValuesSo bytes texts (length ns)) s answer
+      → IsWhole (after answer (λ vs. objects texts bytes >>= λ os. pure (record { names = ns; values = vs; objects = os })))
+  whole_after ns s (Ok read) named e = whole_by ns read.0 read.1 (objects texts bytes read.1) named e.1.1 e.1.0 (objects_closed bytes texts read.1)
   whole_after ns s (Err fault) named e = tt
 
   whole_from : (s : Spot) (answer : Answer (List (List ℕ))) → Ends (AreVariables bytes) s answer
-      → IsWhole (after answer (λ ns. values bytes (length ns) >>= λ vs. objects bytes >>= λ os. pure (record { names = ns; values = vs; objects = os })))
-  whole_from s (Ok read) e = whole_after read.0 read.1 (values bytes (length read.0) read.1) e.1 ((values_refer bytes (length read.0)).ends read.1)
+      → IsWhole (after answer (λ ns. values texts bytes (length ns) >>= λ vs. objects texts bytes >>= λ os. pure (record { names = ns; values = vs; objects = os })))
+  whole_from s (Ok read) e = whole_after read.0 read.1 (values texts bytes (length read.0) read.1) e.1 ((values_refer bytes texts (length read.0)).ends read.1)
   whole_from s (Err fault) e = tt
 
-  whole : IsWhole (part bytes start)
+  whole : (known : ℕ) → IsWhole (part texts bytes (start known))
   unfolding part
-  whole = whole_from start (names bytes start) ((names_refer bytes).ends start)
+  whole known = whole_from (start known) (names bytes (start known)) ((names_refer bytes).ends (start known))
 
-  part_in : PartValue → Result (PartValue × ℕ) PartFault → PartValue
+  part_in : PartValue → Result (PartValue × ℕ × ℕ) PartFault → PartValue
   part_in p (Ok read) = read.0
   part_in p (Err fault) = p
 
-  sized : (answer : Answer PartValue) (p : PartValue) (n : ℕ) → IsWhole answer → with_size answer ≡ Ok (p, n) → IsOfItself p
+  sized : (answer : Answer PartValue) (read : PartValue × ℕ × ℕ) → IsWhole answer → with_known answer ≡ Ok read → IsOfItself read.0
   unfolding part_in
-  sized (Ok read) p n w e = let same : read.0 ≡ p = ap (part_in p) e in subst IsOfItself same w
-  sized (Err fault) p n w e = absurd (let is = e in cc)
+  sized (Ok here) read w e = let same : here.0 ≡ read.0 = ap (part_in read.0) e in subst IsOfItself same w
+  sized (Err fault) read w e = absurd (let is = e in cc)
 
-  pub read_of_itself : (p : PartValue) (n : ℕ) → part_read bytes ≡ Ok (p, n) → IsOfItself p
-  unfolding part_read
-  read_of_itself p n e = sized (part bytes start) p n whole e
+  pub read_of_itself : (known : ℕ) (read : PartValue × ℕ × ℕ) → part_read2 texts known bytes ≡ Ok read → IsOfItself read.0
+  unfolding part_read2
+  read_of_itself known read e = sized (part texts bytes (start known)) read (whole known) e

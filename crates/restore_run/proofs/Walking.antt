@@ -84,12 +84,12 @@ same_texts (x ∷ xs) (y ∷ ys) e =
 
 -- ---- a part that isn't unlike its version
 
-module _ (x : Version) (p : PartValue) (size : ℕ) (like : is_unlike x p size ≡ false) where
+module _ (x : Version) (p : PartValue) (like : is_unlike x p ≡ false) where
   names_like : p.names ≡ x.names
   names_like =
       let first = or_parts (not (nat_eq x.replaced 0)) _ like in
       let second = or_parts x.handle _ first.1 in
-      let third = or_parts (not (is_same p.names x.names)) (is_otherwise x p size) second.1 in
+      let third = or_parts (not (is_same p.names x.names)) (is_otherwise x p) second.1 in
       same_texts p.names x.names (not-false (is_same p.names x.names) third.0)
 
 one_name : (names : List Name) → (names ≡ [] → ⊥) → (1 < length names → ⊥) → (name : Name) × (names ≡ name ∷ [])
@@ -347,9 +347,9 @@ module _ (k : Checkpoint) (sound : IsSoundCheckpoint k) where
     | inr stays ↦
         let c = zip_at (IsCopyAt g.versions) cs k.parts n v p sound.restorable.copies at.0 part in
         let same : c.0 ≡ x = same_Some c.0 x (sym c.1 ∙ at.1.1) in
-        let like : is_unlike x p c.2.size ≡ false = subst (λ (y : Version). is_unlike y p c.2.size ≡ false) same c.2.agrees in
-        let names : p.names ≡ x.names = names_like x p c.2.size like in
-        let own = read_of_itself c.2.bytes p c.2.size c.2.was_read in
+        let like : is_unlike x p ≡ false = subst (λ (y : Version). is_unlike y p ≡ false) same c.2.agrees in
+        let names : p.names ≡ x.names = names_like x p like in
+        let own = read_of_itself c.2.texts c.2.bytes c.2.known (p, c.2.size, c.2.later) c.2.was_read in
         let distinct : AreDistinct p.names = subst AreDistinct (sym names) (distinct_names v x at.1) in
         let entire : IsWhole p = record { distinct = distinct; as_many = own.as_many; values = own.values; objects = own.objects } in
         let is = present stays in

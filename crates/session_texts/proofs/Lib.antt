@@ -4,5 +4,6 @@ pub mod Tokens
 pub mod First
 pub mod Plainness
 pub mod Counts
+pub mod FewTexts
 pub mod Written
 pub mod Restored

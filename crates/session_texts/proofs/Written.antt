@@ -38,6 +38,7 @@ use Rattle.notebook_meaning.proofs.Lists.{list_of, codes_of}
 use Rattle.notebook_meaning.proofs.Validity.{valid_at}
 use Rattle.notebook_meaning.proofs.Written.{has_text}
 use Rattle.checkpoint_laws.specs.Spelled.{IsCode, HasText}
+use Rattle.checkpoint_laws.proofs.Alike.{table_alike}
 use Rattle.checkpoint_laws.specs.SpelledParts.{HasPartText}
 use Rattle.replay_laws.proofs.Ending.{same_over}
 use Rattle.replay_laws.proofs.PartsAlike.{one_part}
@@ -50,6 +51,7 @@ use Rattle.session_texts.specs.Words.{HaveWords}
 use Rattle.session_texts.proofs.First.{FitsAlways, fits_of, fits_last}
 use Rattle.session_texts.proofs.Plainness.{plain_at}
 use Rattle.session_texts.proofs.Counts.{few_names, few_bytes, few_reads, few_missing}
+use Rattle.session_texts.proofs.FewTexts.{few_texts}
 
 -- ---- objects
 
@@ -140,6 +142,7 @@ module _ (cells : List ListedCell) (codes : HaveCodes cells) (words : HaveWords 
   plain : (p : Plan) → IsPlainCheckpoint Last g p
   plain p = record {
     count = small_count;
+    texts = few_texts cells codes words fits g of p;
     cells = λ k d l. plain_cell k (get_or g.cells k d) (slice_get-get_or g.cells k d l);
     versions = λ k d l. plain_version k (get_or g.versions k d) (slice_get-get_or g.versions k d l);
     parts = λ k d l copied. plain_part Last closed_last plain_last (get_or g.versions k d).names
@@ -192,15 +195,20 @@ plain_of_run served run words g of p = plain (cells_of served) (codes_of served 
 module _ (cells : List ListedCell) (codes : HaveCodes cells) (words : HaveWords cells) (fits : FitsAlways cells) (g : Graph) (t : State) (stands : StandsFor read size_of cells g t) where
   text_stands : (p : Plan) → NamesOf g p → IsFeasible g p → HasText t g p
   text_stands p plan feasible =
-      let h = has_a_text cells codes words fits stands.list g (graph_of cells fits g stands.history) p plan feasible in
+      let all = has_a_text cells codes words fits stands.list g (graph_of cells fits g stands.history) p plan feasible in
+      let h = all.one in
+      let closed = (valid_at cells (length cells) codes).closed in
       record {
-        count = subst (λ (n : ℕ). n < 2 ^ 32) stands.same.count h.count;
-        meter = subst (λ (n : ℕ). n ≤ 16777216) stands.same.meter h.meter;
-        few_cells = h.few_cells;
-        cells = h.cells;
-        few_versions = h.few_versions;
-        versions = h.versions;
-        parts = λ v x c at. subst HasPartText (one_part x.names (unmoved cells) t (valid_at cells (length cells) codes).closed stands.closed (same_over (unmoved cells) t stands.same.names x.names)) (h.parts v x c at);
+        one = record {
+          count = subst (λ (n : ℕ). n < 2 ^ 32) stands.same.count h.count;
+          meter = subst (λ (n : ℕ). n ≤ 16777216) stands.same.meter h.meter;
+          few_cells = h.few_cells;
+          cells = h.cells;
+          few_versions = h.few_versions;
+          versions = h.versions;
+          parts = λ v x c at. subst HasPartText (one_part x.names (unmoved cells) t closed stands.closed (same_over (unmoved cells) t stands.same.names x.names)) (h.parts v x c at);
+        };
+        texts = subst (λ (ts : List (List ℕ)). length ts < 2 ^ 32) (table_alike (unmoved cells) t closed stands.closed stands.same p g) all.texts;
       }
 
 pub text_of_standing : (served : List Served) → IsRunOfAsks served → HaveWords (cells_of served) → (g : Graph) (t : State) → StandsFor read size_of (cells_of served) g t → (p : Plan) → NamesOf g p → IsFeasible g p → HasText t g p

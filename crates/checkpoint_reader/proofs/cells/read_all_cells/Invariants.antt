@@ -5,4 +5,4 @@ use Rattle.checkpoint_reader.specs.Numbered.{AreCells}
 use Rattle.checkpoint_reader.proofs.cells.read_all_cells.Given as goal
 
 abbrev pub invariant-loop-index : goal.invariant-loop-index
-invariant-loop-index l = AreCells l.index l.cells × (turns (spec.next_cell l.bytes) (l.count - l.index) l.cells l.spot ≡ turns (spec.next_cell l.bytes) l.count spec.no_cells l.fn.spot)
+invariant-loop-index l = AreCells l.index l.cells × (turns (spec.next_cell l.bytes l.texts) (l.count - l.index) l.cells l.spot ≡ turns (spec.next_cell l.bytes l.texts) l.count spec.no_cells l.fn.spot)

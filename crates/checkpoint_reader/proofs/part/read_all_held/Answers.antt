@@ -5,16 +5,16 @@ use Rattle.checkpoint_reader.proofs.PartTurns.{turn_reads, failed_turn, turns_en
 use Rattle.checkpoint_reader.proofs.part.read_all_held.Goals as goal
 
 pub loop-index-init : goal.loop-index-init
-loop-index-init c = turns_begin (λ before. spec.held c.args.bytes.now c.args.alone) c.args.count _ c.args.spot.now c.new-all.ensures
+loop-index-init c = turns_begin (λ before. spec.held c.args.texts.now c.args.bytes.now c.args.alone) c.args.count _ c.args.spot.now c.new-all.ensures
 
 pub loop-index-preserved : goal.loop-index-preserved
-loop-index-preserved c = turn_reads (λ before. spec.held c.args.bytes.now c.args.alone) c.args.count c.loop-index.index _ _ _ _ _ _ c.loop-index-test.true c.loop-index.invariant (c.in_ok-next.ensures refl) c.in_ok-push.ensures.ok
+loop-index-preserved c = turn_reads (λ before. spec.held c.args.texts.now c.args.bytes.now c.args.alone) c.args.count c.loop-index.index _ _ _ _ _ _ c.loop-index-test.true c.loop-index.invariant (c.in_ok-next.ensures refl) c.in_ok-push.ensures.ok
 
 pub returns-in_err-next : goal.returns-in_err-next
 returns-in_err-next c = λ t.
     let p = err_from_is_err_and c.from_residual.result c.from_residual.ensures.1 in
-    failed_turn (λ before. spec.held c.args.bytes.now c.args.alone) c.args.count c.loop-index.index _ _ _ c.in_err-next.field-0.0 c.from_residual.result _ c.loop-index-test.true c.loop-index.invariant
+    failed_turn (λ before. spec.held c.args.texts.now c.args.bytes.now c.args.alone) c.args.count c.loop-index.index _ _ _ c.in_err-next.field-0.0 c.from_residual.result _ c.loop-index-test.true c.loop-index.invariant
     (p.1 ∙ ap (λ z. Err z) p.2) t c.in_err-next.ensures
 
 pub returns : goal.returns
-returns c = λ t. turns_end (λ before. spec.held c.args.bytes.now c.args.alone) c.args.count c.loop-index.index _ _ _ c.loop-index-test.false c.loop-index.invariant
+returns c = λ t. turns_end (λ before. spec.held c.args.texts.now c.args.bytes.now c.args.alone) c.args.count c.loop-index.index _ _ _ c.loop-index-test.false c.loop-index.invariant

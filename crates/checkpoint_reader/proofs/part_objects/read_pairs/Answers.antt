@@ -5,16 +5,16 @@ use Rattle.checkpoint_reader.proofs.PartTurns.{turn_reads, failed_turn, turns_en
 use Rattle.checkpoint_reader.proofs.part_objects.read_pairs.Goals as goal
 
 pub loop-index-init : goal.loop-index-init
-loop-index-init c = turns_begin (spec.pair c.args.bytes.now) c.args.count _ c.args.spot.now c.new-dict.ensures
+loop-index-init c = turns_begin (spec.pair c.args.texts.now c.args.bytes.now) c.args.count _ c.args.spot.now c.new-dict.ensures
 
 pub loop-index-preserved : goal.loop-index-preserved
-loop-index-preserved c = turn_reads (spec.pair c.args.bytes.now) c.args.count c.loop-index.index _ _ _ _ _ _ c.loop-index-test.true c.loop-index.invariant (c.in_ok-next.ensures.exact refl) (c.in_ok-put.ensures.ok ∙ fresh_pair _ _ _ c.in_ok-next.ensures.fresh)
+loop-index-preserved c = turn_reads (spec.pair c.args.texts.now c.args.bytes.now) c.args.count c.loop-index.index _ _ _ _ _ _ c.loop-index-test.true c.loop-index.invariant (c.in_ok-next.ensures.exact refl) (c.in_ok-put.ensures.ok ∙ fresh_pair _ _ _ c.in_ok-next.ensures.fresh)
 
 pub returns-in_err-next : goal.returns-in_err-next
 returns-in_err-next c = λ t.
     let p = err_from_is_err_and c.from_residual.result c.from_residual.ensures.1 in
-    failed_turn (spec.pair c.args.bytes.now) c.args.count c.loop-index.index _ _ _ c.in_err-next.field-0.0 c.from_residual.result _ c.loop-index-test.true c.loop-index.invariant
+    failed_turn (spec.pair c.args.texts.now c.args.bytes.now) c.args.count c.loop-index.index _ _ _ c.in_err-next.field-0.0 c.from_residual.result _ c.loop-index-test.true c.loop-index.invariant
     (p.1 ∙ ap (λ z. Err z) p.2) t c.in_err-next.ensures.exact
 
 pub returns : goal.returns
-returns c = λ t. turns_end (spec.pair c.args.bytes.now) c.args.count c.loop-index.index _ _ _ c.loop-index-test.false c.loop-index.invariant
+returns c = λ t. turns_end (spec.pair c.args.texts.now c.args.bytes.now) c.args.count c.loop-index.index _ _ _ c.loop-index-test.false c.loop-index.invariant

@@ -4,4 +4,4 @@ use Rattle.checkpoint_reader.specs.PartReading as spec
 use Rattle.checkpoint_reader.proofs.part_objects.read_pairs.Given as goal
 
 abbrev pub invariant-loop-index : goal.invariant-loop-index
-invariant-loop-index l = more (spec.pair l.bytes) (l.count - l.index) l.dict l.spot ≡ more (spec.pair l.bytes) l.count [] l.fn.spot
+invariant-loop-index l = more (spec.pair l.texts l.bytes) (l.count - l.index) l.dict l.spot ≡ more (spec.pair l.texts l.bytes) l.count [] l.fn.spot

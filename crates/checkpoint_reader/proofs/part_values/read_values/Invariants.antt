@@ -4,4 +4,4 @@ use Rattle.checkpoint_reader.specs.PartReading as spec
 use Rattle.checkpoint_reader.proofs.part_values.read_values.Given as goal
 
 abbrev pub invariant-loop-index : goal.invariant-loop-index
-invariant-loop-index l = more (λ before. spec.value l.bytes) (l.count - l.index) l.all l.spot ≡ more (λ before. spec.value l.bytes) l.count [] l.fn.spot
+invariant-loop-index l = more (λ before. spec.value l.texts l.bytes) (l.count - l.index) l.all l.spot ≡ more (λ before. spec.value l.texts l.bytes) l.count [] l.fn.spot

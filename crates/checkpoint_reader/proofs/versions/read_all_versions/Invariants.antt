@@ -5,4 +5,4 @@ use Rattle.checkpoint_reader.specs.Numbered.{AreVersions}
 use Rattle.checkpoint_reader.proofs.versions.read_all_versions.Given as goal
 
 abbrev pub invariant-loop-index : goal.invariant-loop-index
-invariant-loop-index l = AreVersions l.index l.versions × (turns (spec.next_version l.bytes) (l.count - l.index) l.versions l.spot ≡ turns (spec.next_version l.bytes) l.count spec.no_versions l.fn.spot)
+invariant-loop-index l = AreVersions l.index l.versions × (turns (spec.next_version l.bytes l.texts) (l.count - l.index) l.versions l.spot ≡ turns (spec.next_version l.bytes l.texts) l.count (spec.no_versions l.known) l.fn.spot)
