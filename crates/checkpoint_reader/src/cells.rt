@@ -8,7 +8,7 @@ use crate::fault::CheckpointFault;
 use crate::fields::Cells;
 use crate::texts::{read_code, read_names, read_numbers};
 use graph_model::CellRecord;
-use plain_data::Items;
+use plain_data::{Few, Items};
 use std::alloc::{AllocError, Global};
 
 /// The greatest meter.
@@ -32,7 +32,7 @@ fn read_cell(
     let drew = read_truth(bytes, spot)?;
     let rerun = read_truth(bytes, spot)?;
     let reads = read_numbers(alloc, bytes, spot)?;
-    let missing = read_names(alloc, bytes, spot)?;
+    let missing = Few::from_items(read_names(alloc, bytes, spot)?);
     let cell = CellRecord {
         code,
         meter,

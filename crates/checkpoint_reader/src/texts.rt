@@ -5,7 +5,7 @@ ghost use Rattle.checkpoint_reader.specs.Fields as spec;
 
 use crate::bytes::{read_byte, read_four, take_bytes};
 use crate::fault::CheckpointFault;
-use plain_data::{Items, Text};
+use plain_data::{Few, Items, Text};
 use std::alloc::Global;
 use std::str::from_utf8;
 
@@ -89,10 +89,10 @@ fn read_all_numbers(
     bytes: &[u8],
     spot: &mut usize,
     count: u32,
-) -> Result<Items<u32>, CheckpointFault>
+) -> Result<Few<u32, 4>, CheckpointFault>
     ensures { Is (many (spec.four bytes.now) count spot.old) result spot.new }
 {
-    let mut all = Items::new(alloc);
+    let mut all = Few::new(alloc);
     for index in 0..count {
         let next = read_four(bytes, spot)?;
         all.push(next)?;
@@ -106,7 +106,7 @@ pub(crate) fn read_numbers(
     alloc: Global,
     bytes: &[u8],
     spot: &mut usize,
-) -> Result<Items<u32>, CheckpointFault>
+) -> Result<Few<u32, 4>, CheckpointFault>
     ensures { Is (spec.numbers bytes.now spot.old) result spot.new }
 {
     let count = read_four(bytes, spot)?;

@@ -10,7 +10,7 @@ use anyhow::{Result, bail};
 use graph_model::Tally;
 use json_members::{small_in, text_in, truth_in};
 use jupyter_messages::{Message, MessageKind};
-use plain_data::{Items, Text};
+use plain_data::{Few, Items, Text};
 use serde_json::Value;
 use session_core::{Completion, DiedCause, Entry, Failure, Reply, Request};
 use std::alloc::Global;
@@ -93,7 +93,7 @@ fn ran(alloc: Global, line: &Value) -> Result<Entry> {
     Ok(Entry::Ran {
         host: 0,
         request: request_in(alloc, line)?,
-        draws: Items::new(alloc),
+        draws: Few::new(alloc),
         reply: reply_of(alloc, line)?,
     })
 }

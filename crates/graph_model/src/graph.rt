@@ -1,4 +1,4 @@
-use plain_data::{Items, Text};
+use plain_data::{Few, Items, Text};
 use std::error::Error;
 use std::fmt;
 
@@ -14,9 +14,9 @@ pub struct CellRecord {
     /// Whether it called `draw()`. A cell that drew is never run again.
     pub drew: bool,
     /// The versions that it read, ascending.
-    pub reads: Items<u32>,
+    pub reads: Few<u32, 4>,
     /// The names that it looked up before any cell had bound them, ascending.
-    pub missing: Items<Text>,
+    pub missing: Few<Text, 1>,
 }
 
 /// What one cell left in one part of the state.

@@ -7,7 +7,7 @@ ghost use Rattle.history_graph.specs.Touched.{AreHeld, Misses};
 use crate::active::active_version;
 use crate::sets::{add_those, is_in};
 use graph_model::Graph;
-use plain_data::{Items, Text, TextMap};
+use plain_data::{Few, Text, TextMap};
 use py_machine::Marks;
 use std::alloc::{AllocError, Global};
 
@@ -30,10 +30,10 @@ fn held_names(
 }
 
 /// Those of the names that aren't in the set.
-fn outside(alloc: Global, names: &[Text], set: &TextMap<()>) -> Result<Items<Text>, AllocError>
+fn outside(alloc: Global, names: &[Text], set: &TextMap<()>) -> Result<Few<Text, 1>, AllocError>
     ensures { IfOk result (λ rest. rest ≡ filter (λ name. not (has_member set.now name)) names.now) }
 {
-    let mut rest = Items::new(alloc);
+    let mut rest = Few::new(alloc);
     for name in names {
         if !is_in(set, name) {
             rest.push(name.copy(alloc)?)?;
@@ -48,7 +48,7 @@ pub(crate) fn missing_of(
     graph: &Graph,
     active: &[u32],
     marks: &Marks,
-) -> Result<Items<Text>, AllocError>
+) -> Result<Few<Text, 1>, AllocError>
     requires { AreActive graph.now active.now }
     ensures ascends { IfOk result (λ missing. Ascends TextBelow missing) }
     ensures missing { IfOk result (λ missing. (name : List ℕ) → Contains missing name ↔ Misses graph.now marks.now name) }

@@ -6,7 +6,7 @@ ghost use Rattle.history_graph.specs.Touched.{is_read_by, AreTouched, Reads};
 use crate::active::active_version;
 use crate::sets::is_in;
 use graph_model::{Graph, Version};
-use plain_data::{Items, Text};
+use plain_data::{Few, Text};
 use py_machine::Marks;
 use std::alloc::{AllocError, Global};
 
@@ -46,12 +46,12 @@ pub(crate) fn reads_of(
     graph: &Graph,
     active: &[u32],
     marks: &Marks,
-) -> Result<Items<u32>, AllocError>
+) -> Result<Few<u32, 4>, AllocError>
     requires { AreActive graph.now active.now }
     ensures ascends { IfOk result (λ reads. Ascends (λ m n. m < n) reads) }
     ensures reads { IfOk result (λ reads. (v : ℕ) → Contains reads v ↔ Reads graph.now marks.now v) }
 {
-    let mut reads = Items::new(alloc);
+    let mut reads = Few::new(alloc);
     for v in active {
         let version = active_version(graph, *v);
         if is_touched(marks, version) {

@@ -11,6 +11,17 @@ pub enum Drawn {
     Failed,
 }
 
+/// What an unused place of a list holds.
+impl Default for Drawn {
+    ghost use Rattle.nb_outside.specs.declared.feed.Drawn.TheVariants.{Failed};
+
+    ghost is_default = { λ drawn. drawn ≡ Failed };
+
+    fn default() -> Drawn {
+        Drawn::Failed
+    }
+}
+
 /// Where the words of `draw()` come from.
 pub trait Feed: Drop {
     ghost use Rattle.nb_outside.specs.Feeds.{Seen, Gives};

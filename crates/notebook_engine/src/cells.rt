@@ -18,7 +18,7 @@ use crate::session::Session;
 use graph_model::Tally as Number;
 use history_graph::HistoryFault;
 use nb_outside::Feed;
-use plain_data::cut_at;
+use plain_data::{Few, cut_at};
 use py_heap::State;
 use py_kernel::Kernel;
 use py_meaning::CellEnd;
@@ -153,7 +153,10 @@ impl Session {
             Err(HistoryFault::OutOfMemory) => return Err(RunFault::OutOfMemory),
         }
         match reply_of(alloc, count, silent, fault, printed, result, error) {
-            Ok(reply) => Ok(Done { reply, draws }),
+            Ok(reply) => Ok(Done {
+                reply,
+                draws: Few::from_items(draws),
+            }),
             Err(_) => Err(RunFault::OutOfMemory),
         }
     }

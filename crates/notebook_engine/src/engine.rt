@@ -8,7 +8,7 @@ use crate::notebook::Notebook;
 use crate::session::Session;
 use graph_model::Weights;
 use nb_outside::{Feed, draws_add_up};
-use plain_data::Items;
+use plain_data::Few;
 use py_reader::{Completeness, Trees, completeness};
 use session_core::{Ask, Completion, Done, Engine, PackFault, Packed, Reply, RunFault};
 use std::alloc::{AllocError, Global};
@@ -38,7 +38,7 @@ fn told(alloc: Global, reply: Reply) -> Done
 {
     Done {
         reply,
-        draws: Items::new(alloc),
+        draws: Few::new(alloc),
     }
 }
 

@@ -10,6 +10,7 @@
 mod boxed;
 mod cut;
 mod cut_laws;
+mod few;
 mod items;
 mod shared;
 mod shared_text;
@@ -20,6 +21,7 @@ mod text_map;
 pub use boxed::Boxed;
 pub use cut::cut_at;
 pub use cut_laws::a_text_is_cut_near_the_end_of_its_room;
+pub use few::Few;
 pub use items::Items;
 pub use shared::Shared;
 pub use shared_text::SharedText;

@@ -1,10 +1,11 @@
-ghost use Rattle.std.specs.Prelude.{◌≡◌, refl, ◌++◌, IfOk, OnOk, OnErr, Some, nat_eq, string_bytes, length};
+ghost use Rattle.std.specs.Prelude.{◌≡◌, [], refl, ◌++◌, IfOk, OnOk, OnErr, Some, nat_eq, string_bytes, length};
 ghost use Rattle.std.specs.Ordering.{nat_cmp};
 ghost use Rattle.std.specs.Cmp.{partial_equiv_from_equiv};
 ghost use Rattle.std.specs.Cmp.Lexicographic.{pointwise, slice_cmp, nat_list_eq_equiv, nat_list_cmp_total, texts_po, texts_ties};
 
 use std::alloc::{AllocError, Global};
 use std::cmp::Ordering;
+use std::default::MadeWith;
 use std::marker::Model;
 
 /// A `String` that contracts see as the list of its bytes.
@@ -96,6 +97,17 @@ fn order_of(left: &[u8], right: &[u8]) -> Ordering
         Ordering::Equal
     } else {
         Ordering::Less
+    }
+}
+
+/// The empty text. Takes no memory.
+impl MadeWith<Global> for Text {
+    ghost is_made_with = { λ t. t ≡ [] };
+
+    fn made_with(alloc: Global) -> Text {
+        Text {
+            inner: String::new(alloc),
+        }
     }
 }
 

@@ -7,7 +7,7 @@ use json_members::{
     is_set, item_at, list_or_none, number_of, numbers_of, small_in, small_of, small_or_0,
     smalls_of, texts_of,
 };
-use plain_data::{Items, Text};
+use plain_data::{Few, Items, Text};
 use serde_json::Value;
 use std::alloc::Global;
 
@@ -49,8 +49,8 @@ fn cell_given(alloc: Global, cell: &Value) -> Result<CellRecord> {
         meter: 0,
         steps: small_or_0(cell, "steps")?,
         drew: is_set(cell, "drew"),
-        reads: smalls_of(alloc, list_or_none(cell, "reads")?)?,
-        missing: texts_of(alloc, list_or_none(cell, "missing")?)?,
+        reads: Few::from_items(smalls_of(alloc, list_or_none(cell, "reads")?)?),
+        missing: Few::from_items(texts_of(alloc, list_or_none(cell, "missing")?)?),
     })
 }
 

@@ -1,5 +1,5 @@
 use graph_model::{CellRecord, Graph, Version};
-use plain_data::{Items, Text};
+use plain_data::{Few, Items, Text};
 use std::alloc::{AllocError, Global};
 
 /// A session so far, with the active versions of its list `d` and of its number `total`.
@@ -34,8 +34,8 @@ impl MadeSession {
             meter: 0,
             steps,
             drew: false,
-            reads: Items::from_slice(alloc, reads)?,
-            missing: Items::new(alloc),
+            reads: Few::from_slice(alloc, reads)?,
+            missing: Few::new(alloc),
         })?;
         Ok(())
     }

@@ -1,5 +1,5 @@
 use graph_model::{CellRecord, Graph, Version};
-use plain_data::{Items, Text};
+use plain_data::{Few, Items, Text};
 use std::alloc::{AllocError, Global};
 
 /// How the cells of a graph read one another.
@@ -201,8 +201,8 @@ impl Maker {
             meter: 0,
             steps,
             drew: false,
-            reads: Items::from_vec(reads),
-            missing: Items::new(alloc),
+            reads: Few::from_items(Items::from_vec(reads)),
+            missing: Few::new(alloc),
         })?;
         Ok(())
     }

@@ -5,7 +5,7 @@ use crate::reply::Reply;
 use crate::request::{Channel, Header, Request};
 use graph_model::{Certified, Plan, Tally};
 use nb_outside::Drawn;
-use plain_data::{Items, Text};
+use plain_data::{Few, Items, Text};
 use plan_model::WeightFault;
 use std::alloc::{AllocError, Global};
 
@@ -51,7 +51,7 @@ pub enum Entry {
     Ran {
         host: u32,
         request: Request,
-        draws: Items<Drawn>,
+        draws: Few<Drawn, 1>,
         reply: Reply,
     },
     /// It died at this request.
@@ -189,7 +189,7 @@ impl Entry {
             } => Ok(Entry::Ran {
                 host: *host,
                 request: request.copy(alloc)?,
-                draws: Items::from_slice(alloc, draws.as_slice())?,
+                draws: Few::from_slice(alloc, draws.as_slice())?,
                 reply: reply.copy(alloc)?,
             }),
             Entry::Died { .. } | Entry::Dead { .. } => self.copy_of_death(alloc),

@@ -1,7 +1,7 @@
 ghost use Rattle.std.specs.Prelude.{◌≡◌, IfOk};
 
 use nb_outside::Drawn;
-use plain_data::{Items, Text};
+use plain_data::{Few, Text};
 use std::alloc::{AllocError, Global};
 
 /// Whether a code is a whole cell. (Jupyter messaging 5.3, `is_complete_reply`.)
@@ -48,7 +48,7 @@ pub enum Reply {
 #[derive(Debug, Drop)]
 pub struct Done {
     pub reply: Reply,
-    pub draws: Items<Drawn>,
+    pub draws: Few<Drawn, 1>,
 }
 
 fn copy_of_shown(alloc: Global, shown: &Option<Text>) -> Result<Option<Text>, AllocError>

@@ -10,7 +10,7 @@ ghost use Rattle.session_show.specs.Counting.{added, no_graph};
 
 use graph_model::{Certified, Graph, Plan, Tally, Weights};
 use nb_outside::{Feed, draws_add_up};
-use plain_data::{Items, Text};
+use plain_data::{Few, Items, Text};
 use plan_model::{WeightFault, check_weights};
 use session_core::{Ask, Done, Engine, PackFault, Packed, Reply, RunFault};
 use std::alloc::{AllocError, Global};
@@ -86,7 +86,10 @@ impl Engine for Counter {
         match executed(alloc, next) {
             Ok(reply) => {
                 self.total = next;
-                Ok(Done { reply, draws })
+                Ok(Done {
+                    reply,
+                    draws: Few::from_items(draws),
+                })
             }
             Err(_) => Err(RunFault::OutOfMemory),
         }
