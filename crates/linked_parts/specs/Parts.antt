@@ -80,9 +80,9 @@ pub record ArePartsOf (s : State) (found : PartList) : Type 0 where
   pub whole : (x : Name) → HasValue s x → (p : Part) × Contains found.list p × Contains p.names x
 
 -- parts of the state, and each name with a value is in one
-pub record ArePartsIn (s : State) (parts : List Part) : Type 0 where
-  pub parts : All (IsPartOf s) parts
-  pub whole : (x : Name) → HasValue s x → (p : Part) × Contains parts p × Contains p.names x
+pub record ArePartsIn (s : State) (found : List Part) : Type 0 where
+  pub parts : All (IsPartOf s) found
+  pub whole : (x : Name) → HasValue s x → (p : Part) × Contains found p × Contains p.names x
 
 -- the part at this place has the name
 abbrev pub HasNameAt : List Part → ℕ → Name → Type 0
