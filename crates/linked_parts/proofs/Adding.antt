@@ -1,5 +1,5 @@
 -- What a cell touched, one name and one part after the other.
-use Rattle.std.proofs.Common.{◌≡◌, ℕ, ◌+◌, ◌<◌, ◌≤◌, List, [], ◌∷◌, ◌++◌, length, get_or, take, Option, Some, None, is_some, Bor, refl, sym, ap, ◌∙◌, ◌⊎◌, inl, inr, subst, arith, take_all}
+use Rattle.std.proofs.Common.{◌≡◌, true, false, ℕ, ◌+◌, ◌<◌, ◌≤◌, List, [], ◌∷◌, ◌++◌, length, get_or, take, Option, Some, None, is_some, Bor, refl, sym, ap, ◌∙◌, ◌⊎◌, inl, inr, subst, arith, take_all}
 use Rattle.std.specs.Prelude.{Contains, slice_get, ◌↔◌}
 use Rattle.std.specs.Option.{option_copied}
 use Rattle.std.specs.Ordering.{nat_cmp}

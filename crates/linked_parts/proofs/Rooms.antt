@@ -21,20 +21,13 @@ pub table_room : (t : Table) → IsWhole t → room_in (table_parts t) ≡ t.roo
 table_room t whole = room_by t t.order.items ∙ sym whole.room
 
 -- the sum of some is no greater than that of all
+one_more : (f : ℕ → ℕ) (p : ℕ → Bool) (x : ℕ) (xs : List ℕ) (b : Bool) → sum_by f (filter p xs) ≤ sum_by f xs → sum_by f (cond b (x ∷ filter p xs) (filter p xs)) ≤ sum_by f (x ∷ xs)
+one_more f p x xs true l = let a = sum_by-cons f x (filter p xs) in let b = sum_by-cons f x xs in omega (arith, a, b, l)
+one_more f p x xs false l = let b = sum_by-cons f x xs in omega (arith, b, l)
+
 some_less : (f : ℕ → ℕ) (p : ℕ → Bool) (xs : List ℕ) → sum_by f (filter p xs) ≤ sum_by f xs
 some_less f p [] = omega arith
-some_less f p (x ∷ xs) = by (p x)
-  where
-    by : (b : Bool) → sum_by f (cond b (x ∷ filter p xs) (filter p xs)) ≤ sum_by f (x ∷ xs)
-    by true =
-        let a = sum_by-cons f x (filter p xs) in
-        let b = sum_by-cons f x xs in
-        let l = some_less f p xs in
-        omega (arith, a, b, l)
-    by false =
-        let b = sum_by-cons f x xs in
-        let l = some_less f p xs in
-        omega (arith, b, l)
+some_less f p (x ∷ xs) = one_more f p x xs (p x) (some_less f p xs)
 
 pub stay_room : (t : Table) (gone : List ℕ) → room_in (parts_in t.lists t.heads (without gone t.order.items)) ≤ room_in (table_parts t)
 stay_room t gone =

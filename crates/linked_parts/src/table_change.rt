@@ -139,11 +139,12 @@ impl TableChange {
     pub(crate) fn had(&self, names: &[Text]) -> bool
         ensures { IsTrue result ↔ ((q : Part) × Contains self.now.before q × (q.names ≡ names.now)) }
     {
+        let table = &self.table;
         let [least, ..] = names else {
             return false;
         };
-        match self.table.number_of(least) {
-            Some(number) => are_same(self.table.names(number), names),
+        match table.number_of(least) {
+            Some(number) => are_same(table.names(number), names),
             None => false,
         }
     }

@@ -15,10 +15,10 @@ returns-clause-ascends c =
 
 pub returns-clause-members : goal.returns-clause-members
 returns-clause-members c = λ n.
-    let old = c.into_vec.result.items in
+    let old = c.into_vec-all.result.items in
     let sorted = c.sort_unstable.new.self.items in
     let P : List ℕ → Type 0 = λ xs. Contains xs n in
     let e = c.from_vec.ensures ∙ dedup_is nat_eq sorted c.dedup.new.self.items c.dedup.ensures.filtered in (
-      (λ h. subst P c.into_vec.ensures (Contains-permutation sorted old n (IsPermutation-sym old sorted c.sort_unstable.ensures.permutation) (Contains-from_dedup nat_eq sorted n (subst P e h)))),
-      (λ h. subst P (sym e) (Contains-dedup_nat sorted n (Contains-permutation old sorted n c.sort_unstable.ensures.permutation (subst P (sym c.into_vec.ensures) h)))),
+      (λ h. subst P c.into_vec-all.ensures (Contains-permutation sorted old n (IsPermutation-sym old sorted c.sort_unstable.ensures.permutation) (Contains-from_dedup nat_eq sorted n (subst P e h)))),
+      (λ h. subst P (sym e) (Contains-dedup_nat sorted n (Contains-permutation old sorted n c.sort_unstable.ensures.permutation (subst P (sym c.into_vec-all.ensures) h)))),
     )

@@ -23,7 +23,7 @@ all_before owners found i at f l is b h =
     omega (arith, less, same, there)
 
 pub loop-at-init : goal.loop-at-init
-loop-at-init c = listed_at_first c.args.labels.now c.args.owners.now c.in_ok-lists.lists.items c.in_ok-lists.ensures.size c.in_ok-lists.ensures.empty
+loop-at-init c = listed_at_first c.args.labels.now c.args.owners.now c.in_ok-lists.lists.items (sym c.in_ok-lists.lists.ok.0 ∙ c.in_ok-lists.ensures.size) c.in_ok-lists.ensures.empty
 
 pub loop-at-preserved : goal.loop-at-preserved
 loop-at-preserved c =

@@ -15,7 +15,7 @@ pub returns-in-Ok-clause-members : goal.returns-in-Ok-clause-members
 returns-in-Ok-clause-members c = λ p.
     let m = c.commit.ensures.members p in (
       (λ h. elim (m.0 h) [
-        | inl old ↦ absurd (nowhere c.new.result _ p c.new.ensures ((c.in-Ok.ensures.stay p).0 old))
+        | inl old ↦ absurd (nowhere c.new.result [] p c.new.ensures ((c.in-Ok.ensures.stay p).0 old))
         | inr new ↦ subst (λ ps. Contains ps p) c.in-Ok.ensures.news new
       ]),
       (λ h. m.1 (inr (subst (λ ps. Contains ps p) (sym c.in-Ok.ensures.news) h))),

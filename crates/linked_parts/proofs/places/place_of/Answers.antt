@@ -4,18 +4,9 @@ use Rattle.std.proofs.lemmas.List.Elements.{Contains-get_or}
 use Rattle.graph_model.specs.Faults.{least_name}
 use Rattle.linked_parts.proofs.Orders.{IsNarrowed, narrowed_none, narrowed_place, narrowed_up, narrowed_down}
 use Rattle.linked_parts.proofs.places.place_of.Goals as goal
-use Rattle.linked_parts.proofs.places.place_of.Goals.{then-precedes, else-precedes}
 
 pub loop-low-init : goal.loop-low-init
 loop-low-init c = narrowed_none c.args.heads.now c.args.order.now (least_name c.args.names.now)
-
-pub loop-low-preserved : goal.loop-low-preserved
-loop-low-preserved c = elim c.if-precedes.branch [
-  | then-precedes w ↦ rw (w.low-is, w.high-is)
-      (narrowed_up c.args.heads.now c.args.order.now c.requires.ordered (least_name c.args.names.now) c.loop-low.low c.loop-low.high _ c.loop-low.invariant (omega arith) (omega arith) (c.precedes.ensures.0 w.if-precedes.true))
-  | else-precedes w ↦ rw (w.low-is, w.high-is)
-      (narrowed_down c.args.heads.now c.args.order.now c.requires.ordered (least_name c.args.names.now) c.loop-low.low c.loop-low.high _ c.loop-low.invariant (omega arith) (omega arith) (iff_false c.precedes.ensures w.if-precedes.false))
-]
 
 pub returns : goal.returns
 returns c = narrowed_place c.args.heads.now c.args.order.now (least_name c.args.names.now) c.loop-low.low c.loop-low.high c.loop-low.invariant c.loop-low-test.false

@@ -1,4 +1,4 @@
-use Rattle.std.proofs.Common.{◌≡◌, ℕ, ◌+◌, ◌<◌, List, length, get_or, take, take_all, sym, subst}
+use Rattle.std.proofs.Common.{◌≡◌, ℕ, ◌+◌, ◌<◌, List, length, get_or, take, take_all, inl, inr, sym, subst}
 use Rattle.std.specs.Prelude.{Contains, IsSome}
 use Rattle.std.specs.FinMap as finite
 use Rattle.linked_parts.specs.declared.part.Part.{Part}

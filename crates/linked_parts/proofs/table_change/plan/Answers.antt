@@ -1,4 +1,4 @@
-use Rattle.std.proofs.Common.{◌≡◌, ℕ, ◌+◌, ◌≤◌, List, length, map, slice_index, vec_len, vec_capacity, sym, ap, ◌∙◌, subst}
+use Rattle.std.proofs.Common.{◌≡◌, ℕ, ◌+◌, ◌<◌, ◌≤◌, List, length, map, slice_index, vec_len, vec_capacity, sym, ap, ◌∙◌, subst}
 use Rattle.linked_parts.specs.Changes.{IsReady}
 use Rattle.linked_parts.proofs.Widening.{wider_whole, wider_parts}
 use Rattle.linked_parts.proofs.Readying.{place_in, ready_first}

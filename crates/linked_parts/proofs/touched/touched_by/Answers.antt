@@ -23,12 +23,24 @@ returns-clause-names c x =
     let s = c.args.state.now in
     let parts = c.args.parts.now in
     let set : Names = c.add_parts.new.set in
-    let near = names_near s parts c.args.marks.now c.in_ok-looked.looked c.in_ok-bound.bound c.in_ok-looked.ensures c.in_ok-bound.ensures c.in_ok-places.places c.in_ok-places.ensures.members
+    let looked : List (List ℕ) = c.in_ok-looked.looked in
+    let bound : List (List ℕ) = c.in_ok-bound.bound in
+    let at = subst (λ bs. (k : ℕ) → Contains c.in_ok-places.places k ↔ ((y : List ℕ) × (Contains looked y ⊎ Contains bs y) × HasNameAt parts k y)) c.as_slice-2.ensures
+    (subst (λ ls. (k : ℕ) → Contains c.in_ok-places.places k ↔ ((y : List ℕ) × (Contains ls y ⊎ Contains c.as_slice-2.result.now y) × HasNameAt parts k y)) c.as_slice.ensures c.in_ok-places.ensures.members) in
+    let near = names_near s parts c.args.marks.now looked bound c.in_ok-looked.ensures c.in_ok-bound.ensures c.in_ok-places.places at
     c.new-set.result c.add_valued.new.set c.add_valued-2.new.set set (λ y i. no_member y (subst (λ (z : Names). IsIn z y) c.new-set.ensures i))
-    c.in_ok-add_valued.ensures c.in_ok-add_valued-2.ensures c.in_ok-add_parts.ensures x in (
+    (subst (λ ns. AddsValued s ns c.new-set.result c.add_valued.new.set) c.as_slice-3.ensures c.in_ok-add_valued.ensures)
+    (subst (λ ns. AddsValued s ns c.add_valued.new.set c.add_valued-2.new.set) c.as_slice-4.ensures c.in_ok-add_valued-2.ensures)
+    (subst (λ ks. AddsParts s parts ks c.add_valued-2.new.set set) c.as_slice-5.ensures c.in_ok-add_parts.ensures) x in (
       (λ h. near.0 (record { is = of_keys set x (subst (λ ns. Contains ns x) c.in_ok-names.ensures h) })),
       (λ w. subst (λ ns. Contains ns x) (sym c.in_ok-names.ensures) (in_keys set x (near.1 w).is)),
     )
 
 pub returns-clause-places : goal.returns-clause-places
-returns-clause-places c = places_marked c.args.state.now c.args.parts.now c.args.marks.now c.in_ok-looked.looked c.in_ok-bound.bound c.in_ok-looked.ensures c.in_ok-bound.ensures c.in_ok-places.places c.in_ok-places.ensures.members
+returns-clause-places c =
+    let parts = c.args.parts.now in
+    let looked : List (List ℕ) = c.in_ok-looked.looked in
+    let bound : List (List ℕ) = c.in_ok-bound.bound in
+    let at = subst (λ bs. (k : ℕ) → Contains c.in_ok-places.places k ↔ ((y : List ℕ) × (Contains looked y ⊎ Contains bs y) × HasNameAt parts k y)) c.as_slice-2.ensures
+    (subst (λ ls. (k : ℕ) → Contains c.in_ok-places.places k ↔ ((y : List ℕ) × (Contains ls y ⊎ Contains c.as_slice-2.result.now y) × HasNameAt parts k y)) c.as_slice.ensures c.in_ok-places.ensures.members) in
+    places_marked c.args.state.now parts c.args.marks.now looked bound c.in_ok-looked.ensures c.in_ok-bound.ensures c.in_ok-places.places at

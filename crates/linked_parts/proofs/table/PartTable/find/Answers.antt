@@ -33,7 +33,7 @@ pub returns-in_err-number-clause-only : goal.returns-in_err-number-clause-only
 returns-in_err-number-clause-only c = one_place c.self.inside.table c.args.self.now c.args.name.now c.self.invariant c.self.view_is
 
 pub returns-in_err-number-clause-none : goal.returns-in_err-number-clause-none
-returns-in_err-number-clause-none c = (
+returns-in_err-number-clause-none c = rw c.from_residual.ensures (
   (λ _ k w.
       let t = c.self.inside.table in
       let x = c.args.name.now in

@@ -7,6 +7,7 @@ use Rattle.linked_parts.specs.declared.table.Table.{Table}
 use Rattle.linked_parts.specs.Placed.{Placed, HasGrown}
 use Rattle.linked_parts.specs.Tables.{Numbers}
 use Rattle.linked_parts.specs.Moves.{KeepsNumbers, IsWider}
+use Rattle.linked_parts.proofs.Indexes.{keeps_known}
 use Rattle.linked_parts.proofs.Widening.{wider_on, wider_lists, wider_index, wider_room}
 use Rattle.linked_parts.proofs.table.Table.make_room.Goals as goal
 
@@ -47,3 +48,8 @@ returns-clause-wider c =
     (wider_on c.args.self.now _ c.add_numbers.new.self (wider_order c.args.self.now c.know_all.new.index c.grow_to.new.self c.requires c.in_ok-know_all.ensures.same c.in_ok-grow_to.ensures.grown _ refl refl
     c.in_ok-reserve.ensures.items refl refl refl) more)
     (wider_room c.add_numbers.new.self _ more.heads refl refl refl c.reserve-2.ensures.items refl refl)
+
+pub returns-clause-known : goal.returns-clause-known
+returns-clause-known c =
+    let last = c.in_ok-add_numbers.ensures.wider.index in
+    on_ok_weaker c.reserve-2.result (λ _. λ p x h k. keeps_known c.know_all.new.index c.add_numbers.new.self.index last x (c.in_ok-know_all.ensures.known p x h k)) c.reserve-2.ensures.ok

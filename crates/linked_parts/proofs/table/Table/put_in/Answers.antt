@@ -86,3 +86,9 @@ returns-clause-with c =
       capacity = c.insert_within.ensures.capacity;
       spare = refl;
     }
+
+pub overflow_add-self : goal.overflow_add-self
+overflow_add-self c =
+    let t = c.args.self.now in
+    let all = room_bounded t c.requires.whole in
+    omega (arith, all, t.order.ok.0, t.order.ok.1, t.order.small)

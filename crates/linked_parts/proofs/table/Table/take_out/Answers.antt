@@ -86,3 +86,13 @@ returns-clause-without c =
       spare = c.push_within.ensures.len;
       space = c.push_within.ensures.capacity;
     }
+
+pub overflow_sub-self : goal.overflow_sub-self
+overflow_sub-self c =
+    let t = c.args.self.now in
+    let p = place_there t c.args.number c.place-place.result c.place-place.ensures in
+    let read = c.replace-head.ensures.value in
+    let covers = room_covers t c.requires.whole c.args.number c.place-place.result p.0 p.1 c.clear.new.self c.clear.ensures c.give.new.index
+    (given t c.args.number c.replace-head.result c.as_slice.result.now c.give.new.index c.as_slice.ensures read c.give.ensures) in
+    let same = room_is t c.args.number c.replace-head.result read in
+    omega (arith, covers, same)

@@ -1,4 +1,5 @@
 use Rattle.std.proofs.Common.{inl, inr, subst}
+use Rattle.linked_parts.specs.Tables.{table_parts}
 use Rattle.linked_parts.specs.Changes.{TableChanging, IsCommitted}
 use Rattle.linked_parts.proofs.Readying.{parts_ascend}
 use Rattle.linked_parts.proofs.table_change.TableChange.commit.Goals as goal
@@ -6,7 +7,7 @@ use Rattle.linked_parts.proofs.table_change.TableChange.commit.Goals as goal
 pub returns : goal.returns
 returns c =
     let t = c.put_all.new.table in
-    subst (λ (z : TableChanging). IsCommitted z _) c.self.view_is
+    subst (λ (z : TableChanging). IsCommitted z (table_parts t)) c.self.view_is
     (record {
       members = λ p.
           let m = c.put_all.ensures.members p in
