@@ -12,13 +12,13 @@ use Rattle.py_frames.specs.declared.frames.Value.{Value}
 use Rattle.py_frames.specs.declared.frames.Hole.{Hole}
 use Rattle.py_frames.specs.declared.frames.Hole.TheVariants as hole_of
 use Rattle.py_frames.specs.declared.seeing.Sight.{Sight}
-use Rattle.py_frames.specs.Values.{beside, places, closes}
+use Rattle.py_frames.specs.Values.{beside, places, closes, is_dict}
 use Rattle.py_frames.specs.Steps as e
 use Rattle.py_frames.specs.Ends as ex
 use Rattle.py_frames.specs.Ends.{either_of, colon_or_end, is_narrow, ended_in, ended_after}
 use Rattle.py_frames.specs.Targets.{sight}
 use Rattle.py_frames.specs.Forced as f
-use Rattle.py_frames.specs.Forced.{forced, reach, AddsAt, EndsAs, of_dict, is_dict, Ending, a_name, no_args, parenthesis, bracket, brace, otherwise, key, related, no_value, not_no_value, within, a_method, called}
+use Rattle.py_frames.specs.Forced.{forced, reach, AddsAt, EndsAs, of_dict, Ending, a_name, no_args, parenthesis, bracket, brace, otherwise, key, related, no_value, not_no_value, within, a_method, called}
 use Rattle.py_frames.proofs.Forced.{reach-beside, beside-none}
 use Rattle.py_frames.proofs.Ended.{same, and_then, cons, beside-adds, ending-adds}
 use Rattle.py_frames.proofs.AtEnd.{ended-as}
