@@ -34,6 +34,14 @@ impl Model for TableChange {
     ghost invariant = { λ it. IsReady it.table it.gone it.news };
 }
 
+/// The number at this place.
+fn number_at(order: &[u32], place: usize) -> u32
+    requires { place < length order.now }
+    ensures { result ≡ slice_index order.now place }
+{
+    order[place]
+}
+
 /// The numbers at these places.
 fn numbers_at(alloc: Global, order: &[u32], places: &[usize]) -> Result<Items<u32>, AllocError>
     requires { (k : ℕ) → Contains places.now k → k < length order.now }
@@ -41,7 +49,7 @@ fn numbers_at(alloc: Global, order: &[u32], places: &[usize]) -> Result<Items<u3
 {
     let mut numbers = Items::new(alloc);
     for place in places {
-        numbers.push(order[*place])?;
+        numbers.push(number_at(order, *place))?;
     }
     Ok(numbers)
 }

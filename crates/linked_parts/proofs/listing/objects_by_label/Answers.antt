@@ -22,6 +22,12 @@ all_before owners found i at f l is b h =
     let there : get_or found i b ≡ at = get_or_default found i b 0 l ∙ is in
     omega (arith, less, same, there)
 
+pub bounds : goal.bounds
+bounds c =
+    let at : ℕ = get_or c.args.found.now c.loop-at.at-index 0 in
+    let w = (c.requires.found.members at).0 (Contains-get_or c.args.found.now c.loop-at.at-index 0 c.loop-at-test.true) in
+    owner_within c.args.owners.now at w.0 w.1
+
 pub loop-at-init : goal.loop-at-init
 loop-at-init c = listed_at_first c.args.labels.now c.args.owners.now c.in_ok-lists.lists.items (sym c.in_ok-lists.lists.ok.0 ∙ c.in_ok-lists.ensures.size) c.in_ok-lists.ensures.empty
 
