@@ -27,7 +27,8 @@ later_in y ys x h = (suc h.0, let l : h.0 < length ys = h.1 in omega arith, h.2)
 -- ---- one number taken out
 
 of_removed : (xs : List ℕ) (i x : ℕ) → Contains (remove xs i) x → Contains xs x
-of_removed [] i x h = absurd (none_in x h)
+of_removed [] zero x h = absurd (none_in x h)
+of_removed [] (suc i) x h = absurd (none_in x h)
 of_removed (y ∷ ys) zero x h = later_in y ys x h
 of_removed (y ∷ ys) (suc i) x h = elim (cons_cases y (remove ys i) x h) [
   | inl e ↦ subst (Contains (y ∷ ys)) e (first_in y ys)
@@ -50,7 +51,7 @@ first_apart x xs h y c e = h 0 (suc c.0) y (omega arith) (let l : c.0 < length x
 
 -- the one that is taken out isn't there any more
 gone_removed : (xs : List ℕ) (i d : ℕ) → i < length xs → AllPairs (λ a b. a ≢ b) xs → ¬ Contains (remove xs i) (get_or xs i d)
-gone_removed [] i d l apart h = none_in (get_or [] i d) h
+gone_removed [] i d l apart h = let none : ⊥ = omega (arith, l) in none
 gone_removed (y ∷ ys) zero d l apart h = first_apart y ys apart y h refl
 gone_removed (y ∷ ys) (suc i) d l apart h = elim (cons_cases y (remove ys i) (get_or ys i d) h) [
   | inl e ↦ first_apart y ys apart (get_or ys i d) (Contains-get_or ys i d (omega (arith, l))) e
