@@ -1,4 +1,4 @@
-ghost use Rattle.std.specs.Prelude.{◌≡◌, ◌+◌, ◌*◌, ◌≤◌, ◌++◌, length, sum_by, IfOk, OnOk, SomeIff};
+ghost use Rattle.std.specs.Prelude.{◌≡◌, ◌+◌, ◌*◌, ◌≤◌, ◌++◌, length, sum_by, IfOk, OnOk, SomeIff, ◌<◌};
 ghost use Rattle.std.specs.List.{repeat};
 ghost use Rattle.py_value.specs.Values.{weight as weight_of};
 ghost use Rattle.py_machine.specs.Runs.{Is, Still, charge};
